@@ -1,0 +1,35 @@
+//! Counting of faults.
+
+ghost use Rattle.std.specs.Prelude.{◌≡◌, Bool};
+ghost use Rattle.init_base.specs.Faults.{Counted, files_failed, sink_failed, source_failed};
+
+use crate::outside::refusal::{Failed, IoRefusal, ReadRefusal};
+
+/// The count after a call.
+pub(crate) fn count(faults: u64, failed: bool) -> u64
+    ensures { Counted failed faults result }
+{
+    if failed {
+        faults.saturating_add(1)
+    } else {
+        faults
+    }
+}
+
+pub(crate) fn has_source_failed(outcome: &Result<usize, Failed>) -> bool
+    ensures { result ≡ source_failed outcome.now }
+{
+    outcome.is_err()
+}
+
+pub(crate) fn has_sink_failed(outcome: &Result<usize, IoRefusal>) -> bool
+    ensures { result ≡ sink_failed outcome.now }
+{
+    matches!(outcome, Err(IoRefusal::Failed))
+}
+
+pub(crate) fn have_files_failed<T>(outcome: &Result<T, ReadRefusal>) -> bool
+    ensures { result ≡ files_failed outcome.now }
+{
+    matches!(outcome, Err(ReadRefusal::Failed))
+}

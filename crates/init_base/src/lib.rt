@@ -1,0 +1,36 @@
+//! Texts, lists, property names and values, and the traits of the outside: where bytes come from and go to.
+//!
+//! A `PropName` and a `PropValue` are legal by their types, and `Failed` is answered only where the count of
+//! faults of the object that was called rose. The definitions stand in `specs/`.
+#![tactic(auto)]
+
+mod adapters;
+mod fifo;
+mod in_memory;
+mod list;
+mod memory;
+mod name;
+mod outside;
+#[cfg(test)]
+mod tests;
+mod text;
+mod units;
+mod value;
+
+pub use adapters::files::StdFiles;
+pub use adapters::sink::StdSink;
+pub use adapters::source::StdSource;
+pub use fifo::Fifo;
+pub use in_memory::files::{MemFiles, SteadyFiles};
+pub use in_memory::sink::{MemSink, SteadySink};
+pub use in_memory::source::{MemSource, SteadySource};
+pub use list::List;
+pub use memory::NoMemory;
+pub use name::PropName;
+pub use outside::files::Files;
+pub use outside::refusal::{Failed, IoRefusal, ReadRefusal};
+pub use outside::sink::Sink;
+pub use outside::source::Source;
+pub use text::Text;
+pub use units::{ClientId, Millis, Pid};
+pub use value::{BadValue, PropValue};
