@@ -1,0 +1,14 @@
+pub mod Built
+pub mod Effect
+pub mod History
+pub mod Matches
+pub mod Props
+pub mod State
+pub mod Step
+pub mod Taking
+pub mod Words
+pub mod Shared
+pub mod Stored
+pub mod ListStore
+pub mod Room
+pub mod Laws

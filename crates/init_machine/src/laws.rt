@@ -1,0 +1,28 @@
+//! Laws of the definitions in `specs/`, each the contract of a function that does nothing. They are stated in
+//! `specs/Laws.antt`.
+
+ghost use Rattle.init_machine.specs.Laws.{OrderIsFree, AddsItsNewNodes, AbsentTakesItsNeed, HeldTakesNothing};
+
+/// Names take the same words in each order.
+#[tactic(auto, using(crate::proofs::Needs::used_permuted))]
+pub fn order_is_free()
+    ensures { OrderIsFree }
+{}
+
+/// A name more adds its cell, and a node for each of its dotted prefixes that is new.
+#[tactic(auto, using(crate::proofs::Needs::need_by_new_nodes))]
+pub fn adds_its_new_nodes()
+    ensures { AddsItsNewNodes }
+{}
+
+/// A set of an absent name takes the words that it needs.
+#[tactic(auto, using(crate::proofs::Places::absent_takes))]
+pub fn absent_takes_its_need()
+    ensures { AbsentTakesItsNeed }
+{}
+
+/// A set of a name that is held takes no words.
+#[tactic(auto, using(crate::proofs::Places::held_takes))]
+pub fn held_takes_nothing()
+    ensures { HeldTakesNothing }
+{}

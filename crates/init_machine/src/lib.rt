@@ -1,0 +1,33 @@
+//! The plain data of init: actions, services, inputs, outputs, histories; and `PropStore`, what a store of
+//! properties is to the layers above.
+//!
+//! `specs/` has the definitions of the documented machine over these types: `State`, `Matches`, `Effect`, `Step`,
+//! `After`, `Legal`, `Sets`. A store's meaning is a finite map from names to values and numbers; `put` changes it
+//! at one name alone, and can't fail behind `room` and `reserve`.
+#![tactic(auto)]
+
+mod action;
+mod config;
+mod diagnostic;
+mod event;
+mod input;
+mod laws;
+mod list_store;
+mod output;
+mod report;
+mod service;
+mod store;
+mod word;
+
+pub use action::{Action, Command, CommandRef, PropTest};
+pub use config::{Config, Pair, Plan};
+pub use diagnostic::{DiagKind, Diagnostic};
+pub use event::Event;
+pub use input::Input;
+pub use laws::{absent_takes_its_need, adds_its_new_nodes, held_takes_nothing, order_is_free};
+pub use list_store::ListStore;
+pub use output::{Cause, FsRefusal, How, Output, SetRefusal};
+pub use report::{ClientPart, Entry, Reading, Report, TypeKind, Waiting};
+pub use service::{Critical, Marks, Move, Op, ServiceDef};
+pub use store::{Full, PropStore};
+pub use word::{InertWord, Word};

@@ -1,0 +1,72 @@
+//! `PropStore`: what a store of properties is to the layers above. Its meaning is `Props` of `specs/Props.antt`.
+
+ghost use Rattle.std.specs.Prelude.{◌≡◌, ◌+◌, ◌≤◌, ℕ, None, OnOk};
+ghost use Rattle.std.specs.Result.{result_err};
+ghost use Rattle.init_machine.specs.Props.{Props, lookup_in, with_set, used_in, full_for, IsLookUp};
+
+use init_base::{NoMemory, PropName, PropValue};
+use std::alloc::Global;
+
+/// Why a store has no room for a set.
+#[derive(Clone, Copy, Debug, PartialEq, Eq)]
+pub enum Full {
+    /// So many words are in use, and the name needs so many more, which together pass the capacity.
+    Words { used: u64, need: u64 },
+    /// The numbers of sets are used up.
+    Numbers { last: u64 },
+}
+
+/// A store of properties: a finite map from names to a value and the number of the set that gave it.
+pub trait PropStore {
+    /// The map, the count of sets, the capacity in words, and the list of the sets where it is told.
+    ghost meaning: { Self → Props };
+
+    /// For how many sets there is memory already.
+    ghost spare: { Self → ℕ };
+
+    /// Two states of a store that are the same beside the map.
+    ghost Beside: { Self → Self → Type 0 };
+
+    /// None exactly where the name is absent; else the length of the value, which stands at the front of `out`, and
+    /// the number of the set that gave it.
+    fn get(&mut self, name: PropName<'_>, out: &mut [u8; 91]) -> Option<(usize, u64)>
+        ensures found { IsLookUp (lookup_in (meaning self.old).held name.entry.bytes.now) result out.new }
+        ensures same { meaning self.new ≡ meaning self.old }
+        ensures spare { spare self.new ≡ spare self.old }
+        ensures beside { Beside self.old self.new };
+
+    /// The number of accepted sets.
+    fn count(&self) -> u64
+        ensures { result ≡ (meaning self.now).count };
+
+    /// The words in use.
+    fn used(&self) -> u64
+        ensures { result ≡ used_in (meaning self.now) };
+
+    /// Whether a set of the name has room, and if not, why.
+    fn room(&mut self, name: PropName<'_>) -> Result<(), Full>
+        ensures full { result_err result ≡ full_for (meaning self.old) name.entry.bytes.now }
+        ensures same { meaning self.new ≡ meaning self.old }
+        ensures spare { spare self.new ≡ spare self.old }
+        ensures beside { Beside self.old self.new };
+
+    /// Takes the memory for one set.
+    fn reserve(&mut self, alloc: Global) -> Result<(), NoMemory>
+        ensures spare { OnOk result (1 ≤ spare self.new) }
+        ensures same { meaning self.new ≡ meaning self.old }
+        ensures beside { Beside self.old self.new };
+
+    /// Sets the property, and answers the set's number. It can't fail.
+    fn put(&mut self, name: PropName<'_>, value: PropValue<'_>) -> u64
+        requires room { full_for (meaning self.old) name.bytes.now ≡ None }
+        requires spare { 1 ≤ spare self.old }
+        ensures number { result ≡ (meaning self.old).count + 1 }
+        ensures set { meaning self.new ≡ with_set (meaning self.old) name.entry.bytes.now value.entry.bytes.now }
+        ensures beside { Beside self.old self.new };
+
+    /// The same beside the map is reflexive.
+    ghost reflexive: { (s : Self) → Beside s s };
+
+    /// The same beside the map is transitive.
+    ghost transitive: { (s t u : Self) → Beside s t → Beside t u → Beside s u };
+}
