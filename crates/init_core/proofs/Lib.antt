@@ -1,0 +1,9 @@
+pub mod Begun
+pub mod Counted
+pub mod Events
+pub mod Four
+pub mod Histories
+pub mod Keeps
+pub mod Legal
+pub mod NoFirst
+pub mod Sets
