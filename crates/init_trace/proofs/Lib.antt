@@ -1,0 +1,10 @@
+mod Adding
+mod Digits
+mod FieldsRead
+mod LinesPlain
+mod ReportRead
+mod Spelling
+mod Splitting
+mod Steps
+mod Texts
+mod WordsRead

@@ -1,0 +1,9 @@
+pub mod Fields
+pub mod HasText
+pub mod InRange
+pub mod Law
+pub mod Line
+pub mod Quoted
+pub mod Report
+pub mod Words
+pub mod Written

@@ -1,0 +1,71 @@
+//! A page: lines that wait to be written. It is written whenever it is full, so it never holds much more than one
+//! line beside.
+
+ghost use Rattle.std.specs.Prelude.{◌≡◌, [], ◌++◌, map};
+ghost use Rattle.init_base.specs.Faults.{Counted, sink_failed};
+ghost use Rattle.init_trace.specs.Line.{line_text, lines_text};
+ghost use Rattle.init_trace.specs.Written.{Adds, Writes};
+
+use crate::line::Line;
+use init_base::{IoRefusal, Sink};
+use std::alloc::Global;
+
+/// A page of so many bytes is written.
+const FULL: usize = 65536;
+
+/// Writes all of the bytes.
+pub fn send<K: Sink>(alloc: Global, out: &mut K, bytes: &[u8]) -> Result<(), IoRefusal>
+    ensures written { Writes (K.taken out.old) (K.taken out.new) result bytes.now }
+    ensures cause { Counted (sink_failed result) (K.fault_count out.old) (K.fault_count out.new) }
+{
+    let mut at = 0;
+    while at < bytes.len() {
+        at += out.write(alloc, &bytes[at..])?;
+    }
+    Ok(())
+}
+
+/// Writes the page if it is full.
+fn turn<K: Sink>(alloc: Global, out: &mut K, page: &mut Vec<u8>) -> Result<(), IoRefusal>
+    ensures added { Adds (K.taken out.old) (K.taken out.new) result page.old.items page.new.items [] }
+    ensures cause { Counted (sink_failed result) (K.fault_count out.old) (K.fault_count out.new) }
+{
+    if page.len() < FULL {
+        return Ok(());
+    }
+    send(alloc, out, page.as_slice())?;
+    page.clear();
+    Ok(())
+}
+
+/// Adds a line.
+pub fn add_line<K: Sink, L: Line>(
+    alloc: Global,
+    out: &mut K,
+    page: &mut Vec<u8>,
+    item: &L,
+) -> Result<(), IoRefusal>
+    ensures added { Adds (K.taken out.old) (K.taken out.new) result page.old.items page.new.items
+        (line_text (L.fields item.now)) }
+    ensures cause { Counted (sink_failed result) (K.fault_count out.old) (K.fault_count out.new) }
+{
+    item.add(page)?;
+    turn(alloc, out, page)
+}
+
+/// Adds a line for each item.
+pub fn add_lines<K: Sink, L: Line>(
+    alloc: Global,
+    out: &mut K,
+    page: &mut Vec<u8>,
+    items: &[L],
+) -> Result<(), IoRefusal>
+    ensures added { Adds (K.taken out.old) (K.taken out.new) result page.old.items page.new.items
+        (lines_text (map L.fields items.now)) }
+    ensures cause { Counted (sink_failed result) (K.fault_count out.old) (K.fault_count out.new) }
+{
+    for item in items {
+        add_line(alloc, out, page, item)?;
+    }
+    Ok(())
+}

@@ -1,0 +1,114 @@
+//! The spelling of texts and numbers, as `specs/Quoted.antt` has it. Each function adds at the end of a page.
+
+ghost use Rattle.std.specs.Prelude.{◌≡◌, ◌++◌, ◌∷◌, [], ◌<◌, OnOk, false};
+ghost use Rattle.std.specs.Fmt.{decimal, digit_glyph};
+ghost use Rattle.std.specs.List.{flat_map};
+ghost use Rattle.init_trace.specs.Quoted.{hex16, hex_byte as hex_byte_lem, is_plain as is_plain_lem, quoted as quoted_lem, quoted_byte as quoted_byte_lem};
+
+use init_base::NoMemory;
+
+/// Adds bytes as they are.
+pub fn put(page: &mut Vec<u8>, bytes: &[u8]) -> Result<(), NoMemory>
+    ensures { OnOk result (page.new.items ≡ page.old.items ++ bytes.now) }
+{
+    page.extend_from_slice(bytes)?;
+    Ok(())
+}
+
+/// Adds one byte.
+pub fn put_byte(page: &mut Vec<u8>, byte: u8) -> Result<(), NoMemory>
+    ensures { OnOk result (page.new.items ≡ page.old.items ++ byte ∷ []) }
+{
+    page.push(byte)?;
+    Ok(())
+}
+
+/// Adds a text in q form.
+#[tactic(auto, unfolding(crate::specs::Quoted::quoted))]
+pub fn quoted(page: &mut Vec<u8>, bytes: &[u8]) -> Result<(), NoMemory>
+    ensures { OnOk result (page.new.items ≡ page.old.items ++ quoted_lem bytes.now) }
+{
+    match bytes {
+        [] => put_byte(page, b'%'),
+        _ => quoted_bytes(page, bytes),
+    }
+}
+
+fn quoted_bytes(page: &mut Vec<u8>, bytes: &[u8]) -> Result<(), NoMemory>
+    ensures { OnOk result (page.new.items ≡ page.old.items ++ flat_map quoted_byte_lem bytes.now) }
+{
+    for byte in bytes {
+        quoted_byte(page, *byte)?;
+    }
+    Ok(())
+}
+
+fn quoted_byte(page: &mut Vec<u8>, byte: u8) -> Result<(), NoMemory>
+    ensures { OnOk result (page.new.items ≡ page.old.items ++ quoted_byte_lem byte) }
+{
+    if is_plain(byte) {
+        put_byte(page, byte)
+    } else {
+        put_byte(page, b'%')?;
+        hex_byte(page, byte, true)
+    }
+}
+
+/// Whether a byte stands for itself in q form.
+fn is_plain(byte: u8) -> bool
+    ensures { result ≡ is_plain_lem byte }
+{
+    byte >= 0x21 && byte <= 0x7e && byte != b'%'
+}
+
+/// Adds a byte as two hexadecimal digits.
+fn hex_byte(page: &mut Vec<u8>, byte: u8, upper: bool) -> Result<(), NoMemory>
+    ensures { OnOk result (page.new.items ≡ page.old.items ++ hex_byte_lem upper byte) }
+{
+    put_byte(page, hex_digit(byte / 16, upper))?;
+    put_byte(page, hex_digit(byte % 16, upper))
+}
+
+fn hex_digit(digit: u8, upper: bool) -> u8
+    requires { digit < 16 }
+    ensures { result ≡ digit_glyph upper digit }
+{
+    if digit < 10 {
+        b'0' + digit
+    } else if upper {
+        b'A' - 10 + digit
+    } else {
+        b'a' - 10 + digit
+    }
+}
+
+/// Adds a number as 16 hexadecimal digits.
+#[tactic(auto, unfolding(crate::specs::Quoted::hex16))]
+pub fn hex(page: &mut Vec<u8>, number: u64) -> Result<(), NoMemory>
+    ensures { OnOk result (page.new.items ≡ page.old.items ++ hex16 number) }
+{
+    hex_bytes(page, &number.to_be_bytes())
+}
+
+fn hex_bytes(page: &mut Vec<u8>, bytes: &[u8]) -> Result<(), NoMemory>
+    ensures { OnOk result (page.new.items
+        ≡ page.old.items ++ flat_map (hex_byte_lem false) bytes.now) }
+{
+    for byte in bytes {
+        hex_byte(page, *byte, false)?;
+    }
+    Ok(())
+}
+
+/// Adds a number in decimal.
+#[tactic(auto, using(std::proofs::lemmas::Fmt::decimal_digit))]
+pub fn digits(page: &mut Vec<u8>, number: u64) -> Result<(), NoMemory>
+    ensures { OnOk result (page.new.items ≡ page.old.items ++ decimal number) }
+{
+    if number < 10 {
+        put_byte(page, b'0' + number as u8)
+    } else {
+        digits(page, number / 10)?;
+        put_byte(page, b'0' + (number % 10) as u8)
+    }
+}
