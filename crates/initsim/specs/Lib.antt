@@ -1,0 +1,6 @@
+pub mod Causes
+pub mod Form
+pub mod Prepared
+pub mod Run
+pub mod Status
+pub mod Top

@@ -1,0 +1,12 @@
+-- The exit status of the process.
+use Rattle.std.specs.Prelude.{ℕ}
+use Rattle.initsim.specs.declared.status.Status.{Status}
+use Rattle.initsim.specs.declared.status.Status.TheVariants as status
+
+abbrev pub code_of : Status → ℕ
+code_of status.Done = 0
+code_of status.Usage = 1
+code_of status.ReadFault = 2
+code_of status.WriteFault = 3
+code_of status.NoMemory = 4
+code_of (status.Unbuilt script line) = 10

@@ -1,0 +1,187 @@
+//! Short histories of the core over the plain store: their expected texts were worked out by hand from the documented
+//! machine. `R` stands for the root file, `B` for a Boot and `N` for a Next.
+
+ghost use Rattle.std.specs.Prelude.{◌≡◌, false, OnOk};
+
+use crate::report::{config_of, report_of, take};
+use init_base::{IoRefusal, NoMemory, SteadySink, Text};
+use init_core::Core;
+use init_machine::{Input, ListStore, PropStore};
+use init_trace::print;
+use rc_parse::{PlainRefusal, plain};
+use std::alloc::Global;
+use std::test::Fail;
+
+struct Row {
+    name: &'static str,
+    words: u64,
+    root: &'static [u8],
+    inputs: &'static [u8],
+    want: &'static [u8],
+}
+
+const ROWS: [Row; 13] = [
+    Row {
+        name: "empty_root_idles",
+        words: 65_536,
+        root: b"",
+        inputs: b"BN",
+        want: b"boot\nnext\n event early-init\n event init\n event late-init\n all-properties\n idle\n",
+    },
+    Row {
+        name: "trigger_reaches_second_action",
+        words: 65_536,
+        root: b"on late-init\ntrigger boot\non boot\nsetprop a 1\n",
+        inputs: b"BNNNN",
+        want: b"boot\nnext\n event early-init\n event init\n event late-init\n action R 1\n command R 2 trigger boot\n ok\nnext\n event boot\n action R 3\n command R 4 setprop a 1\n put 1 a 1\n ok\nnext\n all-properties\n idle\nnext\n idle\n",
+    },
+    Row {
+        name: "two actions on one event",
+        words: 65_536,
+        root: b"on early-init\nsetprop a 1\nsetprop b 2\non early-init\nsetprop c 3\nsetprop d 4\n",
+        inputs: b"BNNNNN",
+        want: b"boot\nnext\n event early-init\n action R 1\n action R 4\n command R 2 setprop a 1\n put 1 a 1\n ok\nnext\n command R 3 setprop b 2\n put 2 b 2\n ok\nnext\n command R 5 setprop c 3\n put 3 c 3\n ok\nnext\n command R 6 setprop d 4\n put 4 d 4\n ok\nnext\n event init\n event late-init\n all-properties\n idle\n",
+    },
+    Row {
+        name: "an event that nothing matches",
+        words: 65_536,
+        root: b"on early-init\ntrigger nope\n",
+        inputs: b"BNN",
+        want: b"boot\nnext\n event early-init\n action R 1\n command R 2 trigger nope\n ok\nnext\n event init\n event late-init\n event nope\n all-properties\n idle\n",
+    },
+    Row {
+        name: "a trigger of the running event",
+        words: 65_536,
+        root: b"on late-init\ntrigger late-init\nsetprop a 1\n",
+        inputs: b"BNNNNNNNNN",
+        want: b"boot\nnext\n event early-init\n event init\n event late-init\n action R 1\n command R 2 trigger late-init\n ok\nnext\n command R 3 setprop a 1\n put 1 a 1\n ok\nnext\n event late-init\n action R 1\n command R 2 trigger late-init\n ok\nnext\n command R 3 setprop a 1\n put 2 a 1\n ok\nnext\n all-properties\n event late-init\n action R 1\n command R 2 trigger late-init\n ok\nnext\n command R 3 setprop a 1\n put 3 a 1\n ok\nnext\n event late-init\n action R 1\n command R 2 trigger late-init\n ok\nnext\n command R 3 setprop a 1\n put 4 a 1\n ok\nnext\n change a 1\n event late-init\n action R 1\n command R 2 trigger late-init\n ok\n",
+    },
+    Row {
+        name: "later boots, and a next before any",
+        words: 65_536,
+        root: b"on late-init\ntrigger boot\non boot\nsetprop a 1\n",
+        inputs: b"NBBNBNNN",
+        want: b"next\n idle\nboot\nboot\n idle\nnext\n event early-init\n event init\n event late-init\n action R 1\n command R 2 trigger boot\n ok\nboot\n idle\nnext\n event boot\n action R 3\n command R 4 setprop a 1\n put 1 a 1\n ok\nnext\n all-properties\n idle\nnext\n idle\n",
+    },
+    Row {
+        name: "changes on in the same next",
+        words: 65_536,
+        root: b"on late-init\ntrigger x\non x\ntrigger y\non y\nsetprop a 1\nsetprop a 1\n",
+        inputs: b"BNNNNNN",
+        want: b"boot\nnext\n event early-init\n event init\n event late-init\n action R 1\n command R 2 trigger x\n ok\nnext\n event x\n action R 3\n command R 4 trigger y\n ok\nnext\n all-properties\n event y\n action R 5\n command R 6 setprop a 1\n put 1 a 1\n ok\nnext\n command R 7 setprop a 1\n put 2 a 1\n ok\nnext\n change a 1\n change a 1\n idle\nnext\n idle\n",
+    },
+    Row {
+        name: "an area of 64 words",
+        words: 64,
+        root: b"on early-init\nsetprop a 1\nsetprop cccccccccccccccccccccccccccccccccccccccccccccccccccccccccccccccccccccccccccccccccccccccc 1\nsetprop b 1\nsetprop a 2\n",
+        inputs: b"BNNNNN",
+        want: b"boot\nnext\n event early-init\n action R 1\n command R 2 setprop a 1\n put 1 a 1\n ok\nnext\n command R 3 setprop cccccccccccccccccccccccccccccccccccccccccccccccccccccccccccccccccccccccccccccccccccccccc 1\n put 2 cccccccccccccccccccccccccccccccccccccccccccccccccccccccccccccccccccccccccccccccccccccccc 1\n ok\nnext\n command R 4 setprop b 1\n failed Set AreaFull 64 19\nnext\n command R 5 setprop a 2\n put 3 a 2\n ok\nnext\n event init\n event late-init\n all-properties\n idle\n",
+    },
+    Row {
+        name: "an area of 63 words",
+        words: 63,
+        root: b"on early-init\nsetprop a 1\nsetprop cccccccccccccccccccccccccccccccccccccccccccccccccccccccccccccccccccccccccccccccccccccccc 1\nsetprop b 1\nsetprop a 2\n",
+        inputs: b"BNNNN",
+        want: b"boot\nnext\n event early-init\n action R 1\n command R 2 setprop a 1\n put 1 a 1\n ok\nnext\n command R 3 setprop cccccccccccccccccccccccccccccccccccccccccccccccccccccccccccccccccccccccccccccccccccccccc 1\n failed Set AreaFull 35 29\nnext\n command R 4 setprop b 1\n put 2 b 1\n ok\nnext\n command R 5 setprop a 2\n put 3 a 2\n ok\n",
+    },
+    Row {
+        name: "an action without commands isn't kept",
+        words: 65_536,
+        root: b"on early-init\non init\nsetprop a 1\non late-init\n",
+        inputs: b"BNN",
+        want: b"boot\nnext\n event early-init\n event init\n action R 2\n command R 3 setprop a 1\n put 1 a 1\n ok\nnext\n event late-init\n all-properties\n idle\n",
+    },
+    Row {
+        name: "two triggers keep their order",
+        words: 65_536,
+        root: b"on init\ntrigger y\ntrigger x\non x\nsetprop p x\non y\nsetprop p y\n",
+        inputs: b"BNNNNN",
+        want: b"boot\nnext\n event early-init\n event init\n action R 1\n command R 2 trigger y\n ok\nnext\n command R 3 trigger x\n ok\nnext\n event late-init\n event y\n action R 6\n command R 7 setprop p y\n put 1 p y\n ok\nnext\n event x\n action R 4\n command R 5 setprop p x\n put 2 p x\n ok\nnext\n all-properties\n idle\n",
+    },
+    Row {
+        name: "no input",
+        words: 65_536,
+        root: b"on boot\nsetprop a 1\n",
+        inputs: b"",
+        want: b"",
+    },
+    Row {
+        name: "boot alone",
+        words: 65_536,
+        root: b"on early-init\nsetprop a 1\n",
+        inputs: b"B",
+        want: b"boot\n",
+    },
+];
+
+fn take_one<S: PropStore>(core: &mut Core<S>, input: u8) -> Result<(), NoMemory>
+    requires { core.old.spent ≡ false }
+    ensures { OnOk result (core.new.spent ≡ false) }
+{
+    if input == b'B' {
+        take(core, Input::Boot)
+    } else {
+        take(core, Input::Next)
+    }
+}
+
+/// The report of the machine over a plain root file, an area of so many words and the inputs.
+fn report_of_inputs(
+    alloc: Global,
+    root: &[u8],
+    words: u64,
+    inputs: &[u8],
+) -> Result<Text, NoMemory> {
+    let file = Text::of(alloc, b"R")?;
+    let actions = match plain(alloc, &file, root) {
+        Ok(actions) => actions,
+        Err(PlainRefusal::Unbuilt { .. }) => return Text::of(alloc, b"unbuilt"),
+        Err(PlainRefusal::NoMemory) => return Err(NoMemory),
+    };
+    let store = ListStore::new(alloc, words)?;
+    let mut core = Core::new(alloc, config_of(alloc, actions), store)?;
+    for input in inputs {
+        take_one(&mut core, *input)?;
+    }
+    let report = report_of(alloc, core);
+    let mut out = SteadySink::new(alloc);
+    match print(alloc, &report, &mut out) {
+        Ok(()) => Text::of(alloc, out.taken()),
+        Err(IoRefusal::Failed | IoRefusal::NoMemory) => Err(NoMemory),
+    }
+}
+
+/// The entries between the first line and the last.
+fn text_of(alloc: Global, entries: &[u8]) -> Result<Text, NoMemory> {
+    let mut text = Vec::from_slice(alloc, b"initsim 1\n")?;
+    text.extend_from_slice(entries)?;
+    text.extend_from_slice(b"end\n")?;
+    Ok(Text::from_vec(text))
+}
+
+#[test]
+fn short_histories(rt: HostRuntime) -> Result<(), Fail> {
+    let alloc = rt.alloc();
+    for row in &ROWS {
+        let name = row.name;
+        let text = report_of_inputs(alloc, row.root, row.words, row.inputs)?;
+        let want = text_of(alloc, row.want)?;
+        assert_eq!(rt; text.bytes(), want.bytes(), "{name}");
+    }
+    Ok(())
+}
+
+/// Past the end of all events each Next is idle.
+#[test]
+fn idles_past_the_end(rt: HostRuntime) -> Result<(), Fail> {
+    let alloc = rt.alloc();
+    let mut inputs = Vec::from_slice(alloc, b"BN")?;
+    let mut entries = Vec::from_slice(alloc, ROWS[0].want)?;
+    for _ in 0..99u32 {
+        inputs.push(b'N')?;
+        entries.extend_from_slice(b"next\n idle\n")?;
+    }
+    let text = report_of_inputs(alloc, b"", 65_536, inputs.as_slice())?;
+    assert_eq!(rt; text.bytes(), text_of(alloc, entries.as_slice())?.bytes());
+    Ok(())
+}
