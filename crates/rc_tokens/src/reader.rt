@@ -1,0 +1,307 @@
+//! The reader: it takes the bytes of a file one by one. Its steps are `step` and `finished` of `specs/Steps.antt`.
+
+ghost use Rattle.std.specs.Prelude.{◌≡◌, ◌<◌, ◌^◌, ◌-◌, ◌++◌, ◌∷◌, [], IsTrue, OnOk, IfOk};
+ghost use Rattle.rc_tokens.specs.Grammar.{escaped as escaped_lem, is_space as is_space_lem, is_blank as is_blank_lem};
+ghost use Rattle.rc_tokens.specs.Steps as steps;
+
+use crate::line::{Line, Tokens};
+use init_base::{List, NoMemory, Text};
+use std::alloc::Global;
+use std::mem;
+
+/// What the bytes so far have begun.
+#[derive(Clone, Copy)]
+pub enum Mode {
+    /// Nothing.
+    Between,
+    Comment,
+    /// A token, outside quotes.
+    Word,
+    /// A quoted run.
+    Quoted,
+    /// A backslash in a token.
+    Backslash,
+    /// A backslash and a carriage return: a fold if a line feed comes, else an escape.
+    BackslashReturn,
+    /// A fold, whose line end has come.
+    Folded,
+}
+
+/// A file, read up to some byte.
+#[derive(Drop)]
+pub struct Reader {
+    alloc: Global,
+    /// The lines that have ended.
+    lines: List<Line>,
+    /// The tokens of the present line that have ended.
+    words: List<Text>,
+    /// The number of the present line, if a token of it has begun.
+    first: u32,
+    /// The number of the physical line.
+    number: u32,
+    /// What the present token spells so far.
+    token: List<u8>,
+    /// Whether the present token has a quoted run.
+    has_quotes: bool,
+    mode: Mode,
+}
+
+impl Reader {
+    pub fn new(alloc: Global) -> Reader
+        ensures { result ≡ steps.start alloc }
+    {
+        Reader {
+            alloc,
+            lines: List::new(alloc),
+            words: List::new(alloc),
+            first: 1,
+            number: 1,
+            token: List::new(alloc),
+            has_quotes: false,
+            mode: Mode::Between,
+        }
+    }
+
+    /// Takes the next byte.
+    pub fn take(&mut self, byte: u8) -> Result<(), NoMemory>
+        requires { self.old.number < 2 ^ 32 - 1 }
+        ensures { OnOk result (self.new ≡ steps.step self.old byte) }
+    {
+        let number = number_after(self.number, byte);
+        self.move_on(byte)?;
+        self.number = number;
+        Ok(())
+    }
+
+    fn move_on(&mut self, byte: u8) -> Result<(), NoMemory>
+        ensures { OnOk result (self.new ≡ steps.moved self.old.mode self.old byte) }
+    {
+        match self.mode {
+            Mode::Between => self.between(byte),
+            Mode::Comment => self.in_comment(byte),
+            Mode::Word => self.in_word(byte),
+            Mode::Quoted => self.in_quotes(byte),
+            Mode::Backslash => self.after_backslash(byte),
+            Mode::BackslashReturn => self.after_return(byte),
+            Mode::Folded => self.in_fold(byte),
+        }
+    }
+
+    fn between(&mut self, byte: u8) -> Result<(), NoMemory>
+        ensures { OnOk result (self.new ≡ steps.between self.old byte) }
+    {
+        if is_blank(byte) {
+            return Ok(());
+        }
+        match byte {
+            b'\n' => self.end_line(),
+            b'#' => {
+                self.mode = Mode::Comment;
+                Ok(())
+            }
+            _ => {
+                self.begin_token();
+                self.in_word(byte)
+            }
+        }
+    }
+
+    fn in_comment(&mut self, byte: u8) -> Result<(), NoMemory>
+        ensures { OnOk result (self.new ≡ steps.in_comment self.old byte) }
+    {
+        if byte == b'\n' {
+            return self.end_line();
+        }
+        Ok(())
+    }
+
+    fn in_word(&mut self, byte: u8) -> Result<(), NoMemory>
+        ensures { OnOk result (self.new ≡ steps.in_word self.old byte) }
+    {
+        if is_blank(byte) {
+            return self.end_token();
+        }
+        match byte {
+            b'\n' => {
+                self.end_token()?;
+                self.end_line()
+            }
+            b'"' => {
+                self.has_quotes = true;
+                self.mode = Mode::Quoted;
+                Ok(())
+            }
+            b'\\' => {
+                self.mode = Mode::Backslash;
+                Ok(())
+            }
+            _ => self.spell(byte),
+        }
+    }
+
+    fn in_quotes(&mut self, byte: u8) -> Result<(), NoMemory>
+        ensures { OnOk result (self.new ≡ steps.in_quotes self.old byte) }
+    {
+        if byte == b'"' {
+            self.mode = Mode::Word;
+            return Ok(());
+        }
+        self.token.push(byte)
+    }
+
+    fn after_backslash(&mut self, byte: u8) -> Result<(), NoMemory>
+        ensures { OnOk result (self.new ≡ steps.after_backslash self.old byte) }
+    {
+        match byte {
+            b'\n' => {
+                self.mode = Mode::Folded;
+                Ok(())
+            }
+            b'\r' => {
+                self.mode = Mode::BackslashReturn;
+                Ok(())
+            }
+            _ => self.spell(escaped(byte)),
+        }
+    }
+
+    fn after_return(&mut self, byte: u8) -> Result<(), NoMemory>
+        ensures { OnOk result (self.new ≡ steps.after_return self.old byte) }
+    {
+        if byte == b'\n' {
+            self.mode = Mode::Folded;
+            return Ok(());
+        }
+        self.spell(b'\r')?;
+        self.in_word(byte)
+    }
+
+    fn in_fold(&mut self, byte: u8) -> Result<(), NoMemory>
+        ensures { OnOk result (self.new ≡ steps.in_fold self.old byte) }
+    {
+        if is_space(byte) {
+            return Ok(());
+        }
+        self.mode = Mode::Word;
+        self.in_word(byte)
+    }
+
+    fn begin_token(&mut self)
+        ensures { self.new ≡ steps.begun_token self.old }
+    {
+        if self.words.is_empty() {
+            self.first = self.number;
+        }
+        self.has_quotes = false;
+        self.mode = Mode::Word;
+    }
+
+    /// Adds a byte to the present token.
+    fn spell(&mut self, byte: u8) -> Result<(), NoMemory>
+        ensures { OnOk result (self.new ≡ steps.with_byte self.old byte) }
+    {
+        self.mode = Mode::Word;
+        self.token.push(byte)
+    }
+
+    /// A token that spells nothing is one only if it has a quoted run.
+    fn end_token(&mut self) -> Result<(), NoMemory>
+        ensures { OnOk result (self.new ≡ steps.ended_token self.old) }
+    {
+        self.mode = Mode::Between;
+        if self.has_quotes || !self.token.is_empty() {
+            let token = mem::replace(&mut self.token, List::new(self.alloc));
+            self.words.push(Text::from_vec(token.into_vec()))?;
+        }
+        Ok(())
+    }
+
+    fn end_line(&mut self) -> Result<(), NoMemory>
+        ensures { OnOk result (self.new ≡ steps.ended_line self.old) }
+    {
+        self.mode = Mode::Between;
+        if !self.words.is_empty() {
+            let words = mem::replace(&mut self.words, List::new(self.alloc));
+            self.lines.push(Line {
+                number: self.first,
+                words,
+            })?;
+        }
+        Ok(())
+    }
+
+    /// What was read, at the end of the file.
+    pub fn finish(mut self) -> Result<Tokens, NoMemory>
+        ensures { IfOk result (λ tokens. tokens ≡ steps.finished self) }
+    {
+        let dropped = self.dropped();
+        self.close()?;
+        Ok(Tokens {
+            lines: self.lines,
+            dropped,
+        })
+    }
+
+    /// The number of the present line, if it is left out.
+    fn dropped(&self) -> Option<u32>
+        ensures { result ≡ steps.dropped_number self.now.mode self.now.first }
+    {
+        match self.mode {
+            Mode::Quoted | Mode::Backslash => Some(self.first),
+            _ => None,
+        }
+    }
+
+    fn close(&mut self) -> Result<(), NoMemory>
+        ensures { OnOk result (self.new ≡ steps.closed self.old.mode self.old) }
+    {
+        match self.mode {
+            Mode::Quoted | Mode::Backslash => Ok(()),
+            Mode::Between | Mode::Comment => self.end_line(),
+            Mode::Word | Mode::Folded => self.end_last_token(),
+            Mode::BackslashReturn => {
+                self.spell(b'\r')?;
+                self.end_last_token()
+            }
+        }
+    }
+
+    fn end_last_token(&mut self) -> Result<(), NoMemory>
+        ensures { OnOk result (self.new ≡ steps.ended_line (steps.ended_token self.old)) }
+    {
+        self.end_token()?;
+        self.end_line()
+    }
+}
+
+/// The number of the physical line of what follows the byte.
+fn number_after(number: u32, byte: u8) -> u32
+    requires { number < 2 ^ 32 - 1 }
+    ensures { result ≡ steps.number_after number byte }
+{
+    if byte == b'\n' { number + 1 } else { number }
+}
+
+/// The byte that a backslash and this byte give.
+fn escaped(byte: u8) -> u8
+    ensures { result ≡ escaped_lem byte }
+{
+    match byte {
+        b'n' => b'\n',
+        b'r' => b'\r',
+        b't' => b'\t',
+        _ => byte,
+    }
+}
+
+fn is_space(byte: u8) -> bool
+    ensures { result ≡ is_space_lem byte }
+{
+    byte == b' ' || byte == b'\t'
+}
+
+fn is_blank(byte: u8) -> bool
+    ensures { result ≡ is_blank_lem byte }
+{
+    is_space(byte) || byte == b'\r'
+}
