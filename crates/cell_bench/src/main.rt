@@ -1,0 +1,94 @@
+//! A program that is timed from outside: it makes so many reads or writes of one value cell, with no other thread.
+//!
+//! `cell_bench read N` and `cell_bench write N`; `bench/cell` has the same in plain Rust, and runs both.
+#![tactic(auto)]
+
+ghost use Rattle.std.specs.Prelude.{◌≡◌, ◌<◌, ◌+◌, ◌^◌, ◌∷◌, [], None, length};
+ghost use Rattle.serial_value.specs.declared.view.CellView.TheVariants.{Writer};
+ghost use Rattle.serial_value.specs.Cell.{sets_of};
+
+use init_base::{PropName, PropValue};
+use serial_value::{CellAnswer, OneSeat, OneTable, one_cell, one_reader, read_cell, write_cell};
+use std::process::ExitCode;
+
+/// Where the cell lies.
+const CELL: usize = 16;
+
+/// More than any run asks for.
+const MOST: u64 = 1 << 40;
+
+/// One read, which isn't made part of the loop around it, so that each call writes all its bytes.
+#[inline(never)]
+fn found(table: &OneTable, reader: &mut OneSeat, name: PropName<'_>, out: &mut [u8; 91]) -> bool
+    requires table { (reader.old.table_id ≡ table.now.shared.table_id) × (table.now.shared.table_id.words ≡ 29) }
+    requires name { name.bytes.now ≡ 97 ∷ [] }
+    ensures { reader.new.table_id ≡ reader.old.table_id }
+{
+    matches!(
+        read_cell(table, reader, CELL, name, out),
+        CellAnswer::Found { .. }
+    )
+}
+
+/// So many reads, of which it counts those that found the value.
+fn reads(table: &OneTable, reader: &mut OneSeat, name: PropName<'_>, count: u64) -> u64
+    requires table { (reader.old.table_id ≡ table.now.shared.table_id) × (table.now.shared.table_id.words ≡ 29) }
+    requires name { name.bytes.now ≡ 97 ∷ [] }
+{
+    let mut whole = 0;
+    let mut out = [0; 91];
+    for _ in 0..count {
+        if found(table, reader, name, &mut out) {
+            whole += 1;
+        }
+    }
+    whole
+}
+
+/// So many writes of one value.
+fn writes(
+    table: &OneTable,
+    writer: &mut OneSeat,
+    name: PropName<'_>,
+    value: PropValue<'_>,
+    count: u64,
+)
+    requires table { (writer.old.table_id ≡ table.now.shared.table_id) × (table.now.shared.table_id.words ≡ 29) }
+    requires name { name.bytes.now ≡ 97 ∷ [] }
+    requires writer { (writer.old.me.0.cell ≡ Writer (sets_of writer.old.me.0.cell) None) × (length (sets_of writer.old.me.0.cell) ≡ 1) }
+    requires count { count < 2 ^ 41 }
+{
+    for k in 0..count {
+        write_cell(table, writer, CELL, name, k + 2, value);
+    }
+}
+
+/// None where the words are no run, or memory is short.
+fn run(rt: &HostRuntime) -> Option<u64> {
+    let mut words = std::env::args(rt).ok()?.skip(1);
+    let kind = words.next()?;
+    let count: u64 = words.next()?.as_str().parse().ok()?;
+    let count = count.min(MOST);
+    let name = PropName::of(b"a")?;
+    let value = PropValue::of(b"a value of middling length").ok()?;
+    let (table, mut writer) = one_cell(rt.alloc(), value).ok()?;
+    if kind.as_str() == "write" {
+        writes(&table, &mut writer, name, value, count);
+        return Some(count);
+    }
+    let mut reader = one_reader(&table, &mut writer).ok()?;
+    Some(reads(&table, &mut reader, name, count))
+}
+
+fn main(rt: HostRuntime) -> ExitCode {
+    let made = run(&rt);
+    let shown = match made {
+        Some(count) => println!(&rt; "{count}"),
+        None => eprintln!(&rt; "cell_bench: usage: read|write N"),
+    };
+    if made.is_some() && shown.is_ok() {
+        ExitCode::SUCCESS
+    } else {
+        ExitCode::from(2)
+    }
+}

@@ -1,0 +1,5 @@
+pub mod Packing
+pub mod Moves
+pub mod Reading
+pub mod OneReader
+pub mod Agains

@@ -1,0 +1,159 @@
+-- What each step at a cell does to the view of the seat that makes it.
+-- An update of a cell is 26 stores: the 12 old value words into the backup, the dirty serial, the 12 new value words, the
+-- clean serial. A read loads the serial, 12 words (those of the value, or of the backup where the serial is dirty), and the
+-- serial again.
+use Rattle.std.specs.Prelude.{◌≡◌, ◌≢◌, ℕ, zero, suc, ◌+◌, ◌<◌, ◌^◌, max, if◌then◌else◌, List, [], ◌∷◌, ◌++◌, length, take, slice_index, Option, Some, None}
+use Rattle.serial_value.specs.declared.view.Set.{Set}
+use Rattle.serial_value.specs.declared.view.Fact.{Fact}
+use Rattle.serial_value.specs.declared.view.Fact.TheVariants.{Found, Again}
+use Rattle.serial_value.specs.declared.view.Making.{Making}
+use Rattle.serial_value.specs.declared.view.Copying.{Copying}
+use Rattle.serial_value.specs.declared.view.CellView.{CellView}
+use Rattle.serial_value.specs.declared.view.CellView.TheVariants.{Writer, Reader}
+use Rattle.serial_value.specs.declared.read.CellAnswer.{CellAnswer}
+use Rattle.serial_value.specs.declared.read.CellAnswer.TheVariants.{Found as AnswerFound, Again as AnswerAgain}
+use Rattle.serial_value.specs.Serial.{clean_serial, length_in, number_in, is_dirty}
+use Rattle.serial_value.specs.Words.{value_word, HasWords}
+use Rattle.serial_value.specs.Sets.{set_of, IsValue, LastSet, ValueAt}
+use Rattle.serial_value.specs.Facts.{seen_again}
+
+-- the first of the backup's words
+abbrev pub backup_place : ℕ
+backup_place = 4
+
+-- the sets that the view of a writer has
+abbrev pub sets_of : CellView → List Set
+sets_of (Writer sets making) = sets
+sets_of (Reader number copying) = []
+
+-- the view is the writer's
+abbrev pub IsWriter : CellView → Type 0
+IsWriter (Writer sets making) = Unit {0}
+IsWriter (Reader number copying) = ⊥
+
+-- the set that is being made, once this many stores are done
+abbrev pub update : List ℕ → List ℕ → ℕ → ℕ → Option Making
+update name value place zero = None
+update name value place (suc done) = Some (record { name = name; value = value; place = place; done = suc done })
+
+-- the writer, with this many stores done
+abbrev pub updating : List Set → List ℕ → List ℕ → ℕ → ℕ → CellView
+updating sets name value place done = Writer sets (update name value place done)
+
+abbrev pub IsUpdating : CellView → List ℕ → List ℕ → ℕ → ℕ → Type 0
+IsUpdating cell name value place done = cell ≡ updating (sets_of cell) name value place done
+
+-- the writer, once the set is accepted
+abbrev pub accepted : CellView → List ℕ → List ℕ → CellView
+accepted cell name value = Writer (sets_of cell ++ set_of name value ∷ []) None
+
+-- the clean serial of the name's last set
+abbrev pub IsPresentSerial : List Set → List ℕ → ℕ → Type 0
+IsPresentSerial sets name word =
+    (number : ℕ) (value : List ℕ) → LastSet sets (length sets) name number value → word ≡ clean_serial (length value) number
+
+-- word k of the name's value
+abbrev pub IsPresentWord : List Set → List ℕ → ℕ → ℕ → Type 0
+IsPresentWord sets name k word =
+    (value : List ℕ) → ValueAt sets (length sets) name value → word ≡ value_word value k
+
+-- the name has a value, and this is its clean serial
+pub record KnowsSerial (sets : List Set) (name : List ℕ) (word : ℕ) : Type 0 where
+  pub number : ℕ
+  pub value : List ℕ
+  pub last : LastSet sets (length sets) name number value
+  pub legal : IsValue value
+  pub small : number < 2 ^ 55
+  pub serial : word ≡ clean_serial (length value) number
+
+-- the load of the first serial. The writer's own view doesn't change, and where it makes no set it knows the word
+abbrev pub Begins : CellView → List ℕ → ℕ → ℕ → CellView → Type 0
+Begins (Writer sets None) name place word after = (after ≡ Writer sets None) × KnowsSerial sets name word
+Begins (Writer sets (Some making)) name place word after = after ≡ Writer sets (Some making)
+Begins (Reader number copying) name place word after =
+    after ≡ Reader number (Some (record { name = name; place = place; first = word; words = [] }))
+
+-- where the words of a read lie that loaded this first serial
+abbrev pub words_place : ℕ → ℕ → ℕ
+words_place place first = if is_dirty first then backup_place else place + 1
+
+-- word k of a read lies at this place
+abbrev pub LiesAt : CellView → List ℕ → ℕ → ℕ → ℕ → Type 0
+LiesAt (Writer sets None) name place k word_place = word_place ≡ place + 1 + k
+LiesAt (Writer sets (Some making)) name place k word_place = Unit {0}
+LiesAt (Reader number None) name place k word_place = ⊥
+LiesAt (Reader number (Some copying)) name place k word_place =
+    (copying.name ≡ name) × (copying.place ≡ place) × (length copying.words ≡ k)
+    × (word_place ≡ words_place place copying.first + k)
+
+-- the load of word k of a read
+abbrev pub Copies : CellView → List ℕ → ℕ → ℕ → CellView → Type 0
+Copies (Writer sets None) name k word after = (after ≡ Writer sets None) × IsPresentWord sets name k word
+Copies (Writer sets (Some making)) name k word after = after ≡ Writer sets (Some making)
+Copies (Reader number None) name k word after = after ≡ Reader number None
+Copies (Reader number (Some copying)) name k word after =
+    after ≡ Reader number (Some (record copying { words = copying.words ++ word ∷ [] }))
+
+-- the words of a read that has begun lie from this place on
+abbrev pub ReadsFrom : CellView → List ℕ → ℕ → ℕ → Type 0
+ReadsFrom (Writer sets None) name place base = base ≡ place + 1
+ReadsFrom (Writer sets (Some making)) name place base = Unit {0}
+ReadsFrom (Reader number None) name place base = ⊥
+ReadsFrom (Reader number (Some copying)) name place base =
+    (copying.name ≡ name) × (copying.place ≡ place) × (copying.words ≡ []) × (base ≡ words_place place copying.first)
+
+-- the first k of the words of a read are these
+abbrev pub Gathers : CellView → List ℕ → ℕ → List ℕ → CellView → Type 0
+Gathers (Writer sets None) name k words after =
+    (after ≡ Writer sets None) × ((value : List ℕ) → ValueAt sets (length sets) name value → HasWords words k value)
+Gathers (Writer sets (Some making)) name k words after = after ≡ Writer sets (Some making)
+Gathers (Reader number None) name k words after = after ≡ Reader number None
+Gathers (Reader number (Some copying)) name k words after = after ≡ Reader number (Some (record copying { words = take k words }))
+
+-- a read that has copied all twelve words
+abbrev pub IsCopied : CellView → List ℕ → ℕ → Type 0
+IsCopied (Writer sets making) name place = Unit {0}
+IsCopied (Reader number None) name place = ⊥
+IsCopied (Reader number (Some copying)) name place =
+    (copying.name ≡ name) × (copying.place ≡ place) × (length copying.words ≡ 12)
+
+-- the load of the last serial, by how a view's cell part is put in place and a fact is noted. Where the serial is the first
+-- one again, the words are those of the value, which is Found; else a write was met
+module _ {V : Type 0} (with_cell : V → CellView → V) (noted : V → Fact → V) where
+  abbrev pub FindsWhole : ℕ → Copying → V → List ℕ → ℕ → V → Type 0
+  FindsWhole number copying v name word after =
+      let seen = max number (number_in word) in
+      (value : List ℕ) × IsValue value × HasWords copying.words 12 value × (length_in word ≡ length value)
+      × (after ≡ noted (with_cell v (Reader seen None)) (Found seen name value))
+
+  abbrev pub Ends : CellView → V → List ℕ → ℕ → V → Type 0
+  Ends (Writer sets None) v name word after = (after ≡ v) × IsPresentSerial sets name word
+  Ends (Writer sets (Some making)) v name word after = after ≡ v
+  Ends (Reader number None) v name word after = after ≡ v
+  Ends (Reader number (Some copying)) v name word after =
+      (word ≡ copying.first → FindsWhole number copying v name word after)
+      × (word ≢ copying.first → after ≡ noted (with_cell v (Reader (seen_again number word) None)) (Again number name copying.first word))
+
+  -- what a whole read answers and tells, where the bytes in `out` are the value that is Found
+  abbrev pub Answers : CellView → V → List ℕ → CellAnswer → List ℕ → V → Type 0
+  Answers (Writer sets None) v name (AnswerFound len number) out after =
+      (value : List ℕ) × LastSet sets (length sets) name number value × (len ≡ length value) × (take len out ≡ value) × (after ≡ v)
+  Answers (Writer sets None) v name (AnswerAgain first second) out after = ⊥
+  Answers (Writer sets (Some making)) v name answer out after = after ≡ v
+  Answers (Reader number copying) v name (AnswerFound len own) out after =
+      let seen = max number own in
+      (value : List ℕ) × IsValue value × (len ≡ length value) × (take len out ≡ value)
+      × (after ≡ noted (with_cell v (Reader seen None)) (Found seen name value))
+  Answers (Reader number copying) v name (AnswerAgain first second) out after =
+      (first ≢ second) × (after ≡ noted (with_cell v (Reader (seen_again number second) None)) (Again number name first second))
+
+-- what a read makes of the serials that it loaded
+abbrev pub Closes : ℕ → ℕ → List ℕ → CellAnswer → List ℕ → Type 0
+Closes first last words (AnswerFound len number) out =
+    (first ≡ last) × (len ≡ length_in last) × (number ≡ number_in last)
+    × ((value : List ℕ) → IsValue value → HasWords words 12 value → (i : ℕ) → i < 91 → slice_index out i ≡ slice_index value i)
+Closes first last words (AnswerAgain first' second) out = (first ≢ last) × (first' ≡ first) × (second ≡ last)
+
+-- the twelve words of the name's value
+abbrev pub AreOldWords : List Set → List ℕ → List ℕ → Type 0
+AreOldWords sets name words = (value : List ℕ) → ValueAt sets (length sets) name value → HasWords words 12 value

@@ -1,0 +1,9 @@
+pub mod Serial
+pub mod Words
+pub mod Sets
+pub mod Facts
+pub mod Cell
+pub mod Steps
+pub mod One
+pub mod Stops
+pub mod Kept

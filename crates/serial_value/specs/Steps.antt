@@ -1,0 +1,13 @@
+-- What calls on a table ask and leave.
+use Rattle.std.specs.Prelude.{◌≡◌, ◌≤◌, ◌<◌, ◌+◌, ◌^◌, ℕ}
+use Rattle.atomic_table.specs.declared.shared.Seat.{Seat}
+use Rattle.atomic_table.specs.Seated.{TableId}
+
+module _ {S V : Type 0} where
+  -- it is still that seat of that table
+  abbrev pub IsSameSeat : Seat S V → Seat S V → Type 0
+  IsSameSeat before after = (after.table_id ≡ before.table_id) × (after.id ≡ before.id)
+
+-- the table has room for the head and for a cell at this place
+abbrev pub HasCell : TableId → ℕ → Type 0
+HasCell table place = (16 ≤ place) × (place + 13 ≤ table.words) × (place < 2 ^ 32)

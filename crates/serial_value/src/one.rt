@@ -1,0 +1,162 @@
+//! A table of one cell, whose one name is `a`. It shows that a rule can meet the laws of `CellRule`.
+
+ghost use Rattle.std.specs.Prelude.{◌≡◌, ◌<◌, ◌≤◌, ◌+◌, [], length, IfOk, IsOkAnd};
+ghost use Rattle.serial_value.specs.Sets.{IsValue};
+ghost use Rattle.serial_value.specs.Cell.{IsWriter};
+ghost use Rattle.serial_value.specs.Steps.{IsSameSeat};
+ghost use Rattle.serial_value.specs.One.{begins, new_reader, HasFirst, SomeHistory};
+
+use crate::layout::serial;
+use crate::rule::CellRule;
+use crate::view::{CellView, Fact};
+use crate::words::word_of;
+use atomic_table::{Play, Seat, Split, Table, TableRule};
+use init_base::{NoMemory, PropValue, Text};
+use std::alloc::Global;
+use std::collections::LinkedList;
+
+/// What a seat at a table of one cell knows: its part of the cell, how many sets there were when the seat began, and the
+/// facts that it has learned since. No value of it is made.
+pub struct OneView {
+    pub cell: CellView,
+    pub began: u64,
+    pub facts: LinkedList<Fact>,
+}
+
+/// The rule of that table. It is told the value of the first set.
+pub struct OneCell;
+
+impl TableRule<(), OneView, Text> for OneCell {
+    ghost use Rattle.serial_value.specs.One.{OneHolds, begins};
+
+    ghost holds = { λ key s. OneHolds s };
+
+    ghost first = { begins };
+}
+
+impl CellRule<OneView, Text> for OneCell {
+    ghost use Rattle.std.specs.Prelude.{refl};
+    ghost use Rattle.serial_value.specs.One.{with_cell as with_one_cell, noted as noted_one, Linked as LinkedOne};
+    ghost use Rattle.serial_value.specs.Kept.OneBackup.{one_backup};
+    ghost use Rattle.serial_value.specs.Kept.OneDirty.{one_dirty};
+    ghost use Rattle.serial_value.specs.Kept.OneValue.{one_value};
+    ghost use Rattle.serial_value.specs.Kept.OneClean.{one_clean};
+    ghost use Rattle.serial_value.specs.Kept.OneFirst.{one_first};
+    ghost use Rattle.serial_value.specs.Kept.OneCopied.{one_copied};
+    ghost use Rattle.serial_value.specs.Kept.OneLast.{one_last};
+
+    ghost cell = { λ v. v.cell };
+
+    ghost with_cell = { with_one_cell };
+
+    ghost facts = { λ v. v.facts };
+
+    ghost noted = { noted_one };
+
+    ghost Linked = { LinkedOne };
+
+    ghost Settled = { λ v. Unit {0} };
+
+    fn no_call(&self) {}
+
+    ghost cell_with = { λ v c. refl };
+
+    ghost with_same = { λ v. refl };
+
+    ghost with_with = { λ v c d. refl };
+
+    ghost facts_with = { λ v c. refl };
+
+    ghost cell_noted = { λ v f. refl };
+
+    ghost facts_noted = { λ v f. refl };
+
+    ghost linked_with = { λ v c name place linked. linked };
+
+    ghost settled_with = { λ v name value place done settled. settled };
+
+    ghost backup_word = { one_backup };
+
+    ghost dirty_serial = { one_dirty };
+
+    ghost value_word = { one_value };
+
+    ghost clean_serial = { one_clean };
+
+    ghost first_serial = { one_first };
+
+    ghost copied_word = { one_copied };
+
+    ghost last_serial = { one_last };
+}
+
+/// A table of one cell.
+pub type OneTable = Table<(), OneView, Text, OneCell, Global>;
+
+/// The writer's or a reader's seat at it.
+pub type OneSeat = Seat<(), OneView>;
+
+/// How a reader's seat is split off the writer's.
+struct NewReader;
+
+impl Split<OneView> for NewReader {
+    ghost use Rattle.serial_value.specs.One.{new_reader};
+
+    ghost left = { λ v. v };
+
+    ghost right = { new_reader };
+}
+
+/// A reader's seat, whose number is the writer's count.
+pub fn one_reader(table: &OneTable, seat: &mut OneSeat) -> Result<OneSeat, NoMemory>
+    requires table { (seat.old.table_id ≡ table.now.shared.table_id) × (0 < table.now.shared.table_id.words) }
+    requires writer { IsWriter seat.old.me.0.cell }
+    ensures reader { IsOkAnd result (λ reader. (reader.table_id ≡ seat.old.table_id) × (reader.me ≡ (new_reader seat.old.me.0, []))) }
+    ensures writer { IsSameSeat seat.old seat.new × (seat.new.me ≡ seat.old.me) }
+{
+    Ok(table.shared.split_seat::<NewReader>(seat))
+}
+
+/// The words of that table, where the cell has this value under number 1.
+fn first_words(value: &[u8]) -> [u64; 29]
+    requires { length value.now ≤ 91 }
+    ensures words { HasFirst result value.now }
+    ensures legal { IsValue value.now }
+{
+    let mut words = [0; 29];
+    words[16] = serial(value.len() as u8, 1);
+    for k in 0..12 {
+        words[17 + k] = word_of(value, k);
+    }
+    words
+}
+
+/// A table whose cell `a` has this value under number 1, and the writer's seat.
+pub fn one_cell(alloc: Global, value: PropValue<'_>) -> Result<(OneTable, OneSeat), NoMemory>
+    ensures table { IfOk result (λ made. (made.0.shared.table_id.words ≡ 29) × (made.1.table_id ≡ made.0.shared.table_id)) }
+    ensures writer { IfOk result (λ made. made.1.me ≡ (begins value.entry.bytes.now, [])) }
+{
+    let text = Text::of(alloc, value.bytes)?;
+    let words = first_words(value.bytes);
+    Ok(Table::of_words(alloc, &words, &text)?)
+}
+
+/// A load that tells what a reader has learned.
+struct Told;
+
+impl Play<(), OneView> for Told {
+    ghost use Rattle.std.specs.Prelude.{◌≡◌};
+    ghost use Rattle.serial_value.specs.One.{SomeHistory};
+
+    ghost then = { λ st m n after. (after ≡ m) × SomeHistory m.0.cell m.0.began m.0.facts };
+}
+
+/// What a reader has learned holds of one history: its facts are true and in order, and it met at most two writes for each
+/// set since it began. It is one load of the area serial, and changes nothing.
+pub fn one_history(table: &OneTable, seat: &mut OneSeat)
+    requires table { (seat.old.table_id ≡ table.now.shared.table_id) × (0 < table.now.shared.table_id.words) }
+    ensures seat { IsSameSeat seat.old seat.new × (seat.new.me ≡ seat.old.me) }
+    ensures facts { SomeHistory seat.old.me.0.cell seat.old.me.0.began seat.old.me.0.facts }
+{
+    table.shared.load::<Told>(seat, 0);
+}

@@ -1,0 +1,124 @@
+//! What a rule over a table owes so that cells may stand in it: one law for each kind of step.
+
+ghost use Rattle.std.specs.Prelude.{◌≡◌, ◌≢◌, ◌<◌, ◌≤◌, ◌+◌, ◌^◌, ◌++◌, ◌∷◌, [], ℕ, List, length, None};
+ghost use Rattle.atomic_table.specs.Table.{Allows, Me};
+ghost use Rattle.serial_value.specs.declared.view.CellView.{CellView};
+ghost use Rattle.serial_value.specs.declared.view.CellView.TheVariants.{Writer};
+ghost use Rattle.serial_value.specs.declared.view.Fact.{Fact};
+ghost use Rattle.serial_value.specs.Serial.{clean_serial as clean_serial_of, dirty_serial as dirty_serial_of};
+ghost use Rattle.serial_value.specs.Words.{value_word as word_of_value};
+ghost use Rattle.serial_value.specs.Sets.{IsValue};
+ghost use Rattle.serial_value.specs.Cell.{sets_of, updating, accepted, IsUpdating, IsPresentSerial, IsPresentWord};
+ghost use Rattle.serial_value.specs.Cell.{Begins, LiesAt, Copies, IsCopied, Ends};
+
+use atomic_table::TableRule;
+use std::marker::Brand;
+
+/// What a step is about, for proofs alone: the name, the value that is being set, the cell's place and which of the twelve
+/// words it is.
+pub trait Asked {
+    ghost name: { List ℕ };
+
+    ghost value: { List ℕ };
+
+    ghost place: { ℕ };
+
+    ghost index: { ℕ };
+}
+
+impl Asked for Brand {
+    ghost name = { [] };
+
+    ghost value = { [] };
+
+    ghost place = { 0 };
+
+    ghost index = { 0 };
+}
+
+/// A rule under which the steps at a cell may be made. V is what a seat knows, K what the table was told when it was made.
+pub trait CellRule<V, K>: TableRule<(), V, K> {
+    /// The part of a view that the steps change.
+    ghost cell: { V → CellView };
+
+    ghost with_cell: { V → CellView → V };
+
+    /// The facts of a reader's client, and the view with one more.
+    ghost facts: { V → List Fact };
+
+    ghost noted: { V → Fact → V };
+
+    /// The name's cell is linked at this place, as the seat knows.
+    ghost Linked: { V → List ℕ → ℕ → Type 0 };
+
+    /// The writer may begin an update, as far as the rest of its view tells.
+    ghost Settled: { V → Type 0 };
+
+    /// It is never called: laws stand below a function.
+    fn no_call(&self);
+
+    ghost cell_with: { (v : V) (c : CellView) → cell (with_cell v c) ≡ c };
+
+    ghost with_same: { (v : V) → with_cell v (cell v) ≡ v };
+
+    ghost with_with: { (v : V) (c d : CellView) → with_cell (with_cell v c) d ≡ with_cell v d };
+
+    ghost facts_with: { (v : V) (c : CellView) → facts (with_cell v c) ≡ facts v };
+
+    ghost cell_noted: { (v : V) (f : Fact) → cell (noted v f) ≡ cell v };
+
+    ghost facts_noted: { (v : V) (f : Fact) → facts (noted v f) ≡ facts v ++ f ∷ [] };
+
+    ghost linked_with: { (v : V) (c : CellView) (name : List ℕ) (place : ℕ) →
+        Linked v name place → Linked (with_cell v c) name place };
+
+    /// An update that is under way doesn't unsettle the writer.
+    ghost settled_with: { (v : V) (name value : List ℕ) (place done : ℕ) →
+        Settled v → Settled (with_cell v (updating (sets_of (cell v)) name value place done)) };
+
+    /// The backup gets word k of the old value.
+    ghost backup_word: { (key : K) (slots id : ℕ) (m : Me Unit V) (name value : List ℕ) (place k word : ℕ) →
+        Settled m.0 → Linked m.0 name place → IsUpdating (cell m.0) name value place k → k < 12 → IsValue value →
+        IsPresentWord (sets_of (cell m.0)) name k word →
+        Allows (Self.holds key) slots id m (4 + k) (λ _. word)
+        (λ _ after. after ≡ (with_cell m.0 (updating (sets_of (cell m.0)) name value place (k + 1)), m.1)) };
+
+    /// The clean serial gets its bit 0 set.
+    ghost dirty_serial: { (key : K) (slots id : ℕ) (m : Me Unit V) (name value : List ℕ) (place clean : ℕ) →
+        Settled m.0 → Linked m.0 name place → IsUpdating (cell m.0) name value place 12 →
+        IsPresentSerial (sets_of (cell m.0)) name clean →
+        Allows (Self.holds key) slots id m place (λ _. dirty_serial_of clean)
+        (λ _ after. after ≡ (with_cell m.0 (updating (sets_of (cell m.0)) name value place 13), m.1)) };
+
+    /// The cell gets word k of the new value.
+    ghost value_word: { (key : K) (slots id : ℕ) (m : Me Unit V) (name value : List ℕ) (place k : ℕ) →
+        Settled m.0 → Linked m.0 name place → IsUpdating (cell m.0) name value place (13 + k) → k < 12 →
+        Allows (Self.holds key) slots id m (place + 1 + k) (λ _. word_of_value value k)
+        (λ _ after. after ≡ (with_cell m.0 (updating (sets_of (cell m.0)) name value place (13 + k + 1)), m.1)) };
+
+    /// The cell gets the clean serial of the new value, with which the set is accepted.
+    ghost clean_serial: { (key : K) (slots id : ℕ) (m : Me Unit V) (name value : List ℕ) (place : ℕ) →
+        Settled m.0 → Linked m.0 name place → IsUpdating (cell m.0) name value place 25 →
+        length (sets_of (cell m.0)) + 1 < 2 ^ 55 →
+        Allows (Self.holds key) slots id m place
+        (λ _. clean_serial_of (length value) (length (sets_of (cell m.0)) + 1))
+        (λ _ after. after ≡ (with_cell m.0 (accepted (cell m.0) name value), m.1)) };
+
+    /// A read loads the serial.
+    ghost first_serial: { (key : K) (slots id : ℕ) (m : Me Unit V) (name : List ℕ) (place : ℕ) →
+        Linked m.0 name place →
+        Allows (Self.holds key) slots id m place (λ n. n)
+        (λ n after. (after ≡ (with_cell m.0 (cell after.0), m.1)) × Begins (cell m.0) name place n (cell after.0)) };
+
+    /// A read loads word k of the twelve.
+    ghost copied_word: { (key : K) (slots id : ℕ) (m : Me Unit V) (name : List ℕ) (place k word_place : ℕ) →
+        Linked m.0 name place → LiesAt (cell m.0) name place k word_place → k < 12 →
+        Allows (Self.holds key) slots id m word_place (λ n. n)
+        (λ n after. (after ≡ (with_cell m.0 (cell after.0), m.1)) × Copies (cell m.0) name k n (cell after.0)) };
+
+    /// A read loads the serial again.
+    ghost last_serial: { (key : K) (slots id : ℕ) (m : Me Unit V) (name : List ℕ) (place : ℕ) →
+        Linked m.0 name place → IsCopied (cell m.0) name place →
+        Allows (Self.holds key) slots id m place (λ n. n)
+        (λ n after. (after.1 ≡ m.1) × Ends with_cell noted (cell m.0) m.0 name n after.0) };
+}

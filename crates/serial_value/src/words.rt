@@ -1,0 +1,56 @@
+//! A value's bytes in words. The layout is `specs/Words.antt`.
+
+ghost use Rattle.std.specs.Prelude.{◌≡◌, ◌<◌, ◌≤◌, ◌+◌, ◌*◌, ◌⊎◌, ℕ, List, length, slice_index};
+ghost use Rattle.std.specs.Int.{w64, to_le_bytes};
+ghost use Rattle.serial_value.specs.Words.{value_word, HasWords};
+ghost use Rattle.serial_value.specs.Sets.{IsValue};
+
+/// Word `k` of a value.
+pub fn word_of(value: &[u8], k: usize) -> u64
+    requires k { k < 12 }
+    requires short { length value.now ≤ 91 }
+    ensures { result ≡ value_word value.now k }
+{
+    let start = 8 * k;
+    let mut bytes = [0u8; 8];
+    for j in 0..8 {
+        if start + j < value.len() {
+            bytes[j] = value[start + j];
+        }
+    }
+    u64::from_le_bytes(bytes)
+}
+
+/// Writes the bytes of the words of a value. A byte past its end is 0.
+pub(crate) fn unpack(words: &[u64; 12], out: &mut [u8; 91])
+    ensures { (value : List ℕ) → IsValue value → HasWords words.now 12 value
+        → (i : ℕ) → i < 91 → slice_index out.new i ≡ slice_index value i }
+{
+    for k in 0..11 {
+        put_word(out, k, words[k]);
+    }
+    put_last_word(out, words[11]);
+}
+
+/// Writes the eight bytes of word `k`.
+fn put_word(out: &mut [u8; 91], k: usize, word: u64)
+    requires { k < 11 }
+    ensures bytes { (j : ℕ) → j < 8 → slice_index out.new (8 * k + j) ≡ slice_index (to_le_bytes w64 word) j }
+    ensures others { (i : ℕ) → (i < 8 * k) ⊎ (8 * k + 8 ≤ i) → slice_index out.new i ≡ slice_index out.old i }
+{
+    let bytes = word.to_le_bytes();
+    for j in 0..8 {
+        out[8 * k + j] = bytes[j];
+    }
+}
+
+/// Writes the three bytes of the last word that are inside.
+fn put_last_word(out: &mut [u8; 91], word: u64)
+    ensures bytes { (j : ℕ) → j < 3 → slice_index out.new (88 + j) ≡ slice_index (to_le_bytes w64 word) j }
+    ensures others { (i : ℕ) → i < 88 → slice_index out.new i ≡ slice_index out.old i }
+{
+    let bytes = word.to_le_bytes();
+    for j in 0..3 {
+        out[88 + j] = bytes[j];
+    }
+}
