@@ -12,3 +12,4 @@ pub mod Stored
 pub mod ListStore
 pub mod Room
 pub mod Laws
+pub mod WordTexts

@@ -9,7 +9,8 @@ use Rattle.init_machine.specs.declared.diagnostic.DiagKind.{DiagKind}
 use Rattle.init_machine.specs.declared.diagnostic.DiagKind.TheVariants as kind
 use Rattle.init_machine.specs.declared.output.FsRefusal.{FsRefusal}
 use Rattle.init_machine.specs.declared.output.FsRefusal.TheVariants as tree
-use Rattle.init_trace.specs.Words.{inert_text, word_text, kind_text, tree_text}
+use Rattle.init_machine.specs.WordTexts.{inert_text, word_text}
+use Rattle.init_trace.specs.Words.{kind_text, tree_text}
 use Rattle.init_trace.proofs.Splitting.{is_field}
 
 -- what stands in a table beside a word

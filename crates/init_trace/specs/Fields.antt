@@ -17,7 +17,8 @@ use Rattle.init_machine.specs.declared.output.SetRefusal.TheVariants as refusal
 use Rattle.init_machine.specs.declared.report.Reading.{Reading}
 use Rattle.init_machine.specs.declared.report.Reading.TheVariants as reading
 use Rattle.init_trace.specs.Quoted.{quoted, hex16}
-use Rattle.init_trace.specs.Words.{word_text, kind_text, tree_text}
+use Rattle.init_machine.specs.WordTexts.{word_text}
+use Rattle.init_trace.specs.Words.{kind_text, tree_text}
 
 -- the name of the refusal, and what it tells
 unfoldable pub refusal_fields : SetRefusal → List (List ℕ)

@@ -9,7 +9,7 @@ ghost use Rattle.init_trace.specs.Report.{client_fields, end_fields, output_line
 
 use crate::field::{number, serial, text, texts, word, word_number, word_text, word_texts};
 use crate::quote::{put, put_byte};
-use crate::words::{kind_name, tree_name, word_name};
+use crate::words::{kind_name, tree_name};
 use init_base::{List, NoMemory, Text};
 use init_machine::{Cause, ClientPart, Diagnostic, How, Input, Output, Reading, SetRefusal, Word};
 
@@ -195,7 +195,7 @@ fn add_command(
 {
     word_text(page, b"command", file)?;
     number(page, u64::from(line))?;
-    word(page, word_name(command))?;
+    word(page, command.name())?;
     texts(page, args.items())
 }
 
