@@ -1,37 +1,68 @@
--- Plain inputs stop a run only by a fault or for want of memory.
-use Rattle.std.proofs.Common.{◌≡◌, ℕ, true, false, List, Option, Some, None, Err}
+-- What can be run is stopped only by a fault or for want of memory.
+use Rattle.std.proofs.Common.{◌≡◌, ℕ, ◌<◌, ◌≤◌, true, false, List, length, Option, Some, None, Err, refl, sym, subst, ap, ◌∙◌}
+use native.Mathlib.Omega.{arith}
 use Rattle.init_base.specs.Tree.{file_at}
 use Rattle.plain_script.proofs.Readings.{not_both}
 use Rattle.plain_script.specs.declared.script.Act.{Act}
-use Rattle.rc_parse.specs.Plain.{plain_fault}
+use Rattle.rc_parse.specs.declared.parsed.Parsed.{Parsed}
 use Rattle.initsim.specs.Causes.{AreCounted}
 use Rattle.initsim.specs.Prepared.{IsStopOf, Prepares, has_read_fault, status_of}
-use Rattle.initsim.specs.Run.{root_path, IsPlainRun, IsRootFault}
-use Rattle.initsim.specs.Top.{ArePlain, IsDoneUnlessRisen}
+use Rattle.initsim.specs.Root.{root_path, HasRoot, IsTooLarge}
+use Rattle.initsim.specs.Run.{IsRunnable}
+use Rattle.initsim.specs.Top.{CanBeRun, IsDoneUnlessRisen}
+use Rattle.initsim.specs.Unbuilt.{unbuilt_line}
 use Rattle.initsim.specs.declared.prepare.Job.{Job}
-use Rattle.initsim.specs.declared.prepare.Stop.{Stop}
-use Rattle.initsim.specs.declared.prepare.Stop.TheVariants as stop
+use Rattle.initsim.specs.declared.status.Limit.{Limit}
+use Rattle.initsim.specs.declared.stop.Stop.{Stop}
+use Rattle.initsim.specs.declared.stop.Stop.TheVariants as stop
+use Rattle.initsim.proofs.SameRoot.{same_root}
 
-root_is_plain : (file : Option (List ℕ)) (content : List ℕ) (line : ℕ) → file ≡ Some content → plain_fault content ≡ None → IsRootFault file line → ⊥
-root_is_plain None content line is_there plain fault = cc
-root_is_plain (Some other) content line is_there plain fault = cc
+pub none_of : (line : Option ℕ) → ((number : ℕ) → line ≡ Some number → ⊥) → line ≡ None
+none_of None never = refl
+none_of (Some number) never = absurd (never number refl)
 
-plain_stop : (script : List ℕ) (tree : List (List ℕ × List ℕ)) (why : Stop) (acts : List Act) (content : List ℕ) (files files' left left' sink sink' : ℕ)
-    → IsPlainRun script tree acts content → IsStopOf script tree why
+some_none : (content : List ℕ) → Some content ≡ None → ⊥
+some_none content same = cc
+
+root_is_there : (tree : List (List ℕ × List ℕ)) (parsed : Parsed) → HasRoot tree parsed → file_at tree root_path ≡ None → ⊥
+root_is_there tree parsed root none = some_none root.content (sym root.file ∙ none)
+
+not_more : (size : ℕ) → size ≤ 1048576 → 1048576 < size → ⊥
+not_more size short more = omega (arith, short, more)
+
+root_is_short : (tree : List (List ℕ × List ℕ)) (parsed : Parsed) (limit : Limit) (number : ℕ)
+    → HasRoot tree parsed → IsTooLarge (file_at tree root_path) limit number → ⊥
+root_is_short tree parsed limit number root large =
+    not_more (length root.content) root.short (subst (λ file. IsTooLarge file limit number) root.file large).0
+
+no_line : (line : ℕ) → None ≡ Some line → ⊥
+no_line line same = cc
+
+root_is_built : (tree : List (List ℕ × List ℕ)) (parsed other : Parsed) (line : ℕ)
+    → HasRoot tree parsed → unbuilt_line parsed ≡ None → HasRoot tree other → unbuilt_line other ≡ Some line → ⊥
+root_is_built tree parsed other line root built read unbuilt =
+    no_line line (sym built ∙ ap unbuilt_line (same_root tree parsed other root read) ∙ unbuilt)
+
+runnable_stop : (script : List ℕ) (tree : List (List ℕ × List ℕ)) (why : Stop) (acts : List Act) (parsed : Parsed) (files files' left left' sink sink' : ℕ)
+    → IsRunnable script tree acts parsed → IsStopOf script tree why
     → AreCounted (has_read_fault {T = Job} (Err why)) files files' left left'
     → IsDoneUnlessRisen files files' left left' sink sink' (status_of why)
-plain_stop script tree stop.ReadFault acts content files files' left left' sink sink' plain stops counted = counted
-plain_stop script tree stop.NoMemory acts content files files' left left' sink sink' plain stops counted = tt
-plain_stop script tree (stop.Unbuilt true line) acts content files files' left left' sink sink' plain stops counted =
-    absurd (not_both script acts line plain.plain_script stops)
-plain_stop script tree (stop.Unbuilt false line) acts content files files' left left' sink sink' plain stops counted =
-    absurd (root_is_plain (file_at tree root_path) content line plain.file plain.plain_file stops.1)
+runnable_stop script tree stop.ReadFault acts parsed files files' left left' sink sink' runs stops counted = counted
+runnable_stop script tree stop.NoMemory acts parsed files files' left left' sink sink' runs stops counted = tt
+runnable_stop script tree stop.NoInit acts parsed files files' left left' sink sink' runs stops counted =
+    absurd (root_is_there tree parsed runs.root stops.1)
+runnable_stop script tree (stop.TooLarge limit number) acts parsed files files' left left' sink sink' runs stops counted =
+    absurd (root_is_short tree parsed limit number runs.root stops.1)
+runnable_stop script tree (stop.Unbuilt true line) acts parsed files files' left left' sink sink' runs stops counted =
+    absurd (not_both script acts line runs.plain_script stops)
+runnable_stop script tree (stop.Unbuilt false line) acts parsed files files' left left' sink sink' runs stops counted =
+    absurd (root_is_built tree parsed stops.1.0 line runs.root runs.built stops.1.1 stops.1.2)
 
-pub stop_of_plain : (script : Option (List ℕ)) (tree : Option (List (List ℕ × List ℕ))) (rest : Option (List ℕ)) (why : Stop) (files files' left left' sink sink' : ℕ)
-    → ArePlain script tree → Prepares script tree rest (Err why)
+pub stop_of_runnable : (script : Option (List ℕ)) (tree : Option (List (List ℕ × List ℕ))) (rest : Option (List ℕ)) (why : Stop) (files files' left left' sink sink' : ℕ)
+    → CanBeRun script tree → Prepares script tree rest (Err why)
     → AreCounted (has_read_fault {T = Job} (Err why)) files files' left left'
     → IsDoneUnlessRisen files files' left left' sink sink' (status_of why)
-stop_of_plain None tree rest why files files' left left' sink sink' plain stops counted = absurd plain
-stop_of_plain (Some script) None rest why files files' left left' sink sink' plain stops counted = absurd plain
-stop_of_plain (Some script) (Some tree) rest why files files' left left' sink sink' plain stops counted =
-    plain_stop script tree why plain.0 plain.1 files files' left left' sink sink' plain.2 stops counted
+stop_of_runnable None tree rest why files files' left left' sink sink' runs stops counted = absurd runs
+stop_of_runnable (Some script) None rest why files files' left left' sink sink' runs stops counted = absurd runs
+stop_of_runnable (Some script) (Some tree) rest why files files' left left' sink sink' runs stops counted =
+    runnable_stop script tree why runs.0 runs.1 files files' left left' sink sink' runs.2 stops counted

@@ -1,3 +1,9 @@
+pub mod Added
+pub mod AllBuilt
 pub mod Complete
+pub mod Exactly
 pub mod HasText
+pub mod Least
+pub mod RootRead
+pub mod SameRoot
 pub mod Turns

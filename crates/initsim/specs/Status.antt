@@ -9,4 +9,6 @@ code_of status.Usage = 1
 code_of status.ReadFault = 2
 code_of status.WriteFault = 3
 code_of status.NoMemory = 4
+code_of status.NoInit = 6
+code_of (status.TooLarge limit number) = 7
 code_of (status.Unbuilt script line) = 10

@@ -1,14 +1,17 @@
 //! Short histories of the core over the plain store: their expected texts were worked out by hand from the documented
 //! machine. `R` stands for the root file, `B` for a Boot and `N` for a Next.
 
-ghost use Rattle.std.specs.Prelude.{◌≡◌, false, OnOk};
+ghost use Rattle.std.specs.Prelude.{◌≡◌, false, IfOk, OnOk};
+ghost use Rattle.init_machine.specs.Built.{IsBuiltConfig};
 
-use crate::report::{config_of, report_of, take};
-use init_base::{IoRefusal, NoMemory, SteadySink, Text};
+use crate::prepare::job_of;
+use crate::report::{report_of, take};
+use init_base::{IoRefusal, List, NoMemory, SteadySink, Text};
 use init_core::Core;
-use init_machine::{Input, ListStore, PropStore};
+use init_machine::{Config, Input, ListStore, PropStore};
 use init_trace::print;
-use rc_parse::{PlainRefusal, plain};
+use rc_parse::parse;
+use rc_tokens::lines;
 use std::alloc::Global;
 use std::test::Fail;
 
@@ -125,25 +128,33 @@ fn take_one<S: PropStore>(core: &mut Core<S>, input: u8) -> Result<(), NoMemory>
     }
 }
 
-/// The report of the machine over a plain root file, an area of so many words and the inputs.
+/// The configuration of a file that can be run.
+fn config_of(alloc: Global, root: &[u8]) -> Result<Config, NoMemory>
+    ensures { IfOk result (λ config. IsBuiltConfig config) }
+{
+    let file = Text::of(alloc, b"R")?;
+    let Ok(tokens) = lines(alloc, root) else {
+        return Err(NoMemory);
+    };
+    match job_of(alloc, List::new(alloc), parse(alloc, &file, &tokens)?) {
+        Ok(job) => Ok(job.config),
+        Err(_) => Err(NoMemory),
+    }
+}
+
+/// The report of the machine over a root file, an area of so many words and the inputs.
 fn report_of_inputs(
     alloc: Global,
     root: &[u8],
     words: u64,
     inputs: &[u8],
 ) -> Result<Text, NoMemory> {
-    let file = Text::of(alloc, b"R")?;
-    let actions = match plain(alloc, &file, root) {
-        Ok(actions) => actions,
-        Err(PlainRefusal::Unbuilt { .. }) => return Text::of(alloc, b"unbuilt"),
-        Err(PlainRefusal::NoMemory) => return Err(NoMemory),
-    };
     let store = ListStore::new(alloc, words)?;
-    let mut core = Core::new(alloc, config_of(alloc, actions), store)?;
+    let mut core = Core::new(alloc, config_of(alloc, root)?, store)?;
     for input in inputs {
         take_one(&mut core, *input)?;
     }
-    let report = report_of(alloc, core);
+    let report = report_of(core, alloc, List::new(alloc));
     let mut out = SteadySink::new(alloc);
     match print(alloc, &report, &mut out) {
         Ok(()) => Text::of(alloc, out.taken()),

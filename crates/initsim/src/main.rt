@@ -8,10 +8,13 @@
 mod histories;
 mod prepare;
 mod report;
+mod root;
 mod status;
+mod stop;
 #[cfg(test)]
 mod tests;
 mod top;
+mod unbuilt;
 mod words;
 
 use init_base::{List, NoMemory, StdFiles, StdSink, StdSource, Text};
@@ -66,10 +69,12 @@ fn run(rt: &HostRuntime, words: &List<Text>) -> Result<Status, NoMemory> {
 fn report_stop(rt: &HostRuntime, status: Status) -> std::io::Result<()> {
     match status {
         Status::Done => Ok(()),
-        Status::Usage => eprintln!(rt; "initsim: usage: run ROOT SCRIPT"),
+        Status::Usage => eprintln!(rt; "initsim: usage: run ROOT SCRIPT | check ROOT"),
         Status::ReadFault => eprintln!(rt; "initsim: read fault"),
         Status::WriteFault => eprintln!(rt; "initsim: write fault"),
         Status::NoMemory => eprintln!(rt; "initsim: no memory"),
+        Status::NoInit => eprintln!(rt; "initsim: no init.rc"),
+        Status::TooLarge { number, .. } => eprintln!(rt; "initsim: too large {number}"),
         Status::Unbuilt { line, .. } => eprintln!(rt; "initsim: unbuilt line {line}"),
     }
 }

@@ -1,64 +1,29 @@
-//! What a run needs: the acts of the script, and the actions of the root file.
+//! Reading what is to be run: the script, and then the root file.
 
-ghost use Rattle.std.specs.Prelude.{◌≡◌, IfOk, IsTrue};
+ghost use Rattle.std.specs.Prelude.{◌≡◌, IsTrue, IfOk};
 ghost use Rattle.std.specs.List.{list_all};
 ghost use Rattle.init_base.specs.Faults.{Counted};
-ghost use Rattle.init_machine.specs.Built.{is_built_action};
-ghost use Rattle.initsim.specs.Prepared.{status_of, has_read_fault, IsActs, AreActions, ReadsScript, ReadsRoot, Prepares};
+ghost use Rattle.init_machine.specs.Built.{IsBuiltConfig};
+ghost use Rattle.rc_parse.specs.Sections.{has_command};
+ghost use Rattle.initsim.specs.Prepared.{has_read_fault, IsActs, IsJob, ReadsScript, Prepares};
 ghost use Rattle.initsim.specs.Causes.{AreCounted};
 
-use crate::status::Status;
-use init_base::{Files, List, NoMemory, ReadRefusal, Source, Text};
-use init_machine::Action;
+use crate::root::{Loaded, load, read_root};
+use crate::stop::Stop;
+use crate::unbuilt::unbuilt_line;
+use init_base::{Files, List, Source, Text};
+use init_machine::{Config, Diagnostic};
 use plain_script::script::{Act, MAX_SCRIPT_BYTES, ScriptRefusal, read};
 use plain_script::source::{SourceRefusal, read_all};
-use rc_parse::{PlainRefusal, plain};
+use rc_parse::Parsed;
 use std::alloc::Global;
 
-/// The path of the root file in the tree.
-const ROOT_FILE: &[u8] = b"/system/etc/init/hw/init.rc";
-
-/// The most bytes of an rc file.
-const MAX_RC_BYTES: usize = 1_048_576;
-
-/// What is to be run.
+/// What is to be run, and what is wrong in the root file.
 #[derive(Drop)]
 pub struct Job {
     pub acts: List<Act>,
-    pub actions: List<Action>,
-}
-
-/// Why nothing is run.
-#[derive(Clone, Copy, Debug, PartialEq, Eq)]
-pub enum Stop {
-    ReadFault,
-    NoMemory,
-    /// The script, or else the root file, is of a kind that isn't built yet, from this line on.
-    Unbuilt { script: bool, line: u32 },
-}
-
-impl From<NoMemory> for Stop {
-    ghost use Rattle.std.specs.Prelude.{◌≡◌};
-    ghost use Rattle.initsim.specs.declared.prepare.Stop.TheVariants.{NoMemory as stop_no_memory};
-
-    ghost from_gives = { λ _ stop. stop ≡ stop_no_memory };
-
-    fn from(_: NoMemory) -> Self {
-        Stop::NoMemory
-    }
-}
-
-impl Stop {
-    /// The status of a run that is stopped so.
-    pub fn status(self) -> Status
-        ensures { result ≡ status_of self }
-    {
-        match self {
-            Stop::ReadFault => Status::ReadFault,
-            Stop::NoMemory => Status::NoMemory,
-            Stop::Unbuilt { script, line } => Status::Unbuilt { script, line },
-        }
-    }
+    pub config: Config,
+    pub diagnostics: List<Diagnostic>,
 }
 
 /// The acts of the script.
@@ -91,37 +56,27 @@ fn acts_of(alloc: Global, text: &Text) -> Result<List<Act>, Stop>
     }
 }
 
-/// The actions of a root file's content.
-fn actions_of(alloc: Global, content: &Text) -> Result<List<Action>, Stop>
-    ensures actions { AreActions content.now result }
-    ensures built { IfOk result (λ actions. IsTrue (list_all is_built_action actions)) }
+/// The job of acts and sections, if all is built.
+pub fn job_of(alloc: Global, acts: List<Act>, parsed: Parsed) -> Result<Job, Stop>
+    requires { IsTrue (list_all has_command parsed.actions) }
+    ensures job { IsJob acts parsed result }
+    ensures built { IfOk result (λ job. IsBuiltConfig job.config) }
 {
-    let file = Text::of(alloc, ROOT_FILE)?;
-    match plain(alloc, &file, content.bytes()) {
-        Ok(actions) => Ok(actions),
-        Err(PlainRefusal::Unbuilt { line }) => Err(Stop::Unbuilt {
+    if let Some(line) = unbuilt_line(alloc, &parsed)? {
+        return Err(Stop::Unbuilt {
             script: false,
             line,
-        }),
-        Err(PlainRefusal::NoMemory) => Err(Stop::NoMemory),
+        });
     }
-}
-
-/// The actions of the root file.
-fn read_root<F: Files>(alloc: Global, files: &mut F) -> Result<List<Action>, Stop>
-    ensures actions { ReadsRoot (F.tree files.old) result }
-    ensures built { IfOk result (λ actions. IsTrue (list_all is_built_action actions)) }
-    ensures cause { Counted (has_read_fault result) (F.fault_count files.old) (F.fault_count files.new) }
-{
-    match files.read(alloc, ROOT_FILE, MAX_RC_BYTES) {
-        Ok(Some(content)) => actions_of(alloc, &content),
-        Ok(None) | Err(ReadRefusal::TooLarge) => Err(Stop::Unbuilt {
-            script: false,
-            line: 0,
-        }),
-        Err(ReadRefusal::Failed) => Err(Stop::ReadFault),
-        Err(ReadRefusal::NoMemory) => Err(Stop::NoMemory),
-    }
+    let Loaded {
+        config,
+        diagnostics,
+    } = load(alloc, parsed)?;
+    Ok(Job {
+        acts,
+        config,
+        diagnostics,
+    })
 }
 
 /// Reads the script to its end, and then the root file.
@@ -131,7 +86,7 @@ pub fn prepare<F: Files, S: Source>(
     source: &mut S,
 ) -> Result<Job, Stop>
     ensures job { Prepares (S.left source.old) (F.tree files.old) (S.left source.new) result }
-    ensures built { IfOk result (λ job. IsTrue (list_all is_built_action job.actions)) }
+    ensures built { IfOk result (λ job. IsBuiltConfig job.config) }
     ensures cause { AreCounted (has_read_fault result) (F.fault_count files.old) (F.fault_count files.new) (S.fault_count source.old) (S.fault_count source.new) }
 {
     let acts = match read_script(alloc, source) {
@@ -139,7 +94,7 @@ pub fn prepare<F: Files, S: Source>(
         Err(stop) => return Err(stop),
     };
     match read_root(alloc, files) {
-        Ok(actions) => Ok(Job { acts, actions }),
+        Ok(parsed) => job_of(alloc, acts, parsed),
         Err(stop) => Err(stop),
     }
 }

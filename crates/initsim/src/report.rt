@@ -1,17 +1,17 @@
 //! The run: the machine takes Boot, and then the acts of the script in order; its history makes the report.
 
-ghost use Rattle.std.specs.Prelude.{◌≡◌, ◌++◌, ◌∷◌, [], false, IfOk, OnOk, IsTrue, replicate};
-ghost use Rattle.std.specs.List.{flat_map, list_all};
-ghost use Rattle.init_machine.specs.Built.{is_built_action, IsBuiltInput};
+ghost use Rattle.std.specs.Prelude.{◌≡◌, ◌++◌, ◌∷◌, [], false, IfOk, OnOk, replicate};
+ghost use Rattle.std.specs.List.{flat_map};
+ghost use Rattle.init_machine.specs.Built.{IsBuiltConfig, IsBuiltInput};
 ghost use Rattle.init_machine.specs.History.{inputs_of};
 ghost use Rattle.init_machine.specs.declared.input.Input.TheVariants.{Next};
 ghost use Rattle.plain_script.specs.Script.{act_inputs};
 ghost use Rattle.init_trace.specs.HasText.{HasText};
-ghost use Rattle.initsim.specs.Run.{IsRunOf, IsReportOf, config_of as config_of_lem, report_of as report_of_lem};
+ghost use Rattle.initsim.specs.Run.{IsReportOf, report_of as report_of_lem};
 
 use init_base::{List, NoMemory};
 use init_core::{Core, CoreStop};
-use init_machine::{Action, Config, Input, ListStore, PropStore, Report};
+use init_machine::{Config, Diagnostic, Input, ListStore, PropStore, Report};
 use plain_script::script::Act;
 use std::alloc::Global;
 
@@ -61,28 +61,18 @@ fn take_acts<S: PropStore>(core: &mut Core<S>, acts: &List<Act>) -> Result<(), N
     Ok(())
 }
 
-/// A configuration of these actions, and of nothing else.
-pub fn config_of(alloc: Global, actions: List<Action>) -> Config
-    ensures { result ≡ config_of_lem actions }
-{
-    Config {
-        actions,
-        services: List::new(alloc),
-        pairs: List::new(alloc),
-        saved: List::new(alloc),
-        plans: List::new(alloc),
-        domains: List::new(alloc),
-    }
-}
-
-/// The report of a core's history alone.
-pub fn report_of<S: PropStore + Drop>(alloc: Global, core: Core<S>) -> Report
+/// The report of these diagnostics and a core's history.
+pub fn report_of<S: PropStore + Drop>(
+    core: Core<S>,
+    alloc: Global,
+    diagnostics: List<Diagnostic>,
+) -> Report
     requires { core.spent ≡ false }
-    ensures alone { result ≡ report_of_lem core.history }
+    ensures alone { result ≡ report_of_lem diagnostics core.history }
     ensures text { HasText result }
 {
     Report {
-        diagnostics: List::new(alloc),
+        diagnostics,
         history: core.into_history(),
         clients: List::new(alloc),
     }
@@ -92,26 +82,32 @@ pub fn report_of<S: PropStore + Drop>(alloc: Global, core: Core<S>) -> Report
 fn run_over<S: PropStore + Drop>(
     alloc: Global,
     store: S,
-    actions: List<Action>,
+    config: Config,
+    diagnostics: List<Diagnostic>,
     acts: &List<Act>,
 ) -> Result<Report, NoMemory>
-    requires built { IsTrue (list_all is_built_action actions) }
+    requires built { IsBuiltConfig config }
     requires empty { (S.meaning store).held ≡ [] }
     requires count { (S.meaning store).count ≡ 0 }
     requires capacity { (S.meaning store).capacity ≡ 65536 }
-    ensures { IfOk result (IsReportOf actions acts.now) }
+    ensures { IfOk result (IsReportOf config diagnostics acts.now) }
 {
-    let mut core = Core::new(alloc, config_of(alloc, actions), store)?;
+    let mut core = Core::new(alloc, config, store)?;
     take(&mut core, Input::Boot)?;
     take_acts(&mut core, acts)?;
-    Ok(report_of(alloc, core))
+    Ok(report_of(core, alloc, diagnostics))
 }
 
-/// Runs the acts. The report has the history alone.
-pub fn run(alloc: Global, actions: List<Action>, acts: &List<Act>) -> Result<Report, NoMemory>
-    requires { IsTrue (list_all is_built_action actions) }
-    ensures { IfOk result (IsReportOf actions acts.now) }
+/// Runs the acts. The report has these diagnostics and the history.
+pub fn run(
+    alloc: Global,
+    config: Config,
+    diagnostics: List<Diagnostic>,
+    acts: &List<Act>,
+) -> Result<Report, NoMemory>
+    requires { IsBuiltConfig config }
+    ensures { IfOk result (IsReportOf config diagnostics acts.now) }
 {
     let store = ListStore::new(alloc, AREA_WORDS)?;
-    run_over(alloc, store, actions, acts)
+    run_over(alloc, store, config, diagnostics, acts)
 }

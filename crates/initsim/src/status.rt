@@ -3,6 +3,13 @@
 ghost use Rattle.std.specs.Prelude.{◌≡◌};
 ghost use Rattle.initsim.specs.Status.{code_of};
 
+/// A limit that an input has passed.
+#[derive(Clone, Copy, Debug, PartialEq, Eq)]
+pub enum Limit {
+    /// The bytes of one file: 1,048,576.
+    FileBytes,
+}
+
 /// How a run of the program ended.
 #[derive(Clone, Copy, Debug, PartialEq, Eq)]
 pub enum Status {
@@ -16,8 +23,12 @@ pub enum Status {
     WriteFault,
     /// Memory ran out.
     NoMemory,
+    /// The tree has no root file.
+    NoInit,
+    /// A limit is passed. The number of a file's bytes is the limit and one more.
+    TooLarge { limit: Limit, number: u64 },
     /// A line of the script, or else of the root file, is of a kind that isn't built yet: the first such line, from 1.
-    /// Line 0 is that of a text that is too long, or absent.
+    /// Line 0 is that of a script that is too long.
     Unbuilt { script: bool, line: u32 },
 }
 
@@ -32,6 +43,8 @@ impl Status {
             Status::ReadFault => 2,
             Status::WriteFault => 3,
             Status::NoMemory => 4,
+            Status::NoInit => 6,
+            Status::TooLarge { .. } => 7,
             Status::Unbuilt { .. } => 10,
         }
     }

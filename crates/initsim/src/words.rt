@@ -1,17 +1,29 @@
 //! The words of the command line.
 
 ghost use Rattle.std.specs.Prelude.{◌≡◌};
-ghost use Rattle.initsim.specs.Form.{is_path_word as is_path_word_lem, is_run_form};
+ghost use Rattle.initsim.specs.Form.{form_of as form_of_lem, is_path_word as is_path_word_lem};
 
 use init_base::{List, Text};
 
-/// Whether the words are `run ROOT SCRIPT`.
-pub fn is_run(words: &List<Text>) -> bool
-    ensures { result ≡ is_run_form words.now }
+/// What the program is asked to do.
+#[derive(Clone, Copy, Debug, PartialEq, Eq)]
+pub enum Form {
+    /// `run ROOT SCRIPT`: the machine runs, and its report is written.
+    Run,
+    /// `check ROOT`: what is wrong in the root file is written.
+    Check,
+}
+
+/// The form of the words.
+pub fn form_of(words: &List<Text>) -> Option<Form>
+    ensures { result ≡ form_of_lem words.now }
 {
     match words.items() {
-        [form, root, script] => form.is(b"run") && is_path_word(root) && is_path_word(script),
-        _ => false,
+        [word, root] if word.is(b"check") && is_path_word(root) => Some(Form::Check),
+        [word, root, script] if word.is(b"run") && is_path_word(root) && is_path_word(script) => {
+            Some(Form::Run)
+        }
+        _ => None,
     }
 }
 

@@ -1,238 +1,332 @@
+//! Files and what they mean, worked out by hand from the rules.
+//!
+//! The rows of a table are parted by empty lines. A row is a file, and what it means, in lines that begin with `> `:
+//! its actions, its services, its imports and its diagnostics. An action is `onLINE<EVENT>(NAME=VALUE){LINE WORD<ARG>}`,
+//! with `(NAME*)` for a test of any value and with no blank before the word. A service is
+//! `serviceLINE<NAME><PATH><ARG>`, then its classes as `[CLASS]`, its marks, its times in milliseconds, its commands as
+//! an action's, and the options without effect as `(<WORD><ARG>)`.
+
+mod commands;
+mod files;
+mod merges;
+mod options;
+mod triggers;
+
+use self::commands::COMMANDS;
+use self::files::FILES;
+use self::merges::MERGES;
+use self::options::OPTIONS;
+use self::triggers::TRIGGERS;
 use super::*;
 use init_base::{List, Text};
-use init_machine::{Action, Command, Word};
+use init_machine::{Action, Command, Config, Diagnostic, ServiceDef};
 use std::alloc::Global;
 use std::test::Fail;
 
-/// Short files, and what they are: of each action and command its line's number and words, or `!` and the number of the
-/// first line that doesn't fit.
-const FILES: [(&[u8], &[u8]); 66] = [
-    // Sections.
-    (
-        b"on late-init\ntrigger boot\non boot\nsetprop a 1\n",
-        b"1 on late-init\n2 trigger boot\n3 on boot\n4 setprop a 1\n",
-    ),
-    (b"", b""),
-    (b"\n\n\n", b""),
-    (b"on a", b""),
-    (b"on a\n", b""),
-    (b"on a\nsetprop b 2", b"1 on a\n2 setprop b 2\n"),
-    (b"on a\n\nsetprop b 2\n\n", b"1 on a\n3 setprop b 2\n"),
-    (b"\n\non a\ntrigger b\n", b"3 on a\n4 trigger b\n"),
-    (
-        b"on a\nsetprop a 1\non b\non c\ntrigger d\n",
-        b"1 on a\n2 setprop a 1\n4 on c\n5 trigger d\n",
-    ),
-    (
-        b"on a\ntrigger b\non a\ntrigger c\nsetprop a 1\n",
-        b"1 on a\n2 trigger b\n3 on a\n4 trigger c\n5 setprop a 1\n",
-    ),
-    (b"on a\non a\n\ntrigger a", b"2 on a\n4 trigger a\n"),
-    (b"on on\ntrigger on", b"1 on on\n2 trigger on\n"),
-    (b"on propertya\ntrigger b", b"1 on propertya\n2 trigger b\n"),
-    (
-        b"on aproperty:b=c\ntrigger b",
-        b"1 on aproperty:b=c\n2 trigger b\n",
-    ),
-    (
-        b"on a\ntrigger property:b=c",
-        b"1 on a\n2 trigger property:b=c\n",
-    ),
-    (b"on !~\nsetprop a ~!", b"1 on !~\n2 setprop a ~!\n"),
-    (b"on &&\ntrigger '", b"1 on &&\n2 trigger '\n"),
-    (
-        b"on a\nsetprop A-b_c@9: ]",
-        b"1 on a\n2 setprop A-b_c@9: ]\n",
-    ),
-    // Lines of another word, or of another number of words.
-    (b"service s /bin/s", b"!1"),
-    (b"import /a", b"!1"),
-    (b"on", b"!1"),
-    (b"on a b", b"!1"),
-    (b"on a && b", b"!1"),
-    (b"On a", b"!1"),
-    (b"onn a", b"!1"),
-    (b"o n", b"!1"),
-    (b"on a\ntrigger", b"!2"),
-    (b"on a\ntrigger b c", b"!2"),
-    (b"on a\ntriggers b", b"!2"),
-    (b"on a\nsetprop", b"!2"),
-    (b"on a\nsetprop a", b"!2"),
-    (b"on a\nsetprop a 1 2", b"!2"),
-    (b"on a\nsetpro a 1", b"!2"),
-    (b"on a\nstart s", b"!2"),
-    (b"on a\nsetprop a 1\nb\nc\n", b"!3"),
-    // Spaces.
-    (b" on a", b"!1"),
-    (b"on a \ntrigger b", b"!1"),
-    (b"on  a", b"!1"),
-    (b"on ", b"!1"),
-    (b" ", b"!1"),
-    (b"\n ", b"!2"),
-    (b"on a\nsetprop a  1", b"!2"),
-    (b"on a\nsetprop a ", b"!2"),
-    (b"on a\nsetprop a 1 ", b"!2"),
-    (b"on a\nsetprop  1", b"!2"),
-    (b"on a\ntrigger ", b"!2"),
-    // Bytes.
-    (b"on\ta", b"!1"),
-    (b"on a\r\ntrigger b\r\n", b"!1"),
-    (b"on a\n# b\n", b"!2"),
-    (b"on a\nsetprop a b#c", b"!2"),
-    (b"on a\nsetprop a $b", b"!2"),
-    (b"on a\nsetprop a \"1\"", b"!2"),
-    (b"on a\nsetprop a b\\c", b"!2"),
-    (b"on a\ntrigger $b", b"!2"),
-    (b"on \"a\"", b"!1"),
-    (b"on a\x7f", b"!1"),
-    (b"on \x80", b"!1"),
-    (b"on a\x00", b"!1"),
-    // Triggers on properties, and names.
-    (b"on property:a=b\nsetprop a 1", b"!1"),
-    (b"on property:", b"!1"),
-    (b"on a\nsetprop a.b 1", b"!2"),
-    (b"on a\nsetprop . 1", b"!2"),
-    (b"on a\nsetprop a/b 1", b"!2"),
-    // A command before any section.
-    (b"setprop a 1\non a\n", b"!1"),
-    (b"\n\ntrigger a\non a\n", b"!3"),
-    (b"\nsetprop a.b 1", b"!2"),
-];
+/// The name of the file that is read, but where two are merged.
+const FILE: &[u8] = b"/init.rc";
 
-/// Adds a line: its number, the word and the arguments.
-fn add_line(
-    alloc: Global,
-    out: &mut Vec<u8>,
-    number: u32,
-    word: &[u8],
-    args: &[Text],
-) -> Result<(), Fail> {
-    let number = format!(in alloc; "{number} ")?;
-    out.extend_from_slice(number.as_bytes())?;
-    out.extend_from_slice(word)?;
-    for arg in args {
-        out.push(b' ')?;
-        out.extend_from_slice(arg.bytes())?;
-    }
-    out.push(b'\n')?;
+/// What stands before each line of what a file means.
+const NEXT: &[u8] = b"\n> ";
+
+fn add_number(out: &mut Vec<u8>, alloc: Global, number: u64) -> Result<(), Fail> {
+    out.extend_from_slice(format!(in alloc; "{number}")?.as_bytes())?;
     Ok(())
 }
 
-fn add_command(alloc: Global, out: &mut Vec<u8>, command: &Command) -> Result<(), Fail> {
-    let word: &[u8] = match command.word {
-        Word::Setprop => b"setprop",
-        Word::Trigger => b"trigger",
-        _ => b"?",
-    };
-    let word: &[u8] = if command.file.is(b"R") { word } else { b"??" };
-    add_line(alloc, out, command.line, word, command.args.items())
-}
-
-fn add_action(alloc: Global, out: &mut Vec<u8>, action: &Action) -> Result<(), Fail> {
-    let number = format!(in alloc; "{} on ", action.line)?;
-    out.extend_from_slice(number.as_bytes())?;
-    match &action.event {
-        Some(event) => out.extend_from_slice(event.bytes())?,
-        None => out.push(b'?')?,
-    }
-    if !action.props.is_empty() || !action.file.is(b"R") {
+/// Adds a line's number, and a `?` where the file is another than the one that was read.
+fn add_place(out: &mut Vec<u8>, alloc: Global, file: &Text, line: u32) -> Result<(), Fail> {
+    add_number(out, alloc, u64::from(line))?;
+    if !file.is(FILE) {
         out.push(b'?')?;
     }
-    out.push(b'\n')?;
-    for command in action.commands.items() {
-        add_command(alloc, out, command)?;
+    Ok(())
+}
+
+fn add_word(out: &mut Vec<u8>, word: &Text) -> Result<(), Fail> {
+    out.push(b'<')?;
+    out.extend_from_slice(word.bytes())?;
+    out.push(b'>')?;
+    Ok(())
+}
+
+fn add_words(out: &mut Vec<u8>, words: &[Text]) -> Result<(), Fail> {
+    for word in words {
+        add_word(out, word)?;
     }
     Ok(())
 }
 
-/// What a file is, as in `FILES`.
-fn told(alloc: Global, bytes: &[u8]) -> Result<Vec<u8>, Fail> {
-    let file = Text::of(alloc, b"R")?;
-    let mut out = Vec::new(alloc);
-    match plain(alloc, &file, bytes) {
-        Ok(actions) => {
-            for action in actions.items() {
-                add_action(alloc, &mut out, action)?;
-            }
-        }
-        Err(PlainRefusal::Unbuilt { line }) => {
-            let line = format!(in alloc; "!{line}")?;
-            out.extend_from_slice(line.as_bytes())?;
-        }
-        Err(PlainRefusal::NoMemory) => return Err(Fail::new("no memory")),
+/// Adds commands as `{LINE WORD <ARG> ..}`, without the blanks.
+fn add_commands(out: &mut Vec<u8>, alloc: Global, commands: &[Command]) -> Result<(), Fail> {
+    for command in commands {
+        out.push(b'{')?;
+        add_place(out, alloc, &command.file, command.line)?;
+        out.extend_from_slice(command.word.name())?;
+        add_words(out, command.args.items())?;
+        out.push(b'}')?;
     }
+    Ok(())
+}
+
+/// Adds an action: its line, its event, its tests as `(NAME=VALUE)` or `(NAME*)`, and its commands.
+fn add_action(out: &mut Vec<u8>, alloc: Global, action: &Action) -> Result<(), Fail> {
+    out.extend_from_slice(b"\n> on")?;
+    add_place(out, alloc, &action.file, action.line)?;
+    if let Some(event) = &action.event {
+        add_word(out, event)?;
+    }
+    for test in action.props.items() {
+        out.push(b'(')?;
+        out.extend_from_slice(test.name.bytes())?;
+        match &test.value {
+            Some(value) => {
+                out.push(b'=')?;
+                out.extend_from_slice(value.bytes())?;
+            }
+            None => out.push(b'*')?,
+        }
+        out.push(b')')?;
+    }
+    add_commands(out, alloc, action.commands.items())?;
+    Ok(())
+}
+
+/// Adds the classes, each as `[CLASS]`, and the marks that are on.
+fn add_marks(out: &mut Vec<u8>, alloc: Global, service: &ServiceDef) -> Result<(), Fail> {
+    for class in service.classes.items() {
+        out.push(b'[')?;
+        out.extend_from_slice(class.bytes())?;
+        out.push(b']')?;
+    }
+    if service.disabled {
+        out.extend_from_slice(b" disabled")?;
+    }
+    if service.oneshot {
+        out.extend_from_slice(b" oneshot")?;
+    }
+    if service.overrides {
+        out.extend_from_slice(b" override")?;
+    }
+    if let Some(critical) = &service.critical {
+        out.extend_from_slice(b" critical ")?;
+        add_number(out, alloc, critical.window.0)?;
+        add_word(out, &critical.target)?;
+    }
+    Ok(())
+}
+
+/// Adds a service: its line and words, its classes and marks, its times in milliseconds, its commands, and the options
+/// without effect, each as `(<WORD> ..)`.
+fn add_service(out: &mut Vec<u8>, alloc: Global, service: &ServiceDef) -> Result<(), Fail> {
+    out.extend_from_slice(b"\n> service")?;
+    add_place(out, alloc, &service.file, service.line)?;
+    add_word(out, &service.name)?;
+    add_word(out, &service.path)?;
+    add_words(out, service.args.items())?;
+    add_marks(out, alloc, service)?;
+    out.extend_from_slice(b" period ")?;
+    add_number(out, alloc, service.period.0)?;
+    if let Some(timeout) = service.timeout {
+        out.extend_from_slice(b" timeout ")?;
+        add_number(out, alloc, timeout.0)?;
+    }
+    add_commands(out, alloc, service.onrestart.items())?;
+    for words in service.kept.items() {
+        out.push(b'(')?;
+        add_words(out, words.items())?;
+        out.push(b')')?;
+    }
+    Ok(())
+}
+
+/// Adds what a file was read as.
+fn add_parsed(out: &mut Vec<u8>, alloc: Global, parsed: &Parsed) -> Result<(), Fail> {
+    for action in parsed.actions.items() {
+        add_action(out, alloc, action)?;
+    }
+    for service in parsed.services.items() {
+        add_service(out, alloc, service)?;
+    }
+    for import in parsed.imports.items() {
+        out.extend_from_slice(NEXT)?;
+        out.extend_from_slice(b"import")?;
+        add_number(out, alloc, u64::from(import.line))?;
+        add_word(out, &import.path)?;
+    }
+    for diagnostic in parsed.diagnostics.items() {
+        out.extend_from_slice(NEXT)?;
+        add_place(out, alloc, &diagnostic.file, diagnostic.line)?;
+        out.extend_from_slice(format!(in alloc; " {:?}", diagnostic.kind)?.as_bytes())?;
+    }
+    Ok(())
+}
+
+fn parsed(alloc: Global, file: &[u8], text: &[u8]) -> Result<Parsed, Fail> {
+    let tokens = rc_tokens::lines(alloc, text)?;
+    Ok(parse(alloc, &Text::of(alloc, file)?, &tokens)?)
+}
+
+/// The file of a row.
+fn file_of(row: &str) -> &str {
+    match row.split_once("\n> ") {
+        Some((file, _)) => file,
+        None => row,
+    }
+}
+
+/// The file of a row, and what it means.
+fn read_again(alloc: Global, row: &str) -> Result<Vec<u8>, Fail> {
+    let file = file_of(row).as_bytes();
+    let mut out = Vec::from_slice(alloc, file)?;
+    add_parsed(&mut out, alloc, &parsed(alloc, FILE, file)?)?;
     Ok(out)
 }
 
 #[test]
-fn short_files(rt: HostRuntime) -> Result<(), Fail> {
-    for (bytes, expected) in FILES {
-        let out = told(rt.alloc(), bytes)?;
-        assert_eq!(rt; out.as_slice(), expected, "{bytes:?}");
-    }
-    Ok(())
-}
-
-/// `on a`, and a `setprop` line of a name and a value of these lengths.
-fn lengths(alloc: Global, name: usize, value: usize) -> Result<Vec<u8>, Fail> {
-    let mut file = Vec::from_slice(alloc, b"on a\nsetprop ")?;
-    file.extend_from_slice(vec![in alloc; b'n'; name]?.as_slice())?;
-    file.push(b' ')?;
-    file.extend_from_slice(vec![in alloc; b'v'; value]?.as_slice())?;
-    Ok(file)
-}
-
-#[test]
-fn longest_names_and_values(rt: HostRuntime) -> Result<(), Fail> {
-    let alloc = rt.alloc();
-    for (name, value, fits) in [
-        (1, 91, true),
-        (1, 92, false),
-        (255, 1, true),
-        (255, 91, true),
-        (256, 1, false),
-        (0, 1, false),
-        (1, 0, false),
-    ] {
-        let file = lengths(alloc, name, value)?;
-        let out = told(alloc, file.as_slice())?;
-        assert_eq!(rt; out.as_slice() != b"!2".as_slice(), fits, "{name} {value}");
-    }
-    Ok(())
-}
-
-/// `on a`, this many `setprop` lines, and a last line.
-fn many_sets(alloc: Global, sets: usize, last: &[u8]) -> Result<Vec<u8>, Fail> {
-    let mut file = Vec::from_slice(alloc, b"on a\n")?;
-    for _ in 0..sets {
-        file.extend_from_slice(b"setprop a 1\n")?;
-    }
-    file.extend_from_slice(last)?;
-    Ok(file)
-}
-
-#[test]
-fn thousand_sets(rt: HostRuntime) -> Result<(), Fail> {
-    let alloc = rt.alloc();
-    let file = Text::of(alloc, b"R")?;
-    let sets = many_sets(alloc, 1000, b"trigger b\non c\n")?;
-    let actions = plain(alloc, &file, sets.as_slice())?;
-    assert_eq!(rt; actions.len(), 1);
-    assert_eq!(rt; actions.items()[0].commands.len(), 1001);
-    let sets = many_sets(alloc, 1000, b"on b\nsetprop a 1\n")?;
-    let out = told(alloc, sets.as_slice())?;
-    assert_eq!(rt; out.as_slice(), b"!1003".as_slice());
+fn section_diagnostics(rt: HostRuntime) -> Result<(), Fail> {
+    let row = r"start x
+on a b
+start x
+service s
+on a
+bounce
+setprop a
+> 1 Orphan
+> 2 BadTrigger
+> 4 BadService
+> 6 BadWord
+> 7 BadArity";
+    let text = read_again(rt.alloc(), row)?;
+    assert_eq!(rt; text.as_slice(), row.as_bytes());
     Ok(())
 }
 
 #[test]
-fn largest_file(rt: HostRuntime) -> Result<(), Fail> {
+fn files_mean(rt: HostRuntime) -> Result<(), Fail> {
+    for row in FILES.split("\n\n") {
+        let text = read_again(rt.alloc(), row)?;
+        assert_eq!(rt; text.as_slice(), row.as_bytes(), "at {row}");
+    }
+    Ok(())
+}
+
+#[test]
+fn triggers_mean(rt: HostRuntime) -> Result<(), Fail> {
+    for row in TRIGGERS.split("\n\n") {
+        let text = read_again(rt.alloc(), row)?;
+        assert_eq!(rt; text.as_slice(), row.as_bytes(), "at {row}");
+    }
+    Ok(())
+}
+
+#[test]
+fn commands_mean(rt: HostRuntime) -> Result<(), Fail> {
+    for row in COMMANDS.split("\n\n") {
+        let text = read_again(rt.alloc(), row)?;
+        assert_eq!(rt; text.as_slice(), row.as_bytes(), "at {row}");
+    }
+    Ok(())
+}
+
+#[test]
+fn options_mean(rt: HostRuntime) -> Result<(), Fail> {
+    for row in OPTIONS.split("\n\n") {
+        let text = read_again(rt.alloc(), row)?;
+        assert_eq!(rt; text.as_slice(), row.as_bytes(), "at {row}");
+    }
+    Ok(())
+}
+
+/// What stands before and behind a name of so many bytes, and whether the name is legal there.
+const LONGEST: [(&[u8], usize, &[u8], bool); 4] = [
+    (b"service ", 246, b" /s", true),
+    (b"service ", 247, b" /s", false),
+    (b"on property:", 255, b"=1", true),
+    (b"on property:", 256, b"=1", false),
+];
+
+/// Adds a name of so many bytes.
+fn add_name(out: &mut Vec<u8>, count: usize) -> Result<(), Fail> {
+    for _ in 0..count {
+        out.push(b'a')?;
+    }
+    Ok(())
+}
+
+#[test]
+fn longest_names(rt: HostRuntime) -> Result<(), Fail> {
     let alloc = rt.alloc();
-    let file = Text::of(alloc, b"R")?;
-    let lines = vec![in alloc; b'\n'; 1_048_577]?;
-    let largest = plain(alloc, &file, &lines.as_slice()[1..])?;
-    assert!(rt; largest.is_empty());
-    let out = told(alloc, lines.as_slice())?;
-    assert_eq!(rt; out.as_slice(), b"!0".as_slice());
+    for (before, count, behind, legal) in LONGEST {
+        let mut file = Vec::from_slice(alloc, before)?;
+        add_name(&mut file, count)?;
+        file.extend_from_slice(behind)?;
+        let parsed = parsed(alloc, FILE, file.as_slice())?;
+        assert_eq!(rt; parsed.diagnostics.is_empty(), legal, "at {count}");
+    }
+    Ok(())
+}
+
+fn empty_config(alloc: Global) -> Config {
+    Config {
+        actions: List::new(alloc),
+        services: List::new(alloc),
+        pairs: List::new(alloc),
+        saved: List::new(alloc),
+        plans: List::new(alloc),
+        domains: List::new(alloc),
+    }
+}
+
+/// Adds a file's name and a line.
+fn add_line(out: &mut Vec<u8>, alloc: Global, file: &Text, line: u32) -> Result<(), Fail> {
+    out.extend_from_slice(file.bytes())?;
+    add_number(out, alloc, u64::from(line))
+}
+
+/// Adds the places of the actions, and the places, names and paths of the services.
+fn add_config(out: &mut Vec<u8>, alloc: Global, config: &Config) -> Result<(), Fail> {
+    for action in config.actions.items() {
+        out.extend_from_slice(b"\n> on ")?;
+        add_line(out, alloc, &action.file, action.line)?;
+    }
+    for service in config.services.items() {
+        out.extend_from_slice(NEXT)?;
+        add_line(out, alloc, &service.file, service.line)?;
+        add_word(out, &service.name)?;
+        add_word(out, &service.path)?;
+    }
+    Ok(())
+}
+
+/// Adds the places and kinds of diagnostics.
+fn add_agains(out: &mut Vec<u8>, alloc: Global, agains: &[Diagnostic]) -> Result<(), Fail> {
+    for again in agains {
+        out.extend_from_slice(NEXT)?;
+        add_line(out, alloc, &again.file, again.line)?;
+        out.extend_from_slice(format!(in alloc; " {:?}", again.kind)?.as_bytes())?;
+    }
+    Ok(())
+}
+
+/// The files `a` and `b` of a row, which a line `--` parts, and what they leave together.
+fn merge_again(alloc: Global, row: &str) -> Result<Vec<u8>, Fail> {
+    let files = file_of(row);
+    let (first, second) = files.split_once("\n--\n").unwrap_or((files, ""));
+    let mut config = empty_config(alloc);
+    let mut agains = merge(alloc, &mut config, parsed(alloc, b"a", first.as_bytes())?)?;
+    agains.append(merge(alloc, &mut config, parsed(alloc, b"b", second.as_bytes())?)?)?;
+    let mut out = Vec::from_slice(alloc, files.as_bytes())?;
+    add_config(&mut out, alloc, &config)?;
+    add_agains(&mut out, alloc, agains.items())?;
+    Ok(out)
+}
+
+#[test]
+fn service_again_and_override(rt: HostRuntime) -> Result<(), Fail> {
+    for row in MERGES.split("\n\n") {
+        let text = merge_again(rt.alloc(), row)?;
+        assert_eq!(rt; text.as_slice(), row.as_bytes(), "at {row}");
+    }
     Ok(())
 }

@@ -1,0 +1,46 @@
+-- The first `=` of a text.
+use Rattle.std.proofs.Common.{◌≡◌, ℕ, ◌+◌, ◌-◌, Bool, true, false, ◌||◌, not, cond, List, [], ◌∷◌, length, take, drop, refl, ap, sym, ◌∙◌, Option, Some, None, arith, suc, nat_lt, IsTrue, ◌↔◌}
+use Rattle.std.specs.List.{list_any, position, position_or_len}
+use Rattle.std.specs.Option.{IsSome, is_some}
+use Rattle.std.proofs.lemmas.List.{take_rest}
+use Rattle.std.proofs.lemmas.Bool.{lt-ltb, ltb-true}
+use Rattle.std.specs.Cmp.{both_ways}
+use Rattle.rc_parse.specs.Joining.{Parts}
+use Rattle.rc_parse.specs.Triggers.{is_equals_sign}
+
+-- an answer that is there exactly where a test holds
+pub some_test : {A : Type 0} (answer : Option A) (b : Bool) → IsSome answer ↔ IsTrue b → is_some answer ≡ b
+some_test None true h = let e : false ≡ true = h.1 refl in cc
+some_test None false h = refl
+some_test (Some value) true h = refl
+some_test (Some value) false h = sym (h.0 refl)
+
+found : (t : Bool) (a place : ℕ) → cond t (Some a) None ≡ Some place → (t ≡ true) × (a ≡ place)
+found true a place h = (refl, cc)
+found false a place h = cc
+
+not_found : (t : Bool) (a : ℕ) → cond t (Some a) None ≡ None → t ≡ false
+not_found true a h = cc
+not_found false a h = refl
+
+any_more : (t rest : Bool) (n m : ℕ) → rest ≡ nat_lt n m → (t || rest) ≡ nat_lt (cond (not t) (1 + n) 0) (suc m)
+any_more true rest n m h = sym (lt-ltb 0 (suc m) (omega arith))
+any_more false rest n m h =
+    h ∙ both_ways (nat_lt n m) (nat_lt (1 + n) (suc m)) (λ t. lt-ltb (1 + n) (suc m) (omega (arith, ltb-true n m t))) (λ t. lt-ltb n m (omega (arith, ltb-true (1 + n) (suc m) t)))
+
+any_passes : (p : ℕ → Bool) (xs : List ℕ) → list_any p xs ≡ nat_lt (position_or_len p xs) (length xs)
+any_passes p [] = refl
+any_passes p (x ∷ xs) = any_more (p x) (list_any p xs) (position_or_len p xs) (length xs) (any_passes p xs)
+
+pub parts_found : (text : List ℕ) (place : ℕ) → Some place ≡ position is_equals_sign text
+    → Parts text (take place text) (take (length text - (place + 1)) (drop (place + 1) text))
+parts_found text place h =
+    let f = found (nat_lt (position_or_len is_equals_sign text) (length text)) (position_or_len is_equals_sign text) place (sym h) in
+    record {
+      has_sign = any_passes is_equals_sign text ∙ f.0;
+      name_is = ap (λ (n : ℕ). take n text) (sym f.1);
+      value_is = take_rest text (place + 1) ∙ ap (λ (n : ℕ). drop (n + 1) text) (sym f.1);
+    }
+
+pub no_parts : (text : List ℕ) → None ≡ position is_equals_sign text → list_any is_equals_sign text ≡ false
+no_parts text h = any_passes is_equals_sign text ∙ not_found _ (position_or_len is_equals_sign text) (sym h)

@@ -1,0 +1,129 @@
+-- The values of a service's options: times, and what `critical` is given (AOSP, init's README, "Services"; the limits are
+-- this project's profile).
+use Rattle.std.specs.Prelude.{ℕ, ◌+◌, ◌-◌, ◌*◌, Bool, ◌&&◌, ◌||◌, ◌==◌, nat_eq, nat_le, nat_lt, if◌then◌else◌, List, [], ◌∷◌, length, codes, drop, take, Option, Some, None, Result, Ok, Err}
+use Rattle.std.specs.List.{fold, list_all, list_any, flat_map, starts_with, ends_with}
+use Rattle.std.specs.Str.{bytes_eq}
+use Rattle.init_base.specs.Name.{is_legal_name}
+use Rattle.init_base.specs.declared.units.Millis.{Millis}
+use Rattle.init_machine.specs.declared.diagnostic.DiagKind.{DiagKind}
+use Rattle.init_machine.specs.declared.diagnostic.DiagKind.TheVariants.{BadOption}
+use Rattle.init_machine.specs.declared.service.Critical.{Critical}
+use Rattle.rc_parse.specs.Readings.{values}
+use Rattle.rc_parse.specs.Triggers.{is_bad}
+use Rattle.rc_parse.specs.declared.critical.CriticalPart.{CriticalPart}
+use Rattle.rc_parse.specs.declared.critical.CriticalPart.TheVariants.{Window, Target}
+
+abbrev pub is_digit : ℕ → Bool
+is_digit b = nat_le 48 b && nat_le b 57
+
+-- what decimal digits mean
+abbrev pub number_of : List ℕ → ℕ
+number_of digits = fold (λ number b. number * 10 + (b - 48)) 0 digits
+
+-- one to seven decimal digits, of at most 1,000,000
+abbrev pub is_number : List ℕ → Bool
+is_number text =
+    nat_le 1 (length text) && nat_le (length text) 7 && list_all is_digit text && nat_le (number_of text) 1000000
+
+-- a number of at least this one
+abbrev pub number_from : ℕ → List ℕ → Option ℕ
+number_from least text = if is_number text && nat_le least (number_of text) then Some (number_of text) else None
+
+abbrev pub millis : ℕ → Millis
+millis number = record { 0 = number }
+
+-- the last of some values, or else another one
+abbrev pub last_value : {A : Type 0} → A → List A → A
+last_value other [] = other
+last_value other (value ∷ later) = last_value value later
+
+-- A window in minutes. `Some None` is `off`: the service isn't critical.
+abbrev pub plain_window : List ℕ → Option (Option ℕ)
+plain_window text =
+    if bytes_eq text (codes "off") then Some None
+    else if is_number text then Some (Some (number_of text))
+    else None
+
+-- what stands between `${` and a `}` at the end
+abbrev pub inside_braces : List ℕ → Option (List ℕ)
+inside_braces text =
+    if starts_with nat_eq text (codes "${") && ends_with nat_eq text (codes "}")
+    then Some (take (length text - 3) (drop 2 text)) else None
+
+abbrev pub onto_front : ℕ → Option (List ℕ × List ℕ) → Option (List ℕ × List ℕ)
+onto_front b None = None
+onto_front b (Some parts) = Some (b ∷ parts.0, parts.1)
+
+-- what stands before the first `:-`, and what stands behind it
+abbrev pub parts_at_default : List ℕ → Option (List ℕ × List ℕ)
+parts_at_default [] = None
+parts_at_default (b ∷ text) =
+    if starts_with nat_eq (b ∷ text) (codes ":-") then Some ([], drop 1 text) else onto_front b (parts_at_default text)
+
+abbrev pub legal_default : Option (List ℕ × List ℕ) → Option (List ℕ)
+legal_default None = None
+legal_default (Some parts) = if is_legal_name parts.0 then Some parts.1 else None
+
+abbrev pub default_inside : Option (List ℕ) → Option (List ℕ)
+default_inside None = None
+default_inside (Some inside) = legal_default (parts_at_default inside)
+
+-- the window in `${NAME:-WINDOW}`
+abbrev pub default_window : List ℕ → Option (List ℕ)
+default_window text = default_inside (inside_braces text)
+
+-- a window as it is written, or as the default of a property, which isn't looked up
+abbrev pub window_or_default : List ℕ → Option (List ℕ) → Option (Option ℕ)
+window_or_default text None = plain_window text
+window_or_default text (Some default) = plain_window default
+
+abbrev pub window_of : List ℕ → Option (Option ℕ)
+window_of text = window_or_default text (default_window text)
+
+abbrev pub window_part : Option (Option ℕ) → Result CriticalPart DiagKind
+window_part None = Err BadOption
+window_part (Some window) = Ok (Window window)
+
+-- a target isn't empty
+abbrev pub target_part : List ℕ → Result CriticalPart DiagKind
+target_part target = if length target == 0 then Err BadOption else Ok (Target target)
+
+-- `window=WINDOW` or `target=TARGET`
+abbrev pub part_of : List ℕ → Result CriticalPart DiagKind
+part_of word =
+    if starts_with nat_eq word (codes "window=") then window_part (window_of (drop 7 word))
+    else if starts_with nat_eq word (codes "target=") then target_part (drop 7 word)
+    else Err BadOption
+
+abbrev pub windows_in : CriticalPart → List (Option ℕ)
+windows_in (Window window) = window ∷ []
+windows_in (Target target) = []
+
+abbrev pub targets_in : CriticalPart → List (List ℕ)
+targets_in (Window window) = []
+targets_in (Target target) = target ∷ []
+
+abbrev pub parts_of : List (List ℕ) → List CriticalPart
+parts_of args = flat_map (λ arg. values (part_of arg)) args
+
+abbrev pub windows_of : List (List ℕ) → List (Option ℕ)
+windows_of args = flat_map windows_in (parts_of args)
+
+abbrev pub targets_of : List (List ℕ) → List (List ℕ)
+targets_of args = flat_map targets_in (parts_of args)
+
+-- an argument out of form, or two of one key
+abbrev pub has_bad_part : List (List ℕ) → Bool
+has_bad_part args =
+    list_any (λ arg. is_bad (part_of arg)) args || nat_lt 1 (length (windows_of args)) || nat_lt 1 (length (targets_of args))
+
+-- a window `off` takes the mark away
+abbrev pub critical_for : Option ℕ → List ℕ → Option Critical
+critical_for None target = None
+critical_for (Some minutes) target = Some (record { window = millis (minutes * 60000); target = target })
+
+-- The arguments of `critical`. Without a window it is four minutes, without a target `bootloader`.
+abbrev pub critical_of : List (List ℕ) → Result (Option Critical) DiagKind
+critical_of args =
+    if has_bad_part args then Err BadOption
+    else Ok (critical_for (last_value (Some 4) (windows_of args)) (last_value (codes "bootloader") (targets_of args)))

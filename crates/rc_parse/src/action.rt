@@ -1,0 +1,81 @@
+//! Action sections.
+
+ghost use Rattle.std.specs.Prelude.{◌≡◌, ◌++◌, true, IfOk, OnOk};
+ghost use Rattle.rc_parse.specs.Adding.{command_diagnostics, section_of, with_action, with_section};
+ghost use Rattle.rc_parse.specs.Lines.{is_on};
+ghost use Rattle.rc_parse.specs.Sections.{commands_of};
+
+use crate::command::command;
+use crate::fault::Fault;
+use crate::parsed::{Parsed, diagnose};
+use crate::trigger::{Triggers, read_triggers};
+use crate::words::arguments;
+use init_base::{List, NoMemory, Text};
+use init_machine::{Action, Command, Diagnostic};
+use rc_tokens::Line;
+use std::alloc::Global;
+
+/// The commands of these lines. What is wrong in them is added to the diagnostics.
+fn commands(
+    alloc: Global,
+    file: &Text,
+    lines: &[Line],
+    diagnostics: &mut List<Diagnostic>,
+) -> Result<List<Command>, NoMemory>
+    ensures commands { IfOk result (λ commands. commands ≡ commands_of file.now lines.now) }
+    ensures diagnostics { OnOk result (diagnostics.new ≡ diagnostics.old ++ command_diagnostics file.now lines.now) }
+{
+    let mut commands = List::new(alloc);
+    for line in lines {
+        match command(alloc, file, line.number, line.words.items()) {
+            Ok(command) => commands.push(command)?,
+            Err(Fault::Bad(kind)) => diagnose(diagnostics, alloc, file, line.number, kind)?,
+            Err(Fault::NoMemory) => return Err(NoMemory),
+        }
+    }
+    Ok(commands)
+}
+
+/// Adds the action with these triggers and lines, if it has a command.
+fn add_triggered(
+    parsed: &mut Parsed,
+    alloc: Global,
+    file: &Text,
+    line: u32,
+    triggers: Triggers,
+    body: &[Line],
+) -> Result<(), NoMemory>
+    ensures { OnOk result (parsed.new ≡ with_action file.now parsed.old line triggers body.now) }
+{
+    let commands = commands(alloc, file, body, &mut parsed.diagnostics)?;
+    if commands.is_empty() {
+        return Ok(());
+    }
+    parsed.actions.push(Action {
+        file: file.copy(alloc)?,
+        line,
+        event: triggers.event,
+        props: triggers.props,
+        commands,
+    })
+}
+
+/// Adds an `on` section.
+pub fn add_action(
+    parsed: &mut Parsed,
+    alloc: Global,
+    file: &Text,
+    header: &Line,
+    body: &[Line],
+) -> Result<(), NoMemory>
+    requires { is_on header.now ≡ true }
+    ensures { OnOk result (parsed.new ≡ with_section file.now parsed.old (section_of header.now body.now)) }
+{
+    match read_triggers(alloc, arguments(header.words.items())) {
+        Ok(triggers) => add_triggered(parsed, alloc, file, header.number, triggers, body),
+        Err(Fault::Bad(kind)) => {
+            diagnose(&mut parsed.diagnostics, alloc, file, header.number, kind)
+        }
+        Err(Fault::NoMemory) => Err(NoMemory),
+    }
+}

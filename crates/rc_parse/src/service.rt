@@ -1,0 +1,145 @@
+//! Service sections.
+
+ghost use Rattle.std.specs.Prelude.{◌≡◌, ◌++◌, ◌∷◌, [], true, false, IfOk, OnOk};
+ghost use Rattle.std.specs.List.{flat_map};
+ghost use Rattle.rc_parse.specs.Adding.{section_of, with_section};
+ghost use Rattle.rc_parse.specs.Lines.{is_on, is_service};
+ghost use Rattle.rc_parse.specs.Readings.{diagnosed, values};
+ghost use Rattle.rc_parse.specs.Sections.{setting_at, settings_of};
+ghost use Rattle.rc_parse.specs.Services.{is_service_name as is_service_name_lem, service_with};
+ghost use Rattle.rc_parse.specs.Settings.{with_setting, with_settings};
+
+use crate::fault::Fault;
+use crate::parsed::{Parsed, diagnose};
+use crate::setting::{Setting, read_setting};
+use crate::words::{arguments, copies, is_legal_name};
+use init_base::{List, Millis, NoMemory, Text};
+use init_machine::{DiagKind, Diagnostic, ServiceDef};
+use rc_tokens::Line;
+use std::alloc::Global;
+
+/// The longest name of a service, in bytes: `init.svc.NAME` is a property.
+const LONGEST_NAME: usize = 246;
+
+const DEFAULT_CLASS: &[u8] = b"default";
+
+const DEFAULT_PERIOD: Millis = Millis(5000);
+
+fn is_service_name(name: &[u8]) -> bool
+    ensures { result ≡ is_service_name_lem name.now }
+{
+    is_legal_name(name) && name.len() <= LONGEST_NAME
+}
+
+/// A service without options.
+fn new_service(
+    alloc: Global,
+    file: &Text,
+    line: u32,
+    name: &Text,
+    path: &Text,
+    args: &[Text],
+) -> Result<ServiceDef, NoMemory>
+    ensures { IfOk result (λ service. service ≡ service_with file.now line (name.now ∷ path.now ∷ args.now) []) }
+{
+    let mut classes = List::new(alloc);
+    classes.push(Text::of(alloc, DEFAULT_CLASS)?)?;
+    Ok(ServiceDef {
+        name: name.copy(alloc)?,
+        path: path.copy(alloc)?,
+        args: copies(alloc, args)?,
+        file: file.copy(alloc)?,
+        line,
+        classes,
+        disabled: false,
+        oneshot: false,
+        overrides: false,
+        critical: None,
+        period: DEFAULT_PERIOD,
+        timeout: None,
+        onrestart: List::new(alloc),
+        kept: List::new(alloc),
+    })
+}
+
+/// Sets an option. A later one of its word takes the place of an earlier one; commands and options without effect add.
+fn set(service: &mut ServiceDef, setting: Setting) -> Result<(), NoMemory>
+    ensures { OnOk result (service.new ≡ with_setting service.old setting) }
+{
+    match setting {
+        Setting::Classes(classes) => service.classes = classes,
+        Setting::Disabled => service.disabled = true,
+        Setting::Oneshot => service.oneshot = true,
+        Setting::Override => service.overrides = true,
+        Setting::Critical(critical) => service.critical = critical,
+        Setting::Onrestart(command) => service.onrestart.push(command)?,
+        Setting::Period(period) => service.period = period,
+        Setting::Timeout(timeout) => service.timeout = Some(timeout),
+        Setting::Kept(words) => service.kept.push(words)?,
+    }
+    Ok(())
+}
+
+/// Sets the option of a line. What is wrong in it is added to the diagnostics.
+fn set_option(
+    service: &mut ServiceDef,
+    alloc: Global,
+    file: &Text,
+    line: &Line,
+    diagnostics: &mut List<Diagnostic>,
+) -> Result<(), NoMemory>
+    ensures service { OnOk result (service.new ≡ with_settings service.old (values (setting_at file.now line.now))) }
+    ensures diagnostics { OnOk result (diagnostics.new ≡ diagnostics.old ++ diagnosed file.now line.now.number (setting_at file.now line.now)) }
+{
+    match read_setting(alloc, file, line.number, line.words.items()) {
+        Ok(setting) => set(service, setting),
+        Err(Fault::Bad(kind)) => diagnose(diagnostics, alloc, file, line.number, kind),
+        Err(Fault::NoMemory) => Err(NoMemory),
+    }
+}
+
+/// Sets the options of these lines. What is wrong in them is added to the diagnostics.
+fn set_options(
+    service: &mut ServiceDef,
+    alloc: Global,
+    file: &Text,
+    lines: &[Line],
+    diagnostics: &mut List<Diagnostic>,
+) -> Result<(), NoMemory>
+    ensures service { OnOk result (service.new ≡ with_settings service.old (settings_of file.now lines.now)) }
+    ensures diagnostics { OnOk result (diagnostics.new ≡ diagnostics.old ++ flat_map (λ line. diagnosed file.now line.number (setting_at file.now line)) lines.now) }
+{
+    for line in lines {
+        set_option(service, alloc, file, line, diagnostics)?;
+    }
+    Ok(())
+}
+
+/// Adds a `service` section.
+pub fn add_service(
+    parsed: &mut Parsed,
+    alloc: Global,
+    file: &Text,
+    header: &Line,
+    body: &[Line],
+) -> Result<(), NoMemory>
+    requires other { is_on header.now ≡ false }
+    requires service { is_service header.now ≡ true }
+    ensures { OnOk result (parsed.new ≡ with_section file.now parsed.old (section_of header.now body.now)) }
+{
+    let line = header.number;
+    match arguments(header.words.items()) {
+        [name, path, args @ ..] if is_service_name(name.bytes()) && !path.is_empty() => {
+            let mut service = new_service(alloc, file, line, name, path, args)?;
+            set_options(&mut service, alloc, file, body, &mut parsed.diagnostics)?;
+            parsed.services.push(service)
+        }
+        _ => diagnose(
+            &mut parsed.diagnostics,
+            alloc,
+            file,
+            line,
+            DiagKind::BadService,
+        ),
+    }
+}

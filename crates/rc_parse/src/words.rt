@@ -1,0 +1,74 @@
+//! Words, and what a line is by its first one.
+
+ghost use Rattle.std.specs.Prelude.{◌≡◌, IfOk};
+ghost use Rattle.init_base.specs.Name.{is_legal_name as is_legal_name_lem};
+ghost use Rattle.rc_parse.specs.Lines.{arguments as arguments_lem, first_word as first_word_lem, is_header as is_header_lem, is_import as is_import_lem, is_on as is_on_lem, is_service as is_service_lem};
+
+use init_base::{List, NoMemory, PropName, Text};
+use rc_tokens::Line;
+use std::alloc::Global;
+
+/// The first of some words, or the empty word.
+pub fn first_word(words: &[Text]) -> &[u8]
+    ensures { result.now ≡ first_word_lem words.entry.now }
+{
+    match words {
+        [] => &[],
+        [word, ..] => word.bytes(),
+    }
+}
+
+/// The words behind the first one.
+pub fn arguments(words: &[Text]) -> &[Text]
+    ensures { result.now ≡ arguments_lem words.entry.now }
+{
+    match words {
+        [] => &[],
+        [_, arguments @ ..] => arguments,
+    }
+}
+
+/// Whether a line begins an action.
+pub fn is_on(line: &Line) -> bool
+    ensures { result ≡ is_on_lem line.now }
+{
+    first_word(line.words.items()) == b"on".as_slice()
+}
+
+/// Whether a line begins a service.
+pub fn is_service(line: &Line) -> bool
+    ensures { result ≡ is_service_lem line.now }
+{
+    first_word(line.words.items()) == b"service".as_slice()
+}
+
+fn is_import(line: &Line) -> bool
+    ensures { result ≡ is_import_lem line.now }
+{
+    first_word(line.words.items()) == b"import".as_slice()
+}
+
+/// Whether a line begins a section.
+pub fn is_header(line: &Line) -> bool
+    ensures { result ≡ is_header_lem line.now }
+{
+    is_on(line) || is_service(line) || is_import(line)
+}
+
+/// Whether a text is the name of a property.
+pub fn is_legal_name(name: &[u8]) -> bool
+    ensures { result ≡ is_legal_name_lem name.now }
+{
+    PropName::of(name).is_some()
+}
+
+/// Copies of these words.
+pub fn copies(alloc: Global, words: &[Text]) -> Result<List<Text>, NoMemory>
+    ensures { IfOk result (λ copies. copies ≡ words.now) }
+{
+    let mut copies = List::new(alloc);
+    for word in words {
+        copies.push(word.copy(alloc)?)?;
+    }
+    Ok(copies)
+}
