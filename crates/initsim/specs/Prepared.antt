@@ -25,6 +25,10 @@ abbrev pub is_read_stop : Stop → Bool
 is_read_stop stop.ReadFault = true
 is_read_stop _ = false
 
+abbrev pub is_unbuilt_stop : Stop → Bool
+is_unbuilt_stop (stop.Unbuilt script line) = true
+is_unbuilt_stop _ = false
+
 -- whether a fault was answered
 abbrev pub has_read_fault : {T : Type 0} → Result T Stop → Bool
 has_read_fault (Ok value) = false

@@ -28,6 +28,10 @@ abbrev pub is_usage : Status → Bool
 is_usage status.Usage = true
 is_usage _ = false
 
+abbrev pub is_unbuilt : Status → Bool
+is_unbuilt (status.Unbuilt script line) = true
+is_unbuilt _ = false
+
 -- nothing is written before the run
 abbrev pub IsUnwritten : Option (List ℕ) → Option (List ℕ) → Status → Type 0
 IsUnwritten old new status.Done = Unit {0}

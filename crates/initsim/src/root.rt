@@ -1,10 +1,10 @@
 //! The root file: its sections, and what stays of them.
 
-ghost use Rattle.std.specs.Prelude.{◌≡◌, [], IsTrue, IfOk};
+ghost use Rattle.std.specs.Prelude.{◌≡◌, [], false, IsTrue, IfErr, IfOk};
 ghost use Rattle.std.specs.List.{list_all};
 ghost use Rattle.init_base.specs.Faults.{Counted};
 ghost use Rattle.rc_parse.specs.Sections.{has_command};
-ghost use Rattle.initsim.specs.Prepared.{AreSections, IsLoadOf, ReadsRoot, has_read_fault};
+ghost use Rattle.initsim.specs.Prepared.{AreSections, IsLoadOf, ReadsRoot, has_read_fault, is_unbuilt_stop};
 
 use crate::status::Limit;
 use crate::stop::Stop;
@@ -38,6 +38,7 @@ pub struct Loaded {
 /// The sections of a root file's content.
 fn sections_of(alloc: Global, content: &Text) -> Result<Parsed, Stop>
     ensures sections { AreSections content.now result }
+    ensures whole { IfErr result (λ stop. is_unbuilt_stop stop ≡ false) }
     ensures commands { IfOk result (λ parsed. IsTrue (list_all has_command parsed.actions)) }
 {
     let file = Text::of(alloc, ROOT_FILE)?;
@@ -51,6 +52,7 @@ fn sections_of(alloc: Global, content: &Text) -> Result<Parsed, Stop>
 /// The sections of the root file.
 pub fn read_root<F: Files>(alloc: Global, files: &mut F) -> Result<Parsed, Stop>
     ensures sections { ReadsRoot (F.tree files.old) result }
+    ensures whole { IfErr result (λ stop. is_unbuilt_stop stop ≡ false) }
     ensures commands { IfOk result (λ parsed. IsTrue (list_all has_command parsed.actions)) }
     ensures cause { Counted (has_read_fault result) (F.fault_count files.old) (F.fault_count files.new) }
 {

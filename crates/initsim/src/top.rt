@@ -6,7 +6,7 @@ ghost use Rattle.init_machine.specs.Built.{IsBuiltConfig};
 ghost use Rattle.initsim.specs.Causes.{AreCounted};
 ghost use Rattle.initsim.specs.Form.{form_of as form_of_lem};
 ghost use Rattle.initsim.specs.Run.{CheckWhereTold, OutcomeWhereTold, RunWhereTold};
-ghost use Rattle.initsim.specs.Top.{CanBeChecked, CanBeDone, CanBeRun, Checked, IsDoneUnlessRisen, IsUnwritten, Performed, is_read_fault, is_usage, is_write_fault};
+ghost use Rattle.initsim.specs.Top.{CanBeChecked, CanBeDone, CanBeRun, Checked, IsDoneUnlessRisen, IsUnwritten, Performed, is_read_fault, is_unbuilt, is_usage, is_write_fault};
 ghost use Rattle.initsim.specs.declared.words.Form.TheVariants.{Check};
 
 use crate::prepare::{Job, prepare};
@@ -75,6 +75,7 @@ fn run_script<F: Files, S: Source, K: Sink>(
 fn check<F: Files, K: Sink>(alloc: Global, files: &mut F, out: &mut K) -> Status
     ensures outcome { CheckWhereTold (F.tree files.old) (K.taken out.old) (K.taken out.new) result }
     ensures formed { is_usage result ≡ false }
+    ensures whole { is_unbuilt result ≡ false }
     ensures read_fault { Counted (is_read_fault result) (F.fault_count files.old) (F.fault_count files.new) }
     ensures write_fault { Counted (is_write_fault result) (K.fault_count out.old) (K.fault_count out.new) }
     ensures unwritten { IsUnwritten (K.taken out.old) (K.taken out.new) result }
@@ -115,6 +116,9 @@ pub fn initsim<F: Files, S: Source, K: Sink>(
 
     // Before the run nothing is written, also where nothing is told.
     ensures unwritten { IsUnwritten (K.taken out.old) (K.taken out.new) result }
+
+    // All that is in a root file can be checked, also where nothing is told.
+    ensures whole { form_of_lem words.now ≡ Some Check → is_unbuilt result ≡ false }
 
     // A check leaves the script alone.
     ensures unread { form_of_lem words.now ≡ Some Check → script.new ≡ script.old }
