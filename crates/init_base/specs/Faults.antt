@@ -21,15 +21,15 @@ abbrev pub source_failed : Result ℕ Failed → Bool
 source_failed (Ok count) = false
 source_failed (Err refusal) = true
 
--- whether a write to a sink answered a fault
-abbrev pub sink_failed : {T : Type 0} → Result T IoRefusal → Bool
-sink_failed (Ok value) = false
-sink_failed (Err io.Failed) = true
-sink_failed (Err io.NoMemory) = false
+-- whether a write answered a fault
+abbrev pub write_failed : {T : Type 0} → Result T IoRefusal → Bool
+write_failed (Ok value) = false
+write_failed (Err io.Failed) = true
+write_failed (Err io.NoMemory) = false
 
--- whether a call of files answered a fault
-abbrev pub files_failed : {T : Type 0} → Result T ReadRefusal → Bool
-files_failed (Ok value) = false
-files_failed (Err reading.Failed) = true
-files_failed (Err reading.TooLarge) = false
-files_failed (Err reading.NoMemory) = false
+-- whether a call that reads a text or names answered a fault
+abbrev pub read_failed : {T : Type 0} → Result T ReadRefusal → Bool
+read_failed (Ok value) = false
+read_failed (Err reading.Failed) = true
+read_failed (Err reading.TooLarge) = false
+read_failed (Err reading.NoMemory) = false

@@ -1,6 +1,11 @@
+pub mod Crash
 pub mod Faults
+pub mod Keeping
 pub mod Memory
 pub mod Name
 pub mod Outside
+pub mod Quoted
+pub mod Reading
+pub mod Text
 pub mod Tree
 pub mod Value

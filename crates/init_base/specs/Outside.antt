@@ -7,7 +7,7 @@ use Rattle.init_base.specs.declared.outside.refusal.ReadRefusal.{ReadRefusal}
 use Rattle.init_base.specs.declared.outside.refusal.ReadRefusal.TheVariants.{Failed, TooLarge, NoMemory}
 
 -- a write takes at most the piece, and something of a piece that isn't empty
-abbrev pub TakesSome : Result ℕ IoRefusal → List ℕ → Type 0
+abbrev pub TakesSome : {E : Type 0} → Result ℕ E → List ℕ → Type 0
 TakesSome (Ok count) [] = count ≡ 0
 TakesSome (Ok count) (byte ∷ rest) = (0 < count) × (count ≤ length (byte ∷ rest))
 TakesSome (Err refusal) piece = ⊤

@@ -4,7 +4,9 @@
 //! is not proved: the adapters are the trusted edge. A value of an adapter is its count of faults to contracts.
 
 pub(crate) mod count;
+pub(crate) mod fault;
 pub(crate) mod files;
+pub(crate) mod keeper;
 pub(crate) mod machine;
 pub(crate) mod sink;
 pub(crate) mod source;

@@ -4,6 +4,7 @@
 //! count of faults is the constant 0. Their values to contracts stand in `specs/Memory.antt`.
 
 pub(crate) mod files;
+pub(crate) mod keeper;
 pub(crate) mod plan;
 pub(crate) mod sink;
 pub(crate) mod source;

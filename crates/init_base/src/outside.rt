@@ -4,6 +4,7 @@
 //! `specs/Faults.antt` says. What an object holds is told optionally: the clauses on content hold where it is told.
 
 pub(crate) mod files;
+pub(crate) mod keeper;
 pub(crate) mod refusal;
 pub(crate) mod sink;
 pub(crate) mod source;

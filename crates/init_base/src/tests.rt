@@ -1,10 +1,12 @@
 //! Worked names and values, the traits through their bounds over memory and over the machine, and each call that may
 //! answer `NoMemory` with ample memory.
 
+ghost use Rattle.std.specs.Prelude.{Some};
+
 use crate::*;
 use std::alloc::Global;
-use std::fs;
 use std::test::Fail;
+use std::{fs, thread};
 
 /// A text of one byte, so many times.
 fn repeated(alloc: Global, byte: u8, count: usize) -> Result<Text, NoMemory> {
@@ -12,7 +14,7 @@ fn repeated(alloc: Global, byte: u8, count: usize) -> Result<Text, NoMemory> {
     for _ in 0..count {
         bytes.push(byte)?;
     }
-    Ok(Text::from_vec(bytes))
+    Text::from_vec(bytes)
 }
 
 fn is_legal_name(name: &[u8]) -> bool {
@@ -58,10 +60,33 @@ fn lists_grow_with_ample_memory(rt: HostRuntime) -> Result<(), Fail> {
     let mut others = List::new(alloc);
     others.push(b'c')?;
     letters.append(others)?;
-    let text = Text::of(alloc, letters.items())?.copy(alloc)?;
+    let text = Text::of(alloc, letters.items())?.share()?;
     assert!(rt; text.is(b"abc"));
     assert!(rt; !text.is(b"abd"));
     assert_eq!(rt; letters.pop(), Some(b'c'));
+    Ok(())
+}
+
+#[test]
+fn parts_of_a_text(rt: HostRuntime) -> Result<(), Fail> {
+    let alloc = rt.alloc();
+    let long = Text::of(alloc, b"one text of more than thirty bytes, shared")?;
+    let text = long.slice(4, 41)?;
+    assert!(rt; text.is(b"text of more than thirty bytes, share"));
+    assert!(rt; text.slice(1, 35)?.is(b"ext of more than thirty bytes, sha"));
+    assert!(rt; text.slice(5, 7)?.is(b"of"));
+    assert!(rt; Text::empty().is_empty());
+    Ok(())
+}
+
+#[test]
+fn texts_are_shared_by_threads(rt: HostRuntime) -> Result<(), Fail> {
+    let text = Text::of(rt.alloc(), b"one text of more than thirty bytes, shared")?;
+    let shared = text.share()?;
+    let first = thread::spawn(&rt, move || shared.len())?;
+    let (second, third) = thread::join(&rt, || text.len(), || text.is_utf8());
+    assert_eq!(rt; first.join(&rt), second);
+    assert!(rt; third);
     Ok(())
 }
 
@@ -72,7 +97,7 @@ fn reads<S: Source>(alloc: Global, source: &mut S, count: usize) -> Result<Text,
         read_once(&mut line, source)?;
         line.push(b' ')?;
     }
-    Ok(Text::from_vec(line))
+    Text::from_vec(line)
 }
 
 fn read_once<S: Source>(line: &mut Vec<u8>, source: &mut S) -> Result<(), NoMemory> {
@@ -85,22 +110,15 @@ fn read_once<S: Source>(line: &mut Vec<u8>, source: &mut S) -> Result<(), NoMemo
 }
 
 #[test]
-fn source_in_memory_fails_by_number(rt: HostRuntime) -> Result<(), Fail> {
+fn sources_in_memory(rt: HostRuntime) -> Result<(), Fail> {
     let alloc = rt.alloc();
     let mut fail = List::new(alloc);
     fail.push(2)?;
     let mut source = MemSource::new(Text::of(alloc, b"abc")?, fail);
     assert!(rt; reads(alloc, &mut source, 4)?.is(b"ab ! c  "));
     assert_eq!(rt; source.faults(), 1);
-    Ok(())
-}
-
-#[test]
-fn steady_source_gives_all_bytes(rt: HostRuntime) -> Result<(), Fail> {
-    let alloc = rt.alloc();
     let mut source = SteadySource::new(Text::of(alloc, b"abc")?);
     assert!(rt; reads(alloc, &mut source, 3)?.is(b"ab c  "));
-    assert_eq!(rt; source.faults(), 0);
     Ok(())
 }
 
@@ -111,20 +129,109 @@ fn source_of_the_machine(rt: HostRuntime) -> Result<(), Fail> {
     let mut source = StdSource::at(&rt, alloc, &Text::of(alloc, b"letters")?)?;
     assert!(rt; reads(alloc, &mut source, 3)?.is(b"ab c  "));
     assert_eq!(rt; source.faults(), 0);
-    Ok(())
-}
-
-#[test]
-fn absent_source_fails_each_time(rt: HostRuntime) -> Result<(), Fail> {
-    let alloc = rt.alloc();
     let mut source = StdSource::at(&rt, alloc, &Text::of(alloc, b"absent")?)?;
     assert!(rt; reads(alloc, &mut source, 2)?.is(b"! ! "));
     assert_eq!(rt; source.faults(), 2);
+    assert_eq!(rt; said(alloc, source.last_fault())?.as_str(), ABSENT);
+    Ok(())
+}
+
+const ABSENT: &str = "absent: No such file or directory (os error 2)";
+
+/// What the system said, as it is printed.
+fn said(alloc: Global, fault: Option<&Fault>) -> Result<String, NoMemory> {
+    match fault {
+        Some(fault) => Ok(format!(in alloc; "{fault}")?),
+        None => Ok(String::new(alloc)),
+    }
+}
+
+/// A source that gives at most three bytes at once.
+#[derive(Drop)]
+struct Slow {
+    inner: MemSource,
+}
+
+impl Source for Slow {
+    ghost left = { λ s. Some s.inner.content };
+
+    ghost fault_count = { λ s. s.inner.calls.faults };
+
+    fn faults(&self) -> u64 {
+        self.inner.faults()
+    }
+
+    fn read(&mut self, buf: &mut [u8]) -> Result<usize, Failed> {
+        let room = buf.len().min(3);
+        self.inner.read(&mut buf[..room])
+    }
+}
+
+/// What reading ten bytes to their end gives, of which three are read at once; a call of this number fails.
+fn read_ten(alloc: Global, call: u64, limit: usize) -> Result<bool, ReadRefusal> {
+    let mut fail = List::new(alloc);
+    fail.push(call)?;
+    let inner = MemSource::new(Text::of(alloc, b"0123456789")?, fail);
+    let text = read_all(alloc, &mut Slow { inner }, limit)?;
+    Ok(text.is(b"0123456789"))
+}
+
+/// Reads 1 to 4 give the bytes, and read 5 the end.
+#[test]
+fn sources_are_read_to_their_end(rt: HostRuntime) {
+    let alloc = rt.alloc();
+    assert_eq!(rt; read_ten(alloc, 6, 10), Ok(true));
+    assert_eq!(rt; read_ten(alloc, 6, 9), Err(ReadRefusal::TooLarge));
+    assert_eq!(rt; read_ten(alloc, 5, 10), Err(ReadRefusal::Failed));
+}
+
+/// The texts that a keeper loads and takes in turn, each with a blank behind it. `>` is too large, `!` a fault.
+fn loads<K: Keeper>(alloc: Global, keeper: &mut K, texts: &[&[u8]]) -> Result<Text, NoMemory> {
+    let mut line = Vec::new(alloc);
+    for text in texts {
+        match keeper.load(alloc, 2) {
+            Ok(held) => line.extend_from_slice(held.bytes())?,
+            Err(refusal) => put_refusal(&mut line, refusal)?,
+        }
+        line.push(b' ')?;
+        if keeper.replace(alloc, text) == Err(IoRefusal::Failed) {
+            line.push(b'!')?;
+        }
+    }
+    Text::from_vec(line)
+}
+
+#[test]
+fn keepers_in_memory(rt: HostRuntime) -> Result<(), Fail> {
+    let alloc = rt.alloc();
+    let mut keeper = SteadyKeeper::new(Text::of(alloc, b"a")?);
+    assert!(rt; loads(alloc, &mut keeper, &[b"one", b"", b"b"])?.is(b"a >  "));
+    let mut fail = List::new(alloc);
+    fail.push(2)?;
+    let mut keeper = MemKeeper::new(Text::of(alloc, b"a")?, fail);
+    assert!(rt; loads(alloc, &mut keeper, &[b"b", b"c", b""])?.is(b"a !a c "));
+    assert_eq!(rt; keeper.faults(), 1);
     Ok(())
 }
 
 #[test]
-fn sink_in_memory_fails_by_number(rt: HostRuntime) -> Result<(), Fail> {
+fn keeper_of_the_machine(rt: HostRuntime) -> Result<(), Fail> {
+    let alloc = rt.alloc();
+    let mut keeper = StdKeeper::at(&rt, alloc, &Text::of(alloc, b"kept")?)?;
+    assert!(rt; loads(alloc, &mut keeper, &[b"one", b"", b"b", b"c"])?.is(b" >  b "));
+    assert_eq!(rt; fs::read(&rt, "kept")?.as_slice(), b"c".as_slice());
+    let mut keeper = StdKeeper::at(&rt, alloc, &Text::of(alloc, b"absent/kept")?)?;
+    assert!(rt; loads(alloc, &mut keeper, &[b"a"])?.is(b" !"));
+    Ok(())
+}
+
+/// Writes a piece and an empty one, which both are taken whole.
+fn takes_pieces<K: Sink>(alloc: Global, sink: &mut K) -> bool {
+    sink.write(alloc, b"ab\n") == Ok(3) && sink.write(alloc, b"") == Ok(0) && sink.faults() == 0
+}
+
+#[test]
+fn sinks_in_memory(rt: HostRuntime) -> Result<(), Fail> {
     let alloc = rt.alloc();
     let mut fail = List::new(alloc);
     fail.push(2)?;
@@ -135,11 +242,6 @@ fn sink_in_memory_fails_by_number(rt: HostRuntime) -> Result<(), Fail> {
     assert_eq!(rt; sink.taken(), b"abd".as_slice());
     assert_eq!(rt; sink.faults(), 1);
     Ok(())
-}
-
-/// Writes a piece and an empty one, which both are taken whole.
-fn takes_pieces<K: Sink>(alloc: Global, sink: &mut K) -> bool {
-    sink.write(alloc, b"ab\n") == Ok(3) && sink.write(alloc, b"") == Ok(0) && sink.faults() == 0
 }
 
 #[test]
@@ -170,7 +272,7 @@ fn lists<F: Files>(alloc: Global, files: &mut F, dirs: &[&[u8]]) -> Result<Text,
             Err(refusal) => put_refusal(&mut line, refusal)?,
         }
     }
-    Ok(Text::from_vec(line))
+    Text::from_vec(line)
 }
 
 fn put_names(line: &mut Vec<u8>, names: &[Text]) -> Result<(), NoMemory> {
@@ -203,7 +305,7 @@ fn contents<F: Files>(alloc: Global, files: &mut F, paths: &[&[u8]]) -> Result<T
         }
         line.push(b' ')?;
     }
-    Ok(Text::from_vec(line))
+    Text::from_vec(line)
 }
 
 fn sample(alloc: Global) -> Result<SteadyFiles, NoMemory> {
@@ -218,7 +320,7 @@ fn sample(alloc: Global) -> Result<SteadyFiles, NoMemory> {
 }
 
 #[test]
-fn directories_in_memory(rt: HostRuntime) -> Result<(), Fail> {
+fn files_in_memory(rt: HostRuntime) -> Result<(), Fail> {
     let alloc = rt.alloc();
     let mut files = sample(alloc)?;
     let dirs: [&[u8]; 6] = [
@@ -231,14 +333,6 @@ fn directories_in_memory(rt: HostRuntime) -> Result<(), Fail> {
     ];
     let names = lists(alloc, &mut files, &dirs)?;
     assert!(rt; names.is(b"[b.rc a.rc ][b.rc a.rc ][][init.rc ]--"));
-    assert_eq!(rt; files.faults(), 0);
-    Ok(())
-}
-
-#[test]
-fn files_in_memory(rt: HostRuntime) -> Result<(), Fail> {
-    let alloc = rt.alloc();
-    let mut files = sample(alloc)?;
     let paths: [&[u8]; 5] = [
         b"/etc/init/b.rc",
         b"/etc/init/a.rc",
@@ -247,7 +341,6 @@ fn files_in_memory(rt: HostRuntime) -> Result<(), Fail> {
         b"/absent",
     ];
     assert!(rt; contents(alloc, &mut files, &paths)?.is(b"B AA > - - "));
-    assert_eq!(rt; files.faults(), 0);
     Ok(())
 }
 
@@ -261,34 +354,6 @@ fn files_in_memory_fail_by_number(rt: HostRuntime) -> Result<(), Fail> {
     assert!(rt; lists(alloc, &mut files, &[b"/", b"/"])?.is(b"![a ]"));
     assert!(rt; contents(alloc, &mut files, &[b"/a", b"/a"])?.is(b"! A "));
     assert_eq!(rt; files.faults(), 2);
-    Ok(())
-}
-
-/// A tree with so many files in one directory.
-fn crowded(alloc: Global, count: u32) -> Result<SteadyFiles, NoMemory> {
-    let mut entries = List::new(alloc);
-    for number in 0..count {
-        let path = format!(in alloc; "/d/{number}")?;
-        entries.push((Text::of(alloc, path.as_bytes())?, Text::empty(alloc)))?;
-    }
-    Ok(SteadyFiles::new(entries))
-}
-
-/// How many names were listed. None where there are too many.
-fn name_count(outcome: Result<Option<List<Text>>, ReadRefusal>) -> Option<usize> {
-    match outcome {
-        Ok(Some(names)) => Some(names.len()),
-        _ => None,
-    }
-}
-
-#[test]
-fn directories_list_at_most_1024_names(rt: HostRuntime) -> Result<(), Fail> {
-    let alloc = rt.alloc();
-    let mut files = crowded(alloc, 1_024)?;
-    assert_eq!(rt; name_count(files.list(alloc, b"/d")), Some(1_024));
-    let mut files = crowded(alloc, 1_025)?;
-    assert_eq!(rt; name_count(files.list(alloc, b"/d")), None);
     Ok(())
 }
 
@@ -306,7 +371,7 @@ fn directories_of_the_machine(rt: HostRuntime) -> Result<(), Fail> {
     let alloc = rt.alloc();
     make_tree(&rt, ["one", "one/sub", "one/a.rc", "one/sub/b.rc"])?;
     let mut files = StdFiles::at(&rt, alloc, &Text::of(alloc, b"one")?)?;
-    let dirs: [&[u8]; 5] = [b"/", b"/sub", b"/a.rc", b"/absent", b"/sub\0"];
+    let dirs: [&[u8]; 5] = [b"/", b"/sub", b"/a.rc", b"/sub\0", b"/absent"];
     assert!(rt; lists(alloc, &mut files, &dirs)?.is(b"[a.rc ][b.rc ]---"));
     assert_eq!(rt; files.faults(), 0);
     Ok(())
@@ -317,9 +382,17 @@ fn files_of_the_machine(rt: HostRuntime) -> Result<(), Fail> {
     let alloc = rt.alloc();
     make_tree(&rt, ["two", "two/sub", "two/a.rc", "two/sub/b.rc"])?;
     let mut files = StdFiles::at(&rt, alloc, &Text::of(alloc, b"two")?)?;
-    let paths: [&[u8]; 5] = [b"/a.rc", b"/sub/b.rc", b"/sub", b"/a.rc/b", b"/\xff"];
-    assert!(rt; contents(alloc, &mut files, &paths)?.is(b"AA > - - - "));
-    assert_eq!(rt; files.faults(), 0);
+    let paths: [&[u8]; 6] = [
+        b"/a.rc",
+        b"/sub/b.rc",
+        b"/sub",
+        b"/a.rc/b",
+        b"/\xff",
+        b"/absent",
+    ];
+    assert!(rt; contents(alloc, &mut files, &paths)?.is(b"AA > - - - - "));
+    let want = "two/absent: No such file or directory (os error 2)";
+    assert_eq!(rt; said(alloc, files.last_fault())?.as_str(), want);
     let long_name = repeated(alloc, b'/', 5_000)?;
     assert!(rt; contents(alloc, &mut files, &[long_name.bytes()])?.is(b"! "));
     assert_eq!(rt; files.faults(), 1);

@@ -1,17 +1,38 @@
 //! Texts: lists of bytes, mostly ASCII, of any content.
 
-ghost use Rattle.std.specs.Prelude.{◌≡◌, ◌↔◌, [], IsTrue, IfOk, length};
+ghost use Rattle.std.specs.Prelude.{◌≡◌, ◌≤◌, ◌↔◌, [], IsTrue, IfOk, length, slice_range};
+ghost use Rattle.std.specs.Arc.{arc_value};
 ghost use Rattle.std.specs.Str.{bytes_eq, is_utf8};
+ghost use Rattle.init_base.specs.Text.{form_bytes, IsForm};
 
 use crate::memory::NoMemory;
 use crate::value::is_text;
 use std::alloc::Global;
 use std::marker::Model;
+use std::sync::Arc;
 
-/// A text: bytes of any value.
+/// The most bytes that a text holds in place.
+const MAX_INLINE: usize = 22;
+
+/// A text: bytes of any value. A short one holds them in place; the others share them, so that another text of the
+/// same bytes, or of a part of them, copies none.
 #[derive(Debug, Drop)]
 pub struct Text {
-    bytes: Vec<u8>,
+    form: Form,
+}
+
+/// Where the bytes of a text are.
+#[derive(Debug, Drop)]
+enum Form {
+    Inline {
+        len: u8,
+        bytes: [u8; 22],
+    },
+    Shared {
+        owner: Arc<Vec<u8>>,
+        from: u32,
+        to: u32,
+    },
 }
 
 impl Model for Text {
@@ -19,46 +40,107 @@ impl Model for Text {
 
     ghost Value = { List ℕ };
 
-    ghost view = { λ t. t.bytes.items };
+    ghost use Rattle.init_base.specs.Text.{form_bytes, IsForm};
+
+    ghost view = { λ t. form_bytes t.form };
+
+    ghost invariant = { λ t. IsForm t.form };
 }
 
 impl Text {
-    /// A text of these bytes.
+    /// A text of these bytes. Those of 4 GiB or more are want of memory.
     pub fn of(alloc: Global, bytes: &[u8]) -> Result<Text, NoMemory>
         ensures { IfOk result (λ t. t ≡ bytes.now) }
     {
-        Ok(Text {
-            bytes: Vec::from_slice(alloc, bytes)?,
-        })
+        if bytes.len() <= MAX_INLINE {
+            return Ok(Text::inline(bytes));
+        }
+        Text::from_vec(Vec::from_slice(alloc, bytes)?)
     }
 
-    /// A text of the bytes of a vector. It takes no memory.
-    pub fn from_vec(bytes: Vec<u8>) -> Text
-        ensures { result ≡ bytes.items }
+    /// A text of these bytes, in place.
+    fn inline(bytes: &[u8]) -> Text
+        requires { length bytes.now ≤ 22 }
+        ensures { result ≡ bytes.now }
     {
-        Text { bytes }
-    }
-
-    /// The empty text. It takes no memory.
-    pub fn empty(alloc: Global) -> Text
-        ensures { result ≡ [] }
-    {
+        let mut kept = [0; 22];
+        kept[..bytes.len()].copy_from_slice(bytes);
         Text {
-            bytes: Vec::new(alloc),
+            form: Form::Inline {
+                len: bytes.len() as u8,
+                bytes: kept,
+            },
         }
     }
 
-    /// Another text with the same bytes.
-    pub fn copy(&self, alloc: Global) -> Result<Text, NoMemory>
+    /// A text of the bytes of a vector, of which it copies at most a few. Those of 4 GiB or more are want of memory.
+    pub fn from_vec(bytes: Vec<u8>) -> Result<Text, NoMemory>
+        ensures { IfOk result (λ t. t ≡ bytes.items) }
+    {
+        if bytes.len() <= MAX_INLINE {
+            return Ok(Text::inline(bytes.as_slice()));
+        }
+        let to = bytes.len();
+        let alloc = *bytes.allocator();
+        Text::shared(Arc::new(alloc, bytes)?, 0, to)
+    }
+
+    /// A text of a part of shared bytes. A place of 32 bits or more is want of memory.
+    fn shared(owner: Arc<Vec<u8>>, from: usize, to: usize) -> Result<Text, NoMemory>
+        requires order { from ≤ to }
+        requires bound { to ≤ length (arc_value owner).items }
+        ensures { IfOk result (λ t. t ≡ slice_range (arc_value owner).items from to) }
+    {
+        let (Ok(from), Ok(to)) = (u32::try_from(from), u32::try_from(to)) else {
+            return Err(NoMemory);
+        };
+        Ok(Text {
+            form: Form::Shared { owner, from, to },
+        })
+    }
+
+    /// The empty text. It takes no memory.
+    pub fn empty() -> Text
+        ensures { result ≡ [] }
+    {
+        Text::inline(&[])
+    }
+
+    /// Another text of the same bytes, which shares them. It takes no memory, and fails only where as many texts share
+    /// them as can be counted.
+    pub fn share(&self) -> Result<Text, NoMemory>
         ensures { IfOk result (λ t. t ≡ self.now) }
     {
-        Text::of(alloc, self.bytes())
+        self.slice(0, self.len())
+    }
+
+    /// A text of the bytes from one place to before another, which shares them as `share` does.
+    #[tactic(auto, using(crate::proofs::Parts::part_of_shared))]
+    pub fn slice(&self, from: usize, to: usize) -> Result<Text, NoMemory>
+        requires order { from ≤ to }
+        requires bound { to ≤ length self.now }
+        ensures { IfOk result (λ t. t ≡ slice_range self.now from to) }
+    {
+        match &self.form {
+            Form::Shared {
+                owner,
+                from: start,
+                ..
+            } if to - from > MAX_INLINE => {
+                let start = *start as usize;
+                Text::shared(Arc::try_clone(owner)?, start + from, start + to)
+            }
+            _ => Ok(Text::inline(&self.bytes()[from..to])),
+        }
     }
 
     pub fn bytes(&self) -> &[u8]
         ensures { result.now ≡ self.now }
     {
-        self.bytes.as_slice()
+        match &self.form {
+            Form::Inline { len, bytes } => &bytes[..*len as usize],
+            Form::Shared { owner, from, to } => &owner.as_slice()[*from as usize..*to as usize],
+        }
     }
 
     /// Whether the text has exactly these bytes.
@@ -72,13 +154,13 @@ impl Text {
     pub fn len(&self) -> usize
         ensures { result ≡ length self.now }
     {
-        self.bytes.len()
+        self.bytes().len()
     }
 
     pub fn is_empty(&self) -> bool
         ensures { IsTrue result ↔ (self.now ≡ []) }
     {
-        self.bytes.is_empty()
+        self.bytes().is_empty()
     }
 
     /// Whether the bytes are UTF-8.

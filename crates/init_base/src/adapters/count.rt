@@ -1,7 +1,7 @@
 //! Counting of faults.
 
 ghost use Rattle.std.specs.Prelude.{◌≡◌, Bool};
-ghost use Rattle.init_base.specs.Faults.{Counted, files_failed, sink_failed, source_failed};
+ghost use Rattle.init_base.specs.Faults.{Counted, read_failed, write_failed, source_failed};
 
 use crate::outside::refusal::{Failed, IoRefusal, ReadRefusal};
 
@@ -22,14 +22,14 @@ pub(crate) fn has_source_failed(outcome: &Result<usize, Failed>) -> bool
     outcome.is_err()
 }
 
-pub(crate) fn has_sink_failed(outcome: &Result<usize, IoRefusal>) -> bool
-    ensures { result ≡ sink_failed outcome.now }
+pub(crate) fn has_write_failed<T>(outcome: &Result<T, IoRefusal>) -> bool
+    ensures { result ≡ write_failed outcome.now }
 {
     matches!(outcome, Err(IoRefusal::Failed))
 }
 
-pub(crate) fn have_files_failed<T>(outcome: &Result<T, ReadRefusal>) -> bool
-    ensures { result ≡ files_failed outcome.now }
+pub(crate) fn has_read_failed<T>(outcome: &Result<T, ReadRefusal>) -> bool
+    ensures { result ≡ read_failed outcome.now }
 {
     matches!(outcome, Err(ReadRefusal::Failed))
 }

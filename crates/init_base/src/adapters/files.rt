@@ -1,10 +1,10 @@
 //! Files over a folder of the machine.
 
-ghost use Rattle.std.specs.Prelude.{◌≡◌, None, ℕ, List, IfOk};
-ghost use Rattle.init_base.specs.Outside.{ListsFew, ReadsWithin};
+ghost use Rattle.std.specs.Prelude.{◌≡◌, ◌≤◌, None, ℕ, List, IfOk, length};
 
-use super::count::{count, have_files_failed};
-use super::machine::{is_absent, refusal_of};
+use super::count::{count, has_read_failed};
+use super::fault::{Fault, fault_at};
+use super::machine::{MachineRefusal, is_absent, join, open, path_of, read_file};
 use crate::list::List;
 use crate::memory::NoMemory;
 use crate::outside::files::Files;
@@ -13,7 +13,7 @@ use crate::text::Text;
 use std::alloc::Global;
 use std::fs;
 use std::fs::ReadDir;
-use std::io::Read;
+use std::io::{Error, ErrorKind};
 use std::marker::Model;
 
 /// The most names that a directory may list.
@@ -25,6 +25,7 @@ pub struct StdFiles<'a, R: fs::Files + AllocGlobal + Clone + Drop> {
     rt: &'a R,
     root: Text,
     faults: u64,
+    last_fault: Option<Fault>,
 }
 
 impl<'a, R: fs::Files + AllocGlobal + Clone + Drop> Model for StdFiles<'a, R> {
@@ -37,14 +38,44 @@ impl<'a, R: fs::Files + AllocGlobal + Clone + Drop> Model for StdFiles<'a, R> {
 
 impl<'a, R: fs::Files + AllocGlobal + Clone + Drop> StdFiles<'a, R> {
     /// The files below the folder with this path of the machine.
-    pub fn at(rt: &'a R, alloc: Global, root: &Text) -> Result<StdFiles<'a, R>, NoMemory>
+    pub fn at(rt: &'a R, _alloc: Global, root: &Text) -> Result<StdFiles<'a, R>, NoMemory>
         ensures { IfOk result (λ files. files ≡ 0) }
     {
         Ok(StdFiles {
             rt,
-            root: root.copy(alloc)?,
+            root: root.share()?,
             faults: 0,
+            last_fault: None,
         })
+    }
+
+    /// What the system said at the last call that found nothing at its path, or failed.
+    pub fn last_fault(&self) -> Option<&Fault> {
+        self.last_fault.as_ref()
+    }
+
+    /// What a call on a path answers where the machine gave nothing: None where nothing has the path. Keeps what the
+    /// system said.
+    fn refused<T>(
+        &mut self,
+        alloc: Global,
+        path: &[u8],
+        refusal: MachineRefusal,
+    ) -> Result<Option<T>, ReadRefusal>
+        ensures none { IfOk result (λ found. found ≡ None) }
+        ensures count { self.new ≡ self.old }
+    {
+        let error = match refusal {
+            MachineRefusal::System(error) => error,
+            MachineRefusal::TooLarge => return Err(ReadRefusal::TooLarge),
+            MachineRefusal::NoMemory => return Err(ReadRefusal::NoMemory),
+        };
+        self.last_fault = fault_at(join(alloc, self.root.bytes(), path), error);
+        if is_absent(&error) {
+            Ok(None)
+        } else {
+            Err(ReadRefusal::Failed)
+        }
     }
 }
 
@@ -58,8 +89,11 @@ impl<R: fs::Files + AllocGlobal + Clone + Drop> Files for StdFiles<'_, R> {
     }
 
     fn list(&mut self, alloc: Global, dir: &[u8]) -> Result<Option<List<Text>>, ReadRefusal> {
-        let outcome = list_folder(self.rt, alloc, &self.root, dir);
-        self.faults = count(self.faults, have_files_failed(&outcome));
+        let outcome = match list_folder(self.rt, alloc, &self.root, dir) {
+            Ok(names) => Ok(Some(names)),
+            Err(refusal) => self.refused(alloc, dir, refusal),
+        };
+        self.faults = count(self.faults, has_read_failed(&outcome));
         outcome
     }
 
@@ -69,109 +103,64 @@ impl<R: fs::Files + AllocGlobal + Clone + Drop> Files for StdFiles<'_, R> {
         path: &[u8],
         limit: usize,
     ) -> Result<Option<Text>, ReadRefusal> {
-        let outcome = read_file(self.rt, alloc, &self.root, path, limit);
-        self.faults = count(self.faults, have_files_failed(&outcome));
+        let outcome = match read_plain_file(self.rt, alloc, &self.root, path, limit) {
+            Ok(text) => Ok(Some(text)),
+            Err(refusal) => self.refused(alloc, path, refusal),
+        };
+        self.faults = count(self.faults, has_read_failed(&outcome));
         outcome
     }
 }
 
-/// The bytes of a plain file, without counting a fault.
-fn read_file<R: fs::Files>(
+/// The path of the root, and then the path of the tree, if a file of the machine can have it: it is absolute, and
+/// UTF-8 with no NUL.
+fn machine_path(alloc: Global, root: &Text, path: &[u8]) -> Result<Text, MachineRefusal> {
+    let can_be = path.starts_with(b"/") && !path.contains(&0) && std::str::from_utf8(path).is_ok();
+    if !can_be {
+        return Err(MachineRefusal::System(Error::from(ErrorKind::NotFound)));
+    }
+    Ok(join(alloc, root.bytes(), path)?)
+}
+
+/// The bytes of a plain file.
+fn read_plain_file<R: fs::Files>(
     rt: &R,
     alloc: Global,
     root: &Text,
     path: &[u8],
     limit: usize,
-) -> Result<Option<Text>, ReadRefusal>
-    ensures { ReadsWithin limit result }
+) -> Result<Text, MachineRefusal>
+    ensures { IfOk result (λ text. length text ≤ limit) }
 {
-    if !can_name_file(path) {
-        return Ok(None);
-    }
     let path = machine_path(alloc, root, path)?;
-    let Some(file) = open_file(rt, path.as_str())? else {
-        return Ok(None);
-    };
-    let bytes = read_past(alloc, file, limit)?;
-    if bytes.len() > limit {
-        return Err(ReadRefusal::TooLarge);
+    if !is_plain_file(rt, path_of(&path)?)? {
+        let error = Error::new(ErrorKind::NotFound, "not a plain file");
+        return Err(MachineRefusal::System(error));
     }
-    Ok(Some(Text::from_vec(bytes)))
+    let file = open(rt, &path)?;
+    read_file(alloc, file, limit)
 }
 
-/// Whether a file of the machine can have this path of the tree: it is absolute, and UTF-8 with no NUL.
-fn can_name_file(path: &[u8]) -> bool {
-    path.starts_with(b"/") && !path.contains(&0) && std::str::from_utf8(path).is_ok()
+/// Whether a plain file has the path, where something has it.
+fn is_plain_file<R: fs::Files>(rt: &R, path: &str) -> Result<bool, Error> {
+    Ok(rt.metadata(path)?.is_file())
 }
 
-/// The path of the root, and then the path of the tree.
-fn machine_path(alloc: Global, root: &Text, path: &[u8]) -> Result<String, ReadRefusal> {
-    let bytes = join(alloc, root.bytes(), path)?;
-    match String::from_utf8(bytes) {
-        Ok(path) => Ok(path),
-        Err(_) => Err(ReadRefusal::Failed),
-    }
-}
-
-fn join(alloc: Global, root: &[u8], path: &[u8]) -> Result<Vec<u8>, NoMemory> {
-    let mut bytes = Vec::from_slice(alloc, root)?;
-    bytes.extend_from_slice(path)?;
-    Ok(bytes)
-}
-
-/// Opens a plain file. None where no plain file has the path.
-fn open_file<R: fs::Files>(rt: &R, path: &str) -> Result<Option<R::File>, ReadRefusal> {
-    if !is_plain_file(rt, path)? {
-        return Ok(None);
-    }
-    match fs::open(rt, path) {
-        Ok(file) => Ok(Some(file)),
-        Err(error) if is_absent(&error) => Ok(None),
-        Err(error) => Err(refusal_of(&error)),
-    }
-}
-
-fn is_plain_file<R: fs::Files>(rt: &R, path: &str) -> Result<bool, ReadRefusal> {
-    match rt.metadata(path) {
-        Ok(metadata) => Ok(metadata.is_file()),
-        Err(error) if is_absent(&error) => Ok(false),
-        Err(error) => Err(refusal_of(&error)),
-    }
-}
-
-/// The bytes of the file, or its first bytes, one more than the limit.
-fn read_past<F: Read + Drop>(alloc: Global, file: F, limit: usize) -> Result<Vec<u8>, ReadRefusal> {
-    let mut bytes = Vec::new(alloc);
-    let mut start = file.take(limit.saturating_add(1) as u64);
-    match start.read_to_end(&mut bytes) {
-        Ok(_) => Ok(bytes),
-        Err(error) => Err(refusal_of(&error)),
-    }
-}
-
-/// The names of the plain files of a folder, without counting a fault.
+/// The names of the plain files of a folder.
 fn list_folder<R: fs::Files + AllocGlobal + Clone + Drop>(
     rt: &R,
     alloc: Global,
     root: &Text,
     dir: &[u8],
-) -> Result<Option<List<Text>>, ReadRefusal>
-    ensures { ListsFew result }
+) -> Result<List<Text>, MachineRefusal>
+    ensures { IfOk result (λ names. length names ≤ 1024) }
 {
-    if !can_name_file(dir) {
-        return Ok(None);
-    }
     let path = machine_path(alloc, root, dir)?;
-    let entries = match fs::read_dir(rt, path.as_str()) {
-        Ok(entries) => entries,
-        Err(error) if is_absent(&error) => return Ok(None),
-        Err(error) => return Err(refusal_of(&error)),
-    };
-    let names = plain_names(rt, alloc, entries)?;
+    let names = plain_names(rt, alloc, fs::read_dir(rt, path_of(&path)?)?)?;
     if names.len() > MAX_NAMES {
-        return Err(ReadRefusal::TooLarge);
+        return Err(MachineRefusal::TooLarge);
     }
-    Ok(Some(names))
+    Ok(names)
 }
 
 /// The names of the plain files, at most one more than may be listed.
@@ -179,14 +168,11 @@ fn plain_names<R: fs::Files + AllocGlobal + Clone + Drop>(
     rt: &R,
     alloc: Global,
     entries: ReadDir<R, Global>,
-) -> Result<List<Text>, ReadRefusal> {
+) -> Result<List<Text>, MachineRefusal> {
     let mut names = List::new(alloc);
     for entry in entries {
-        let entry = match entry {
-            Ok(entry) => entry,
-            Err(error) => return Err(refusal_of(&error)),
-        };
-        if is_plain_file(rt, entry.path().as_str())? {
+        let entry = entry?;
+        if is_listed(rt, entry.path().as_str())? {
             names.push(Text::of(alloc, entry.file_name().as_bytes())?)?;
         }
         if names.len() > MAX_NAMES {
@@ -194,4 +180,12 @@ fn plain_names<R: fs::Files + AllocGlobal + Clone + Drop>(
         }
     }
     Ok(names)
+}
+
+/// Whether an entry of a folder is a plain file. One that is gone, as a link to nothing, is none.
+fn is_listed<R: fs::Files>(rt: &R, path: &str) -> Result<bool, Error> {
+    match is_plain_file(rt, path) {
+        Err(error) if is_absent(&error) => Ok(false),
+        outcome => outcome,
+    }
 }

@@ -4,13 +4,15 @@ ghost use Rattle.std.specs.Prelude.{◌≡◌, None, ℕ, List, IfOk};
 ghost use Rattle.std.specs.Io.{ReadsAtMost};
 
 use super::count::{count, has_source_failed};
-use super::machine::read_some;
+use super::fault::{Fault, fault_at};
+use super::machine::{open, read_some};
 use crate::memory::NoMemory;
 use crate::outside::refusal::Failed;
 use crate::outside::source::Source;
 use crate::text::Text;
 use std::alloc::Global;
 use std::fs;
+use std::io::Error;
 use std::marker::Model;
 
 /// The bytes of a file of the machine. It is opened at the first read.
@@ -20,6 +22,7 @@ pub struct StdSource<'a, R: fs::Files> {
     path: Text,
     file: Option<R::File>,
     faults: u64,
+    last_fault: Option<Fault>,
 }
 
 impl<'a, R: fs::Files> Model for StdSource<'a, R> {
@@ -32,19 +35,38 @@ impl<'a, R: fs::Files> Model for StdSource<'a, R> {
 
 impl<'a, R: fs::Files> StdSource<'a, R> {
     /// The file with this path of the machine.
-    pub fn at(rt: &'a R, alloc: Global, path: &Text) -> Result<StdSource<'a, R>, NoMemory>
+    pub fn at(rt: &'a R, _alloc: Global, path: &Text) -> Result<StdSource<'a, R>, NoMemory>
         ensures { IfOk result (λ source. source ≡ 0) }
     {
         Ok(StdSource {
             rt,
-            path: path.copy(alloc)?,
+            path: path.share()?,
             file: None,
             faults: 0,
+            last_fault: None,
         })
+    }
+
+    /// What the system said at the last read that failed.
+    pub fn last_fault(&self) -> Option<&Fault> {
+        self.last_fault.as_ref()
     }
 
     /// Reads without counting a fault.
     fn try_read(&mut self, buf: &mut [u8]) -> Result<usize, Failed>
+        ensures bound { ReadsAtMost result buf.new }
+        ensures count { self.new ≡ self.old }
+    {
+        match self.read_some(buf) {
+            Ok(count) => Ok(count),
+            Err(error) => {
+                self.last_fault = fault_at(self.path.share(), error);
+                Err(Failed)
+            }
+        }
+    }
+
+    fn read_some(&mut self, buf: &mut [u8]) -> Result<usize, Error>
         ensures bound { ReadsAtMost result buf.new }
         ensures count { self.new ≡ self.old }
     {
@@ -55,16 +77,6 @@ impl<'a, R: fs::Files> StdSource<'a, R> {
         let outcome = read_some(&mut file, buf);
         self.file = Some(file);
         outcome
-    }
-}
-
-fn open<R: fs::Files>(rt: &R, path: &Text) -> Result<R::File, Failed> {
-    let Ok(path) = std::str::from_utf8(path.bytes()) else {
-        return Err(Failed);
-    };
-    match fs::open(rt, path) {
-        Ok(file) => Ok(file),
-        Err(_) => Err(Failed),
     }
 }
 

@@ -1,7 +1,7 @@
 //! Files in memory.
 
 ghost use Rattle.std.specs.Prelude.{◌≡◌, Some};
-ghost use Rattle.init_base.specs.Faults.{Counted, files_failed};
+ghost use Rattle.init_base.specs.Faults.{Counted, read_failed};
 ghost use Rattle.init_base.specs.Memory.{after_call, fails_next, fresh};
 ghost use Rattle.init_base.specs.Outside.{ListsFew, ListsNames, ReadsFile, ReadsWithin};
 
@@ -56,8 +56,8 @@ impl Files for MemFiles {
         ensures names { ListsNames (Some self.old.content) dir.now result }
         ensures bound { ListsFew result }
         ensures tree { Some self.new.content ≡ Some self.old.content }
-        ensures cause { Counted (files_failed result) self.old.calls.faults self.new.calls.faults }
-        ensures failed { files_failed result ≡ fails_next self.old.calls }
+        ensures cause { Counted (read_failed result) self.old.calls.faults self.new.calls.faults }
+        ensures failed { read_failed result ≡ fails_next self.old.calls }
         ensures calls { self.new.calls ≡ after_call self.old.calls }
     {
         if self.plan.fails() {
@@ -75,8 +75,8 @@ impl Files for MemFiles {
         ensures bytes { ReadsFile (Some self.old.content) path.now limit result }
         ensures bound { ReadsWithin limit result }
         ensures tree { Some self.new.content ≡ Some self.old.content }
-        ensures cause { Counted (files_failed result) self.old.calls.faults self.new.calls.faults }
-        ensures failed { files_failed result ≡ fails_next self.old.calls }
+        ensures cause { Counted (read_failed result) self.old.calls.faults self.new.calls.faults }
+        ensures failed { read_failed result ≡ fails_next self.old.calls }
         ensures calls { self.new.calls ≡ after_call self.old.calls }
     {
         if self.plan.fails() {

@@ -1,7 +1,7 @@
 //! Sinks in memory.
 
 ghost use Rattle.std.specs.Prelude.{◌≡◌, ◌++◌, [], Some, List, ℕ, IfOk, OnErr, length};
-ghost use Rattle.init_base.specs.Faults.{Counted, sink_failed};
+ghost use Rattle.init_base.specs.Faults.{Counted, write_failed};
 ghost use Rattle.init_base.specs.Memory.{after_call, fails_next, fresh};
 ghost use Rattle.init_base.specs.Outside.{TakesPrefix, TakesSome};
 
@@ -69,9 +69,9 @@ impl Sink for MemSink {
     fn write(&mut self, _alloc: Global, piece: &[u8]) -> Result<usize, IoRefusal>
         ensures bound { TakesSome result piece.now }
         ensures taken { TakesPrefix (Some self.old.content) (Some self.new.content) result piece.now }
-        ensures cause { Counted (sink_failed result) self.old.calls.faults self.new.calls.faults }
+        ensures cause { Counted (write_failed result) self.old.calls.faults self.new.calls.faults }
         ensures whole { IfOk result (λ count. count ≡ length piece.now) }
-        ensures failed { sink_failed result ≡ fails_next self.old.calls }
+        ensures failed { write_failed result ≡ fails_next self.old.calls }
         ensures calls { self.new.calls ≡ after_call self.old.calls }
     {
         if self.plan.fails() {
@@ -125,7 +125,7 @@ impl Sink for SteadySink {
     fn write(&mut self, _alloc: Global, piece: &[u8]) -> Result<usize, IoRefusal>
         ensures bound { TakesSome result piece.now }
         ensures taken { TakesPrefix (Some self.old) (Some self.new) result piece.now }
-        ensures cause { Counted (sink_failed result) 0 0 }
+        ensures cause { Counted (write_failed result) 0 0 }
         ensures whole { IfOk result (λ count. count ≡ length piece.now) }
     {
         Ok(take_piece(&mut self.taken, piece)?)

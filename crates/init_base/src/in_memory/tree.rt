@@ -3,7 +3,7 @@
 ghost use Rattle.std.specs.Prelude.{◌≡◌, ◌==◌, false, not, IfOk, OnOk, Some};
 ghost use Rattle.std.specs.List.{list_all};
 ghost use Rattle.std.specs.Option.{option_copied};
-ghost use Rattle.init_base.specs.Faults.{files_failed};
+ghost use Rattle.init_base.specs.Faults.{read_failed};
 ghost use Rattle.init_base.specs.Outside.{ListsFew, ListsNames, ReadsFile, ReadsWithin};
 ghost use Rattle.init_base.specs.Tree.{file_at, behind_slash as behind_slash_lem, behind_dir as behind_dir_lem, is_dir as is_dir_lem, is_file_name as is_file_name_lem, has_name as has_name_lem, names_in, with_name};
 
@@ -25,7 +25,7 @@ pub(crate) fn read(
 ) -> Result<Option<Text>, ReadRefusal>
     ensures bytes { ReadsFile (Some entries.now) path.now limit result }
     ensures bound { ReadsWithin limit result }
-    ensures steady { files_failed result ≡ false }
+    ensures steady { read_failed result ≡ false }
 {
     let Some(file) = find(entries, path) else {
         return Ok(None);
@@ -33,7 +33,7 @@ pub(crate) fn read(
     if file.len() > limit {
         return Err(ReadRefusal::TooLarge);
     }
-    Ok(Some(file.copy(alloc)?))
+    Ok(Some(file.share()?))
 }
 
 /// The file with the path.
@@ -56,7 +56,7 @@ pub(crate) fn list(
 ) -> Result<Option<List<Text>>, ReadRefusal>
     ensures names { ListsNames (Some entries.now) dir.now result }
     ensures bound { ListsFew result }
-    ensures steady { files_failed result ≡ false }
+    ensures steady { read_failed result ≡ false }
 {
     if !is_dir(entries, dir) {
         return Ok(None);

@@ -1,7 +1,7 @@
 //! Files of one tree.
 
 ghost use Rattle.std.specs.Prelude.{◌≡◌, ℕ, List, Option};
-ghost use Rattle.init_base.specs.Faults.{Counted, files_failed};
+ghost use Rattle.init_base.specs.Faults.{Counted, read_failed};
 ghost use Rattle.init_base.specs.Outside.{ListsFew, ListsNames, ReadsFile, ReadsWithin};
 
 use super::refusal::ReadRefusal;
@@ -26,7 +26,7 @@ pub trait Files {
         ensures names { ListsNames (tree self.old) dir.now result }
         ensures bound { ListsFew result }
         ensures tree { tree self.new ≡ tree self.old }
-        ensures cause { Counted (files_failed result) (fault_count self.old) (fault_count self.new) };
+        ensures cause { Counted (read_failed result) (fault_count self.old) (fault_count self.new) };
 
     /// The bytes of the plain file with this path. None exactly where there is none, `TooLarge` exactly where it has
     /// more than `limit` bytes.
@@ -39,5 +39,5 @@ pub trait Files {
         ensures bytes { ReadsFile (tree self.old) path.now limit result }
         ensures bound { ReadsWithin limit result }
         ensures tree { tree self.new ≡ tree self.old }
-        ensures cause { Counted (files_failed result) (fault_count self.old) (fault_count self.new) };
+        ensures cause { Counted (read_failed result) (fault_count self.old) (fault_count self.new) };
 }

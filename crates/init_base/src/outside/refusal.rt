@@ -1,6 +1,7 @@
 //! Why a call on an object of the outside gave nothing.
 
 use crate::memory::NoMemory;
+use std::alloc::AllocError;
 
 /// A fault of the object that was called. It counted the fault.
 #[derive(Clone, Copy, Debug, PartialEq, Eq)]
@@ -39,6 +40,28 @@ impl From<NoMemory> for ReadRefusal {
     ghost from_gives = { λ _ refusal. refusal ≡ read_no_memory };
 
     fn from(_: NoMemory) -> Self {
+        ReadRefusal::NoMemory
+    }
+}
+
+impl From<Failed> for ReadRefusal {
+    ghost use Rattle.std.specs.Prelude.{◌≡◌};
+    ghost use Rattle.init_base.specs.declared.outside.refusal.ReadRefusal.TheVariants.{Failed as read_failed};
+
+    ghost from_gives = { λ _ refusal. refusal ≡ read_failed };
+
+    fn from(_: Failed) -> Self {
+        ReadRefusal::Failed
+    }
+}
+
+impl From<AllocError> for ReadRefusal {
+    ghost use Rattle.std.specs.Prelude.{◌≡◌};
+    ghost use Rattle.init_base.specs.declared.outside.refusal.ReadRefusal.TheVariants.{NoMemory as read_no_memory};
+
+    ghost from_gives = { λ _ refusal. refusal ≡ read_no_memory };
+
+    fn from(_: AllocError) -> Self {
         ReadRefusal::NoMemory
     }
 }

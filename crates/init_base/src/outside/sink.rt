@@ -1,7 +1,7 @@
 //! Sinks of bytes.
 
 ghost use Rattle.std.specs.Prelude.{◌≡◌, ℕ, List, Option};
-ghost use Rattle.init_base.specs.Faults.{Counted, sink_failed};
+ghost use Rattle.init_base.specs.Faults.{Counted, write_failed};
 ghost use Rattle.init_base.specs.Outside.{TakesPrefix, TakesSome};
 
 use super::refusal::IoRefusal;
@@ -23,5 +23,5 @@ pub trait Sink {
     fn write(&mut self, alloc: Global, piece: &[u8]) -> Result<usize, IoRefusal>
         ensures bound { TakesSome result piece.now }
         ensures taken { TakesPrefix (taken self.old) (taken self.new) result piece.now }
-        ensures cause { Counted (sink_failed result) (fault_count self.old) (fault_count self.new) };
+        ensures cause { Counted (write_failed result) (fault_count self.old) (fault_count self.new) };
 }

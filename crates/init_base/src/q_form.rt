@@ -1,0 +1,106 @@
+//! Reading words in q form, which is `quoted` of `specs/Quoted.antt`.
+
+ghost use Rattle.std.specs.Prelude.{◌≡◌, ◌≢◌, ◌^◌, ◌<◌, ◌/◌, ◌%◌, ◌++◌, ℕ, true, false, IsTrue, IfOk, MatchOption, Some, List as Items};
+ghost use Rattle.std.specs.Fmt.{digit_glyph};
+ghost use Rattle.std.specs.List.{flat_map, list_all};
+ghost use Rattle.init_base.specs.Quoted.{is_byte, is_plain as is_plain_lem, quoted, quoted_byte, unquoted as unquoted_lem};
+
+use crate::memory::NoMemory;
+use crate::text::Text;
+use std::alloc::Global;
+
+/// The text whose q form a word is. None exactly where the word is no q form.
+#[tactic(auto, using(crate::proofs::QForms::empty_word, crate::proofs::QForms::lone_sign, crate::proofs::QForms::read_plain))]
+pub fn unquoted(alloc: Global, word: &[u8]) -> Result<Option<Text>, NoMemory>
+    ensures { IfOk result (λ text. text ≡ unquoted_lem word.now) }
+{
+    if word.is_empty() {
+        return Ok(None);
+    }
+    if word == b"%".as_slice() {
+        return Ok(Some(Text::empty()));
+    }
+    if stands_for_itself(word) {
+        return Ok(Some(Text::of(alloc, word)?));
+    }
+    spelled(alloc, word)
+}
+
+/// A text has one q form, and a word is the q form of at most one text.
+pub fn one_q_form()
+    ensures read { (text : Items ℕ) → IsTrue (list_all is_byte text) → unquoted_lem (quoted text) ≡ Some text }
+    ensures written { (word text : Items ℕ) → unquoted_lem word ≡ Some text → word ≡ quoted text }
+    ensures text { (word text : Items ℕ) → unquoted_lem word ≡ Some text → IsTrue (list_all is_byte text) }
+{}
+
+/// Whether no byte of a word must be spelled.
+fn stands_for_itself(word: &[u8]) -> bool
+    ensures { result ≡ list_all is_plain_lem word.now }
+{
+    word.iter().all(|byte| is_plain(*byte))
+}
+
+fn is_plain(byte: u8) -> bool
+    ensures { result ≡ is_plain_lem byte }
+{
+    byte >= 0x21 && byte <= 0x7e && byte != b'%'
+}
+
+/// The text that a word spells byte by byte. None where at some place no byte is spelled.
+fn spelled(alloc: Global, word: &[u8]) -> Result<Option<Text>, NoMemory>
+    ensures { IfOk result (λ found. MatchOption found
+        ((text : Items ℕ) → IsTrue (list_all is_byte text) → word.now ≢ flat_map quoted_byte text)
+        (λ text. IsTrue (list_all is_byte text) × (word.now ≡ flat_map quoted_byte text))) }
+{
+    let mut bytes = Vec::with_capacity(alloc, word.len())?;
+    let mut rest = word;
+    while !rest.is_empty() {
+        let Some((byte, behind)) = first_byte(rest) else {
+            return Ok(None);
+        };
+        bytes.push(byte)?;
+        rest = behind;
+    }
+    Ok(Some(Text::of(alloc, &bytes)?))
+}
+
+/// The byte that is spelled in front, and what stands behind its spelling.
+fn first_byte(word: &[u8]) -> Option<(u8, &[u8])>
+    ensures { MatchOption result
+        ((byte : ℕ) (rest : Items ℕ) → byte < 256 → word.now ≢ quoted_byte byte ++ rest)
+        (λ r. (r.0 < 256) × (word.now ≡ quoted_byte r.0 ++ r.1.now)) }
+{
+    let (first, rest) = word.split_first()?;
+    if is_plain(*first) {
+        return Some((*first, rest));
+    }
+    if *first != b'%' {
+        return None;
+    }
+    let (high, rest) = rest.split_first()?;
+    let (low, rest) = rest.split_first()?;
+    Some((spelled_byte(*high, *low)?, rest))
+}
+
+/// The byte with these two digits, if it must be spelled.
+fn spelled_byte(high: u8, low: u8) -> Option<u8>
+    ensures { MatchOption result
+        ((byte : ℕ) → byte < 256 → is_plain_lem byte ≡ false → digit_glyph true (byte / 16) ≡ high → digit_glyph true (byte % 16) ≢ low)
+        (λ byte. (byte < 256) × (is_plain_lem byte ≡ false) × (digit_glyph true (byte / 16) ≡ high) × (digit_glyph true (byte % 16) ≡ low)) }
+{
+    let byte = 16 * digit_value(high)? + digit_value(low)?;
+    if is_plain(byte) { None } else { Some(byte) }
+}
+
+/// The value of an upper-case hexadecimal digit.
+fn digit_value(digit: u8) -> Option<u8>
+    ensures { MatchOption result
+        ((value : ℕ) → value < 16 → digit_glyph true value ≢ digit)
+        (λ value. (value < 16) × (digit_glyph true value ≡ digit)) }
+{
+    match digit {
+        b'0'..=b'9' => Some(digit - b'0'),
+        b'A'..=b'F' => Some(digit - b'A' + 10),
+        _ => None,
+    }
+}
