@@ -4,6 +4,7 @@ use Rattle.std.specs.Str.{bytes_eq}
 use Rattle.std.proofs.lemmas.Slice.Eq.{bytes_eq-Decides}
 use Rattle.std.proofs.lemmas.Bool.Decides.{nat_tests}
 use Rattle.std.proofs.lemmas.Bool.{both_ways}
+use Rattle.init_machine.specs.Kept.Nodes.{SameMembers, total_beyond}
 use Rattle.init_machine.specs.Words.{is_among, distinct}
 
 pub same_bytes : (x y : List ℕ) → bytes_eq x y ≡ true → x ≡ y
@@ -12,7 +13,7 @@ same_bytes x y e = (bytes_eq-Decides x y).0 e
 pub bytes_eq-refl : (x : List ℕ) → bytes_eq x x ≡ true
 bytes_eq-refl x = (bytes_eq-Decides x x).1 refl
 
-bytes_eq-sym : (x y : List ℕ) → bytes_eq x y ≡ bytes_eq y x
+pub bytes_eq-sym : (x y : List ℕ) → bytes_eq x y ≡ bytes_eq y x
 bytes_eq-sym [] [] = refl
 bytes_eq-sym [] (y ∷ ys) = refl
 bytes_eq-sym (x ∷ xs) [] = refl
@@ -85,10 +86,6 @@ total-take_out w x (y ∷ ys) =
       | false ↦ λ f. taken_other w x y ys (bytes_eq-sym x y ∙ f) (total-take_out w x ys)
     ] refl
 
--- the same members
-abbrev pub SameMembers : List (List ℕ) → List (List ℕ) → Type 0
-SameMembers xs ys = (z : List ℕ) → is_among xs z ≡ is_among ys z
-
 none_among : (ys : List (List ℕ)) → SameMembers [] ys → ys ≡ []
 none_among [] same = refl
 none_among (y ∷ ys) same = absurd (both_ways (bytes_eq y y || is_among ys y) (sym (same y)) (rw (bytes_eq-refl y) refl))
@@ -135,11 +132,6 @@ there_already x xs z there =
 abbrev pub IsSet : List (List ℕ) → Type 0
 IsSet [] = Unit {0}
 IsSet (x ∷ xs) = (is_among xs x ≡ false) × IsSet xs
-
--- the sum over those of xs that are not among qs
-abbrev pub total_beyond : (List ℕ → ℕ) → List (List ℕ) → List (List ℕ) → ℕ
-total_beyond w qs [] = 0
-total_beyond w qs (x ∷ xs) = (if is_among qs x then 0 else w x) + total_beyond w qs xs
 
 -- what distinct members in front add
 pub total-front : (w : List ℕ → ℕ) (xs qs : List (List ℕ)) → IsSet xs

@@ -1,5 +1,7 @@
 pub mod DistinctSums
-pub mod Prefixes
+pub mod Entries
 pub mod Needs
 pub mod Nodes
-pub mod Places
+pub mod Prefixes
+pub mod Sets
+pub mod Texts

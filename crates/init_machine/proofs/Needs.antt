@@ -1,6 +1,6 @@
 -- The words that names take: each order of them takes the same, a held name is there already, and an absent name
 -- adds a cell and the nodes of those of its prefixes that are prefixes of no held name.
-use Rattle.std.proofs.Common.{◌≡◌, ℕ, suc, ◌+◌, ◌-◌, ◌*◌, true, false, not, ◌||◌, List, [], ◌∷◌, ◌++◌, map, sum, drop, length, refl, sym, ap, ◌∙◌, arith, cond, zero-add, if◌then◌else◌}
+use Rattle.std.proofs.Common.{◌≡◌, ℕ, suc, ◌+◌, ◌*◌, true, false, not, ◌||◌, List, [], ◌∷◌, ◌++◌, map, sum, length, refl, sym, ap, ◌∙◌, arith, cond, zero-add, if◌then◌else◌}
 use Rattle.std.specs.List.{filter, flat_map, list_any}
 use Rattle.std.specs.List.Sorted.{IsPermutation}
 use Rattle.std.specs.Str.{bytes_eq}
@@ -8,9 +8,9 @@ use Rattle.std.proofs.lemmas.List.Sums.{sum-map}
 use Rattle.std.proofs.lemmas.List.Recursion.{is_sum_by}
 use Rattle.std.proofs.lemmas.List.Sorted.{list_any-IsPermutation, length_permutation, IsPermutation-to_front}
 use Rattle.init_machine.specs.Words.{is_among, distinct, prefixes_of, node_words, nodes_of, used_of, need_of}
-use Rattle.init_machine.specs.Shared.{shared_with}
-use Rattle.init_machine.proofs.DistinctSums.{there_already, IsSet, total, total_beyond, total-same, total-front, SameMembers, among-append}
-use Rattle.init_machine.proofs.Prefixes.{Marked, prefixes-are, set-parts, marks_all, total_beyond-marked}
+use Rattle.init_machine.specs.Kept.Nodes.{SameMembers, total_beyond, words_beyond}
+use Rattle.init_machine.proofs.DistinctSums.{there_already, IsSet, total, total-same, total-front, among-append}
+use Rattle.init_machine.proofs.Prefixes.{prefixes-are, set-parts}
 
 pub sum-total : (ps : List (List ℕ)) → sum (map node_words ps) ≡ total node_words ps
 sum-total ps = sum-map node_words ps ∙ sym (is_sum_by (λ xs. total node_words xs) node_words refl (λ _ _. refl) ps)
@@ -49,29 +49,25 @@ used-beyond names name =
     let less : used_of names ≡ 16 + total node_words (distinct rest) + 13 * length names = used-total names in
     omega arith
 
-pub used-front : (names : List (List ℕ)) (name : List ℕ)
-    → used_of (name ∷ names) ≡ used_of names + (13 + total node_words (drop (shared_with names name) (prefixes_of name)))
-used-front names name =
-    let rest : List (List ℕ) = flat_map prefixes_of names in
-    let most : ℕ = shared_with names name in
-    let whole : most - 0 ≡ most = omega arith in
-    let first : Marked rest (prefixes_of name) 0 most = rw (prefixes-are name) (marks_all names name) in
-    let beyond : total_beyond node_words rest (prefixes_of name) ≡ total node_words (drop most (prefixes_of name)) =
-    total_beyond-marked node_words rest (prefixes_of name) 0 most first ∙ ap (λ k. total node_words (drop k (prefixes_of name))) whole in
-    used-beyond names name ∙ ap (λ n. used_of names + (13 + n)) beyond
+total_beyond-same : (w : List ℕ → ℕ) (known others xs : List (List ℕ)) → SameMembers known others → total_beyond w known xs ≡ total_beyond w others xs
+total_beyond-same w known others [] same = refl
+total_beyond-same w known others (x ∷ xs) same =
+    ap (λ b. (if b then 0 else w x) + total_beyond w known xs) (same x) ∙ ap (λ n. (if is_among others x then 0 else w x) + n) (total_beyond-same w known others xs same)
 
-pub need_is : (names : List (List ℕ)) (name : List ℕ) → need_of names name ≡ 13 + sum (map node_words (drop (shared_with names name) (prefixes_of name)))
+-- what a name needs, where the known prefixes are those of the names
+pub need_beyond : (names : List (List ℕ)) (name : List ℕ) (known : List (List ℕ)) → SameMembers known (flat_map prefixes_of names)
+    → 13 + words_beyond known (prefixes_of name) ≡ need_of names name
 unfolding need_of
-need_is names name =
-    let front = used-front names name in
-    let nodes = sum-total (drop (shared_with names name) (prefixes_of name)) in
+need_beyond names name known same =
+    let beyond = used-beyond names name in
+    let known_too = total_beyond-same node_words known (flat_map prefixes_of names) (prefixes_of name) same in
     omega arith
 
 -- an absent name at the end
 pub used_end : (names : List (List ℕ)) (name : List ℕ) → used_of (names ++ name ∷ []) ≡ used_of names + need_of names name
 unfolding need_of
 used_end names name =
-    let front = used-front names name in
+    let front = used-beyond names name in
     let end = used_permuted (names ++ name ∷ []) (name ∷ names) (IsPermutation-to_front names name) in
     omega arith
 

@@ -1,6 +1,9 @@
--- Laws of the words that names take (bionic's prop_area), above their definitions.
-use Rattle.std.specs.Prelude.{◌≡◌, ℕ, ◌+◌, true, false, not, List, map, sum, filter, IsPermutation}
+-- Laws above the definitions: of the words that names take (bionic's prop_area), and of the texts of commands.
+use Rattle.std.specs.Prelude.{◌≡◌, ℕ, ◌+◌, true, false, not, List, map, sum, filter, Some, IsPermutation}
 use Rattle.init_machine.specs.Props.{Props, lookup_in, names_of, is_absent, with_set, used_in}
+use Rattle.init_machine.specs.Commands.{word_of}
+use Rattle.init_machine.specs.WordTexts.{word_text}
+use Rattle.init_machine.specs.declared.word.Word.{Word}
 use Rattle.init_machine.specs.Words.{used_of, need_of, nodes_of, prefixes_of, node_words, is_among}
 
 -- names take the same words in each order
@@ -23,3 +26,7 @@ AbsentTakesItsNeed =
 abbrev pub HeldTakesNothing : Type 0
 HeldTakesNothing =
     (p : Props) (name value : List ℕ) → is_absent (lookup_in p.held name) ≡ false → used_in (with_set p name value) ≡ used_in p
+
+-- the text of a command names it, and no other command
+abbrev pub EachWordHasItsText : Type 0
+EachWordHasItsText = (word : Word) → word_of (word_text word) ≡ Some word

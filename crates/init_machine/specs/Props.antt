@@ -12,16 +12,23 @@ pub record Property : Type 0 where
   pub value : List ℕ
   pub number : ℕ
 
--- the map, the number of accepted sets, the capacity in words, and the list of the sets where it is told
+-- the map, the number of accepted sets, and the capacity in words
 pub record Props : Type 0 where
   pub held : List Property
   pub count : ℕ
   pub capacity : ℕ
-  pub sets : Option (List (List ℕ × List ℕ))
 
 abbrev pub lookup_in : List Property → List ℕ → Option Property
 lookup_in [] name = None
 lookup_in (h ∷ rest) name = if bytes_eq h.name name then Some h else lookup_in rest name
+
+abbrev pub value_of : Option Property → Option (List ℕ)
+value_of None = None
+value_of (Some h) = Some h.value
+
+-- the value of a property, none where it is absent
+abbrev pub value_in : Props → List ℕ → Option (List ℕ)
+value_in p name = value_of (lookup_in p.held name)
 
 -- the map with this entry in the place of the name's old one, or at the end
 abbrev pub put_in : List Property → Property → List Property
@@ -36,18 +43,12 @@ abbrev pub is_absent : Option Property → Bool
 is_absent None = true
 is_absent (Some h) = false
 
--- the list of the sets, where it is told, with these at its end
-abbrev pub more_sets : Option (List (List ℕ × List ℕ)) → List (List ℕ × List ℕ) → Option (List (List ℕ × List ℕ))
-more_sets None more = None
-more_sets (Some sets) more = Some (sets ++ more)
-
 -- an accepted set: the next number, and this name's entry alone
 abbrev pub with_set : Props → List ℕ → List ℕ → Props
 with_set p name value = record {
   held = put_in p.held (record { name = name; value = value; number = p.count + 1 });
   count = p.count + 1;
   capacity = p.capacity;
-  sets = more_sets p.sets ((name, value) ∷ []);
 }
 
 -- the words in use
@@ -71,3 +72,8 @@ full_for p name =
 abbrev pub IsLookUp : Option Property → Option (ℕ × ℕ) → List ℕ → Type 0
 IsLookUp None answer buffer = answer ≡ None
 IsLookUp (Some h) answer buffer = (answer ≡ Some (length h.value, h.number)) × (take (length h.value) buffer ≡ h.value)
+
+-- the list of the sets, where it is told, with these at its end
+abbrev pub more_sets : Option (List (List ℕ × List ℕ)) → List (List ℕ × List ℕ) → Option (List (List ℕ × List ℕ))
+more_sets None more = None
+more_sets (Some sets) more = Some (sets ++ more)

@@ -5,11 +5,12 @@ use Rattle.std.specs.Prelude.{ℕ, ◌+◌, ◌-◌, ◌*◌, ◌/◌, Bool, fal
 use Rattle.std.specs.List.{flat_map}
 use Rattle.std.specs.Str.{bytes_eq}
 
--- the dotted prefixes of `front ++ rest` that end in rest or with it
+-- the dotted prefixes of `front ++ rest` that aren't shorter than front
 abbrev pub prefixes_from : List ℕ → List ℕ → List (List ℕ)
 prefixes_from front [] = front ∷ []
 prefixes_from front (b ∷ rest) =
-    if b == 46 then front ∷ prefixes_from (front ++ b ∷ []) rest else prefixes_from (front ++ b ∷ []) rest
+    let longer = prefixes_from (front ++ b ∷ []) rest in
+    if b == 46 then front ∷ longer else longer
 
 -- for `a.b.c` they are `a`, `a.b` and `a.b.c`
 abbrev pub prefixes_of : List ℕ → List (List ℕ)

@@ -1,7 +1,7 @@
 //! Laws of the definitions in `specs/`, each the contract of a function that does nothing. They are stated in
 //! `specs/Laws.antt`.
 
-ghost use Rattle.init_machine.specs.Laws.{OrderIsFree, AddsItsNewNodes, AbsentTakesItsNeed, HeldTakesNothing};
+ghost use Rattle.init_machine.specs.Laws.{OrderIsFree, AddsItsNewNodes, AbsentTakesItsNeed, EachWordHasItsText, HeldTakesNothing};
 
 /// Names take the same words in each order.
 #[tactic(auto, using(crate::proofs::Needs::used_permuted))]
@@ -16,13 +16,19 @@ pub fn adds_its_new_nodes()
 {}
 
 /// A set of an absent name takes the words that it needs.
-#[tactic(auto, using(crate::proofs::Places::absent_takes))]
+#[tactic(auto, using(crate::proofs::Sets::absent_takes))]
 pub fn absent_takes_its_need()
     ensures { AbsentTakesItsNeed }
 {}
 
 /// A set of a name that is held takes no words.
-#[tactic(auto, using(crate::proofs::Places::held_takes))]
+#[tactic(auto, using(crate::proofs::Sets::held_takes))]
 pub fn held_takes_nothing()
     ensures { HeldTakesNothing }
+{}
+
+/// The text of a command names it, and no other command.
+#[tactic(auto, using(crate::proofs::Texts::each_word))]
+pub fn each_word_has_its_text()
+    ensures { EachWordHasItsText }
 {}

@@ -7,27 +7,46 @@
 #![tactic(auto)]
 
 mod action;
+mod arity;
+mod client;
 mod config;
 mod diagnostic;
 mod event;
 mod input;
 mod laws;
+mod limit;
 mod list_store;
+mod node;
 mod output;
+mod policy;
 mod report;
 mod service;
 mod store;
+mod task;
+mod type_kind;
+mod waiting;
 mod word;
 
 pub use action::{Action, Command, CommandRef, PropTest};
+pub use arity::Arity;
+pub use client::{ClientItem, ClientRequest};
 pub use config::{Config, Pair, Plan};
 pub use diagnostic::{DiagKind, Diagnostic};
 pub use event::Event;
 pub use input::Input;
-pub use laws::{absent_takes_its_need, adds_its_new_nodes, held_takes_nothing, order_is_free};
+pub use laws::{
+    absent_takes_its_need, adds_its_new_nodes, each_word_has_its_text, held_takes_nothing,
+    order_is_free,
+};
+pub use limit::Limit;
 pub use list_store::ListStore;
+pub use node::Node;
 pub use output::{Cause, FsRefusal, How, Output, SetRefusal};
-pub use report::{ClientPart, Entry, Reading, Report, TypeKind, Waiting};
+pub use policy::{AllowLine, Context, PolicyView};
+pub use report::{ClientPart, Entry, Reading, Report};
 pub use service::{Critical, Marks, Move, Op, ServiceDef};
 pub use store::{Full, PropStore};
-pub use word::{InertWord, Word};
+pub use task::{Done, Task, TreeCall};
+pub use type_kind::TypeKind;
+pub use waiting::Waiting;
+pub use word::{InertWord, WORDS, Word};

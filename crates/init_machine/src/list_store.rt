@@ -1,42 +1,50 @@
-//! `ListStore`: the plain store of properties, a list of slots that each call scans.
+//! `ListStore`: the plain store of properties, a map that keeps the order of the first sets, and beside it the set of
+//! the names' dotted prefixes. Each call takes the time of its name, however many names there are.
 //!
-//! It meets `PropStore`: a set changes the map at its name alone. Its meaning is `stored` of `specs/ListStore.antt`,
-//! which doesn't tell the list of the sets. The words in use are kept as a number, and the memory of a set is taken
-//! by `reserve`, so that `put` can't fail.
+//! It meets `PropStore`: a set changes the map at its name alone. Its meaning is `stored` of `specs/Kept/ListStore.antt`.
+//! It doesn't tell the list of the sets. The words in use are kept as a number, and the memory of a set is taken by
+//! `reserve`, so that `put` can't fail.
 
-mod need;
-mod place;
+mod entries;
+mod held;
+mod name;
+mod nodes;
 mod room;
-mod slot;
 #[cfg(test)]
 mod tests;
 
 use crate::store::{Full, PropStore};
+use entries::{look_up, need_if_absent, set};
+use held::Held;
+use indexmap::{IndexMap, IndexSet};
 use init_base::{NoMemory, PropName, PropValue};
-use place::{find, set};
-use room::{check_room, need_if_absent};
-use slot::Slot;
+use name::Name;
+use room::check_room;
 use std::alloc::Global;
 use std::marker::Model;
 
 /// The words in use before the first set.
 const HEAD_WORDS: u64 = 16;
 
+/// More than the dotted prefixes of any name.
+const MAX_PREFIXES: usize = 256;
+
 /// The plain store of properties. It keeps the allocator that its constructor was given.
-#[derive(Debug, Drop)]
+#[derive(Drop)]
 pub struct ListStore {
-    slots: Vec<Slot>,
+    held: IndexMap<Name, Held>,
+    prefixes: IndexSet<Name>,
     used: u64,
     count: u64,
     capacity: u64,
 }
 
 impl Model for ListStore {
-    ghost use Rattle.init_machine.specs.Stored.{Stored};
+    ghost use Rattle.init_machine.specs.Kept.Stored.{Stored};
 
     ghost Value = { Stored };
 
-    ghost use Rattle.init_machine.specs.ListStore.{stored, IsCounted};
+    ghost use Rattle.init_machine.specs.Kept.ListStore.{stored, IsCounted};
 
     ghost view = { stored };
 
@@ -44,15 +52,16 @@ impl Model for ListStore {
 }
 
 impl ListStore {
-    ghost use Rattle.std.specs.Prelude.{◌≡◌, [], None, IfOk};
+    ghost use Rattle.std.specs.Prelude.{◌≡◌, [], IfOk};
 
     /// The empty store, of a capacity in words.
     #[tactic(auto, unfolding(crate::specs::Words::used_of))]
     pub fn new(alloc: Global, capacity: u64) -> Result<ListStore, NoMemory>
-        ensures { IfOk result (λ s. s.props ≡ record { held = []; count = 0; capacity = capacity; sets = None }) }
+        ensures { IfOk result (λ s. s.props ≡ record { held = []; count = 0; capacity = capacity }) }
     {
         Ok(ListStore {
-            slots: Vec::new(alloc),
+            held: IndexMap::new(alloc),
+            prefixes: IndexSet::new(alloc),
             used: HEAD_WORDS,
             count: 0,
             capacity,
@@ -61,21 +70,20 @@ impl ListStore {
 }
 
 impl PropStore for ListStore {
-    ghost use Rattle.std.specs.Prelude.{◌≡◌, ℕ, refl};
+    ghost use Rattle.std.specs.Prelude.{◌≡◌, ℕ, List, None, refl};
     ghost use Rattle.std.proofs.Common.{◌∙◌};
-    ghost use Rattle.init_machine.specs.Stored.{Stored};
+    ghost use Rattle.init_machine.specs.Kept.Stored.{Stored};
 
     ghost meaning = { λ s. s.props };
+
+    ghost told = { λ _. None };
 
     ghost spare = { λ s. s.spare };
 
     ghost Beside = { λ s t. s.props.capacity ≡ t.props.capacity };
 
     fn get(&mut self, name: PropName<'_>, out: &mut [u8; 91]) -> Option<(usize, u64)> {
-        match find(self.slots.as_slice(), name.bytes()) {
-            Some(slot) => Some(slot.read(out)),
-            None => None,
-        }
+        look_up(&self.held, name.bytes(), out)
     }
 
     fn count(&self) -> u64 {
@@ -87,18 +95,20 @@ impl PropStore for ListStore {
     }
 
     fn room(&mut self, name: PropName<'_>) -> Result<(), Full> {
-        let need = need_if_absent(self.slots.as_slice(), name.bytes());
+        let need = need_if_absent(&self.held, &self.prefixes, name.bytes());
         check_room(need, self.used, self.capacity, self.count)
     }
 
     fn reserve(&mut self, _: Global) -> Result<(), NoMemory> {
-        self.slots.reserve(1)?;
+        self.held.reserve(1)?;
+        self.prefixes.reserve(MAX_PREFIXES)?;
         Ok(())
     }
 
     fn put(&mut self, name: PropName<'_>, value: PropValue<'_>) -> u64 {
         let number = self.count + 1;
-        self.used += set(&mut self.slots, Slot::new(name, value, number));
+        let held = Held::new(value, number);
+        self.used += set(&mut self.held, &mut self.prefixes, name.bytes(), held);
         self.count = number;
         number
     }

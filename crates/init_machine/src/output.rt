@@ -1,7 +1,7 @@
 //! Outputs: what the machine did, line by line of the trace.
 
 use crate::word::Word;
-use init_base::{List, Millis, Pid, Text};
+use init_base::{List, Millis, NoMemory, Pid, Text};
 
 /// One thing that the machine did.
 #[derive(Debug, Drop)]
@@ -135,6 +135,17 @@ pub enum SetRefusal {
     AreaFull { used: u64, need: u64 },
     NumberSpent { last: u64 },
     NoMemory,
+}
+
+impl From<NoMemory> for SetRefusal {
+    ghost use Rattle.std.specs.Prelude.{◌≡◌};
+    ghost use Rattle.init_machine.specs.declared.output.SetRefusal.TheVariants.{NoMemory as set_no_memory};
+
+    ghost from_gives = { λ _ refusal. refusal ≡ set_no_memory };
+
+    fn from(_: NoMemory) -> Self {
+        SetRefusal::NoMemory
+    }
 }
 
 /// How a process ended.

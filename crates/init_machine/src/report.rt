@@ -1,34 +1,15 @@
 //! What a run leaves: its history, its diagnostics, and what its clients read.
 
-use crate::config::Pair;
 use crate::diagnostic::Diagnostic;
 use crate::input::Input;
 use crate::output::Output;
-use init_base::{List, Millis, Pid, Text};
+use init_base::{List, Text};
 
 /// An input, and what the machine did at it.
 #[derive(Debug, Drop)]
 pub struct Entry {
     pub input: Input,
     pub outputs: List<Output>,
-}
-
-/// What the running commands wait for.
-#[derive(Debug, Drop)]
-pub enum Waiting {
-    Child(Pid),
-    Prop(Pair),
-    File { path: Text, until: Millis },
-}
-
-/// What values of a property are accepted.
-#[derive(Debug, Drop)]
-pub enum TypeKind {
-    Any,
-    Bool,
-    Int,
-    Uint,
-    Enum(List<Text>),
 }
 
 /// What a client learned by one request. `number` is what its seat had seen.

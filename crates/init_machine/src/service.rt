@@ -33,15 +33,25 @@ pub struct ServiceDef {
 /// The marks of a service: its process, and what is to become of it.
 #[derive(Clone, Copy, Debug, PartialEq, Eq)]
 pub struct Marks {
+    /// Its process, where it has one.
     pub pid: Option<Pid>,
+    /// The process was killed, and isn't reaped yet.
     pub killed: bool,
+    /// Its class doesn't start it, and it isn't restarted.
     pub disabled: bool,
+    /// Its section has `disabled`, and it wasn't enabled since.
     pub declared: bool,
+    /// It isn't restarted when its process has ended.
     pub oneshot: bool,
+    /// It was stopped with its class, which may start it again.
     pub reset: bool,
+    /// It starts once more when its process has ended, oneshot or not.
     pub again: bool,
+    /// Its process has ended, and it waits until it is due.
     pub restarting: bool,
+    /// Its class was started while it was disabled.
     pub wanted: bool,
+    /// When its last process was spawned.
     pub started: Millis,
 }
 

@@ -1,8 +1,8 @@
 //! `PropStore`: what a store of properties is to the layers above. Its meaning is `Props` of `specs/Props.antt`.
 
-ghost use Rattle.std.specs.Prelude.{◌≡◌, ◌+◌, ◌≤◌, ℕ, None, OnOk};
+ghost use Rattle.std.specs.Prelude.{◌≡◌, ◌+◌, ◌≤◌, ◌∷◌, [], ℕ, List, Option, None, OnOk};
 ghost use Rattle.std.specs.Result.{result_err};
-ghost use Rattle.init_machine.specs.Props.{Props, lookup_in, with_set, used_in, full_for, IsLookUp};
+ghost use Rattle.init_machine.specs.Props.{Props, lookup_in, more_sets, with_set, used_in, full_for, IsLookUp};
 
 use init_base::{NoMemory, PropName, PropValue};
 use std::alloc::Global;
@@ -18,8 +18,11 @@ pub enum Full {
 
 /// A store of properties: a finite map from names to a value and the number of the set that gave it.
 pub trait PropStore {
-    /// The map, the count of sets, the capacity in words, and the list of the sets where it is told.
+    /// The map, the count of sets, and the capacity in words.
     ghost meaning: { Self → Props };
+
+    /// The names and values of the accepted sets in order, where they are told.
+    ghost told: { Self → Option (List (List ℕ × List ℕ)) };
 
     /// For how many sets there is memory already.
     ghost spare: { Self → ℕ };
@@ -32,6 +35,7 @@ pub trait PropStore {
     fn get(&mut self, name: PropName<'_>, out: &mut [u8; 91]) -> Option<(usize, u64)>
         ensures found { IsLookUp (lookup_in (meaning self.old).held name.entry.bytes.now) result out.new }
         ensures same { meaning self.new ≡ meaning self.old }
+        ensures told { told self.new ≡ told self.old }
         ensures spare { spare self.new ≡ spare self.old }
         ensures beside { Beside self.old self.new };
 
@@ -47,6 +51,7 @@ pub trait PropStore {
     fn room(&mut self, name: PropName<'_>) -> Result<(), Full>
         ensures full { result_err result ≡ full_for (meaning self.old) name.entry.bytes.now }
         ensures same { meaning self.new ≡ meaning self.old }
+        ensures told { told self.new ≡ told self.old }
         ensures spare { spare self.new ≡ spare self.old }
         ensures beside { Beside self.old self.new };
 
@@ -54,6 +59,7 @@ pub trait PropStore {
     fn reserve(&mut self, alloc: Global) -> Result<(), NoMemory>
         ensures spare { OnOk result (1 ≤ spare self.new) }
         ensures same { meaning self.new ≡ meaning self.old }
+        ensures told { told self.new ≡ told self.old }
         ensures beside { Beside self.old self.new };
 
     /// Sets the property, and answers the set's number. It can't fail.
@@ -62,6 +68,7 @@ pub trait PropStore {
         requires spare { 1 ≤ spare self.old }
         ensures number { result ≡ (meaning self.old).count + 1 }
         ensures set { meaning self.new ≡ with_set (meaning self.old) name.entry.bytes.now value.entry.bytes.now }
+        ensures told { told self.new ≡ more_sets (told self.old) ((name.entry.bytes.now, value.entry.bytes.now) ∷ []) }
         ensures beside { Beside self.old self.new };
 
     /// The same beside the map is reflexive.

@@ -1,6 +1,7 @@
 //! The words of commands (AOSP, init's README, "Commands").
 
 ghost use Rattle.std.specs.Prelude.{◌≡◌};
+ghost use Rattle.init_machine.specs.Commands.{word_of};
 ghost use Rattle.init_machine.specs.WordTexts.{inert_text, word_text};
 
 /// A command's word.
@@ -57,7 +58,60 @@ pub enum InertWord {
     Bootchart,
 }
 
+/// The words of all commands.
+pub const WORDS: [Word; 42] = [
+    Word::ClassStart,
+    Word::ClassStop,
+    Word::ClassReset,
+    Word::ClassRestart,
+    Word::Start,
+    Word::Stop,
+    Word::Enable,
+    Word::Restart,
+    Word::ExecStart,
+    Word::Exec,
+    Word::Setprop,
+    Word::Trigger,
+    Word::WaitForProp,
+    Word::Wait,
+    Word::LoadPersistProps,
+    Word::Export,
+    Word::Write,
+    Word::Copy,
+    Word::Rm,
+    Word::Rmdir,
+    Word::Symlink,
+    Word::Chmod,
+    Word::Mkdir,
+    Word::Inert(InertWord::Mount),
+    Word::Inert(InertWord::Umount),
+    Word::Inert(InertWord::Restorecon),
+    Word::Inert(InertWord::RestoreconRecursive),
+    Word::Inert(InertWord::Chown),
+    Word::Inert(InertWord::Insmod),
+    Word::Inert(InertWord::Ifup),
+    Word::Inert(InertWord::Sysclktz),
+    Word::Inert(InertWord::Setrlimit),
+    Word::Inert(InertWord::SwaponAll),
+    Word::Inert(InertWord::VerityUpdateState),
+    Word::Inert(InertWord::Installkey),
+    Word::Inert(InertWord::InitUser0),
+    Word::Inert(InertWord::MarkPostData),
+    Word::Inert(InertWord::ExecBackground),
+    Word::Inert(InertWord::Loglevel),
+    Word::Inert(InertWord::Hostname),
+    Word::Inert(InertWord::Domainname),
+    Word::Inert(InertWord::Bootchart),
+];
+
 impl Word {
+    /// The command with this text. None exactly where no command has it.
+    pub fn of(text: &[u8]) -> Option<Word>
+        ensures { result ≡ word_of text.now }
+    {
+        WORDS.iter().copied().find(|word| word.name() == text)
+    }
+
     /// The word, as it is written in an rc file.
     #[tactic(auto, unfolding(crate::specs::WordTexts::word_text))]
     pub fn name(self) -> &'static [u8]

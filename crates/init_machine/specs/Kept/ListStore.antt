@@ -1,0 +1,22 @@
+-- The plain store: what its fields mean, and what they keep.
+use Rattle.std.specs.Prelude.{◌≡◌, ◌/◌, ◌≤◌, min}
+use Rattle.indexmap.specs.IndexMap as entries
+use Rattle.indexmap.specs.IndexSet as keys
+use Rattle.init_machine.specs.Kept.Stored.{AreKnown, Stored, properties}
+use Rattle.init_machine.specs.Props.{names_of, last_number}
+use Rattle.init_machine.specs.Words.{used_of}
+use Rattle.init_machine.specs.declared.list_store.ListStore.TheInside.{Inside}
+
+-- what the store's fields mean: there is memory for as many sets as there are places for a name and for 256 prefixes
+abbrev pub stored : Inside → Stored
+stored s = record {
+  props = record { held = properties s.held.entries; count = s.count; capacity = s.capacity };
+  spare = min (entries.spare s.held) (keys.spare s.prefixes / 256);
+}
+
+-- what the store's fields keep: the dotted prefixes of the names, the words in use, and a count that stays within the
+-- numbers of sets
+pub record IsCounted (s : Inside) : Type 0 where
+  pub known : AreKnown s.prefixes.keys (properties s.held.entries)
+  pub used : s.used ≡ used_of (names_of (properties s.held.entries))
+  pub numbers : s.count ≤ last_number

@@ -1,0 +1,86 @@
+//! The entries of the store: a name, and what is held of it.
+
+ghost use Rattle.std.specs.Prelude.{◌≡◌, ◌+◌, ◌≤◌, not, length, Some, None, take, if◌then◌else◌};
+ghost use Rattle.indexmap.specs.IndexMap.{spare};
+ghost use Rattle.indexmap.specs.IndexSet as keys;
+ghost use Rattle.init_machine.specs.Kept.Stored.{AreKnown, properties, property_of};
+ghost use Rattle.init_machine.specs.Props.{lookup_in, put_in, is_absent, names_of, IsLookUp};
+ghost use Rattle.init_machine.specs.Words.{need_of};
+
+use super::held::Held;
+use super::name::Name;
+use super::nodes::{add, words_of_new};
+use indexmap::{IndexMap, IndexSet};
+
+/// The words of a property's cell.
+const CELL_WORDS: u64 = 13;
+
+/// Looks a property up: the length of its value, which stands at the front of the buffer then, and the number of its
+/// set.
+#[tactic(auto, using(crate::proofs::Entries::lookup_property))]
+pub fn look_up(held: &IndexMap<Name, Held>, name: &[u8], out: &mut [u8; 91]) -> Option<(usize, u64)>
+    requires { length name.now ≤ 255 }
+    ensures { IsLookUp (lookup_in (properties held.now.entries) name.now) result out.new }
+{
+    match held.get(&Name::new(name)) {
+        Some(held) => Some(held.read(out)),
+        None => None,
+    }
+}
+
+/// The words that a name needs, where it isn't held. The known prefixes are those of the names that are held.
+#[tactic(auto, using(crate::proofs::Entries::absent_property, crate::proofs::Needs::need_beyond))]
+pub fn need_if_absent(
+    held: &IndexMap<Name, Held>,
+    known: &IndexSet<Name>,
+    name: &[u8],
+) -> Option<u64>
+    requires short { length name.now ≤ 255 }
+    requires known { AreKnown known.now.keys (properties held.now.entries) }
+    ensures { result ≡ (if is_absent (lookup_in (properties held.now.entries) name.now) then Some (need_of (names_of (properties held.now.entries)) name.now) else None) }
+{
+    if held.contains_key(&Name::new(name)) {
+        None
+    } else {
+        Some(CELL_WORDS + words_of_new(known, name))
+    }
+}
+
+/// Puts a property in the place of its name's old one, or at the end, where there is memory for it; and answers how
+/// many words that takes. The known prefixes are those of the names that are held, and stay so.
+#[tactic(auto, using(crate::proofs::Needs::need_beyond))]
+pub fn set(
+    entries: &mut IndexMap<Name, Held>,
+    known: &mut IndexSet<Name>,
+    name: &[u8],
+    held: Held,
+) -> u64
+    requires short { length name.now ≤ 255 }
+    requires spare { 1 ≤ spare entries.old }
+    requires spare_prefixes { 256 ≤ keys.spare known.old }
+    requires known { AreKnown known.old.keys (properties entries.old.entries) }
+    ensures put { properties entries.new.entries ≡ put_in (properties entries.old.entries) (property_of (name.now, held)) }
+    ensures words { result ≡ (if is_absent (lookup_in (properties entries.old.entries) name.now) then need_of (names_of (properties entries.old.entries)) name.now else 0) }
+    ensures known { AreKnown known.new.keys (properties entries.new.entries) }
+{
+    if hold(entries, name, held) {
+        CELL_WORDS + add(known, name)
+    } else {
+        0
+    }
+}
+
+/// Puts what is held of a name in the place of the old, or at the end, where there is memory for it; and answers
+/// whether the name is new.
+#[tactic(auto, using(crate::proofs::Entries::absent_property, crate::proofs::Entries::put_property))]
+fn hold(entries: &mut IndexMap<Name, Held>, name: &[u8], held: Held) -> bool
+    requires short { length name.now ≤ 255 }
+    requires spare { 1 ≤ spare entries.old }
+    ensures new { result ≡ is_absent (lookup_in (properties entries.old.entries) name.now) }
+    ensures put { properties entries.new.entries ≡ put_in (properties entries.old.entries) (property_of (name.now, held)) }
+{
+    match entries.insert(Name::new(name), held) {
+        Ok(old) => old.is_none(),
+        Err(_) => unreachable!(),
+    }
+}

@@ -1,0 +1,12 @@
+//! What the machine waits for.
+
+use crate::config::Pair;
+use init_base::{Millis, Pid, Text};
+
+/// What the running commands wait for.
+#[derive(Debug, Drop)]
+pub enum Waiting {
+    Child(Pid),
+    Prop(Pair),
+    File { path: Text, until: Millis },
+}
