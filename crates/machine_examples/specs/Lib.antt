@@ -1,0 +1,9 @@
+pub mod Clients
+pub mod Critical
+pub mod Endings
+pub mod Files
+pub mod Restarts
+pub mod Run
+pub mod Trace
+pub mod Triggers
+pub mod Waits
