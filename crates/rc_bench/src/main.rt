@@ -48,7 +48,7 @@ fn read_once(alloc: Global, text: &[u8], parses: bool) -> Result<usize, TokenRef
         return Ok(tokens.lines.len());
     }
     let file = Text::of(alloc, b"/init.rc")?;
-    Ok(parse(alloc, &file, &tokens)?.diagnostics.len())
+    Ok(parse(alloc, &file, tokens)?.diagnostics.len())
 }
 
 /// None where the words are no run, or memory is short.

@@ -7,21 +7,22 @@ use Rattle.std.proofs.lemmas.Bool.{cond-true, or_left, or_right, lt-ltb}
 use Rattle.init_machine.specs.declared.diagnostic.DiagKind.{DiagKind}
 use Rattle.init_machine.specs.declared.diagnostic.DiagKind.TheVariants.{BadOption}
 use Rattle.init_machine.specs.declared.service.Critical.{Critical}
-use Rattle.rc_parse.specs.Parts.{with_first, with_part}
-use Rattle.rc_parse.specs.Readings.{IsReading, values}
-use Rattle.rc_parse.specs.Triggers.{is_bad}
+use Rattle.rc_parse.specs.Code.Parts.{with_first, with_part}
+use Rattle.rc_parse.specs.Readings.{is_bad, IsReading, values}
 use Rattle.rc_parse.specs.Values.{critical_for, critical_of, last_value, part_of, target_part, targets_in, targets_of, window_part, window_of, windows_in, windows_of}
 use Rattle.rc_parse.specs.declared.critical.CriticalPart.{CriticalPart}
 use Rattle.rc_parse.specs.declared.critical.CriticalPart.TheVariants.{Window, Target}
 use Rattle.rc_parse.specs.declared.critical.Parts.{Parts}
 use Rattle.rc_parse.specs.declared.fault.Fault.{Fault}
 use Rattle.rc_parse.specs.declared.fault.Fault.TheVariants as faults
+use Rattle.rc_parse.specs.declared.critical.WindowLength.{WindowLength}
+use Rattle.rc_parse.specs.declared.critical.WindowLength.TheVariants as minute
 
 -- the meaning of some windows and targets, beside which something is out of form or not
-abbrev pub outcome : Bool → List (Option ℕ) → List (List ℕ) → Result (Option Critical) DiagKind
+abbrev pub outcome : Bool → List WindowLength → List (List ℕ) → Result (Option Critical) DiagKind
 outcome bad windows targets =
     if bad || nat_lt 1 (length windows) || nat_lt 1 (length targets) then Err BadOption
-    else Ok (critical_for (last_value (Some 4) windows) (last_value (codes "bootloader") targets))
+    else Ok (critical_for (last_value (minute.Minutes 4) windows) (last_value (codes "bootloader") targets))
 
 -- whether an argument is out of form
 abbrev pub has_bad : List (List ℕ) → Bool
@@ -36,23 +37,23 @@ abbrev pub outcome_with : List (List ℕ) → Result Parts DiagKind → Result (
 outcome_with args (Ok parts) = outcome_of parts args
 outcome_with args (Err kind) = Err kind
 
-two_windows : (bad : Bool) (first second : Option ℕ) (windows : List (Option ℕ)) (targets : List (List ℕ))
+two_windows : (bad : Bool) (first second : WindowLength) (windows : List WindowLength) (targets : List (List ℕ))
     → Err BadOption ≡ outcome bad (first ∷ second ∷ windows) targets
 two_windows bad first second windows targets =
     sym (cond-true _ _ _ (or_left _ _ (or_right bad _ (lt-ltb 1 (length (first ∷ second ∷ windows)) (omega arith)))))
 
-two_targets : (bad : Bool) (windows : List (Option ℕ)) (first second : List ℕ) (targets : List (List ℕ))
+two_targets : (bad : Bool) (windows : List WindowLength) (first second : List ℕ) (targets : List (List ℕ))
     → Err BadOption ≡ outcome bad windows (first ∷ second ∷ targets)
 two_targets bad windows first second targets = sym (cond-true _ _ _ (or_right _ _ (lt-ltb 1 (length (first ∷ second ∷ targets)) (omega arith))))
 
-with_window : (windows : Option (Option ℕ)) (target : Option (List ℕ)) (window : Option ℕ) (args : List (List ℕ))
+with_window : (windows : Option WindowLength) (target : Option (List ℕ)) (window : WindowLength) (args : List (List ℕ))
     → outcome_with args (with_first windows (record { window = Some window; target = target }))
     ≡ outcome (has_bad args) (option_to_list windows ++ window ∷ windows_of args) (option_to_list target ++ targets_of args)
 with_window None target window args = refl
 with_window (Some earlier) target window args =
     two_windows (has_bad args) earlier window (windows_of args) (option_to_list target ++ targets_of args)
 
-with_target : (window : Option (Option ℕ)) (targets : Option (List ℕ)) (target : List ℕ) (args : List (List ℕ))
+with_target : (window : Option WindowLength) (targets : Option (List ℕ)) (target : List ℕ) (args : List (List ℕ))
     → outcome_with args (with_first targets (record { window = window; target = Some target }))
     ≡ outcome (has_bad args) (option_to_list window ++ windows_of args) (option_to_list targets ++ target ∷ targets_of args)
 with_target window None target args = refl
@@ -78,7 +79,7 @@ either_bad_option : (test : Bool) (x y : Result CriticalPart DiagKind) → IsBad
 either_bad_option true x y left right = left
 either_bad_option false x y left right = right
 
-bad_window : (window : Option (Option ℕ)) → IsBadOption (window_part window)
+bad_window : (window : Option WindowLength) → IsBadOption (window_part window)
 bad_window None = refl
 bad_window (Some window) = tt
 

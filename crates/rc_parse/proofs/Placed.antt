@@ -1,21 +1,24 @@
 -- Each line stands in its section, and diagnostics stand in the order of the lines.
-use Rattle.std.proofs.Common.{◌≡◌, ℕ, ◌+◌, Bool, true, false, not, cond, if◌then◌else◌, Result, Ok, Err, List, [], ◌∷◌, ◌++◌, length, map, take, ◌==◌, refl, sym, subst, ap, ◌∙◌}
+use Rattle.std.proofs.Common.{◌≡◌, ℕ, ◌+◌, ◌<◌, Option, Some, None, Bool, true, false, not, cond, if◌then◌else◌, Result, Ok, Err, List, [], ◌∷◌, ◌++◌, length, map, take, ◌==◌, refl, sym, subst, ap, ◌∙◌}
 use Rattle.std.proofs.Math.Numerals.{one-add}
 use Rattle.std.proofs.lemmas.List.{map-append}
-use Rattle.std.specs.List.{flat_map, position_or_len}
+use Rattle.std.specs.List.{AllByRecursion, flat_map, position_or_len}
+use Rattle.std.specs.Option.{option_to_list}
 use Rattle.init_machine.specs.declared.diagnostic.DiagKind.{DiagKind}
 use Rattle.init_machine.specs.declared.diagnostic.Diagnostic.{Diagnostic}
+use Rattle.rc_tokens.specs.Lines.{Ascend, numbers as token_numbers}
 use Rattle.rc_tokens.specs.declared.line.Line.{Line}
 use Rattle.rc_tokens.specs.declared.line.Tokens.{Tokens}
-use Rattle.rc_parse.specs.Lines.{Section, sections, is_header, is_on, is_service, lines_before_header}
+use Rattle.rc_parse.specs.Lines.{sections, is_header, is_on, is_service, lines_before_header}
 use Rattle.rc_parse.specs.Places.{section_lines, IsParted, InOrder, end, left_out, taken, numbers, places, ArePlaced}
 use Rattle.rc_parse.specs.Readings.{diagnosed}
-use Rattle.rc_parse.specs.Sections.{Sections, header_args, command_at, setting_at, action_diagnostics, service_diagnostics, import_diagnostics, diagnostics_of, orphan}
+use Rattle.rc_parse.specs.Sections.{Sections, header_args, command_at, setting_at, action_diagnostics, service_diagnostics, import_diagnostics, diagnostics_of, orphan, cut}
 use Rattle.rc_parse.specs.Services.{is_service_header}
 use Rattle.rc_parse.specs.Triggers.{triggers_of}
-use Rattle.rc_parse.specs.Adding.{section_of}
+use Rattle.rc_parse.specs.Code.Adding.{section_of}
 use Rattle.rc_parse.specs.declared.parsed.Parsed.{Parsed}
 use Rattle.rc_parse.specs.declared.trigger.Triggers.{Triggers}
+use Rattle.rc_parse.specs.declared.section.Section.{Section}
 
 -- ---- each line has its place
 
@@ -77,7 +80,7 @@ lines_placed file read (line ∷ lines) =
     placed-append (diagnosed file line.number (read line)) (flat_map (λ more. diagnosed file more.number (read more)) lines)
     (line ∷ []) lines (reading_placed file line (read line)) (lines_placed file read lines)
 
-orphans_placed : (file : List ℕ) (lines : List Line) → Placed (map (orphan file) lines) lines
+orphans_placed : (file : List ℕ) (lines : List Line) → Placed (map (λ line. orphan file line.number) lines) lines
 orphans_placed file [] = end
 orphans_placed file (line ∷ lines) = taken (orphans_placed file lines)
 
@@ -118,11 +121,38 @@ sections_placed file (section ∷ more) =
 
 pub diagnostics_placed : (file : List ℕ) (tokens : Tokens) (parsed : Parsed) → Sections file tokens parsed → ArePlaced file tokens parsed
 diagnostics_placed file tokens parsed are = record {
-  found = map (orphan file) (lines_before_header tokens.lines) ++ flat_map (diagnostics_of file) (sections tokens.lines);
+  found = map (λ line. orphan file line.number) (lines_before_header tokens.lines) ++ flat_map (diagnostics_of file) (sections tokens.lines);
   all_are = are.diagnostics_are;
-  in_order = subst (λ lines. InOrder (places (map (orphan file) (lines_before_header tokens.lines) ++ flat_map (diagnostics_of file) (sections tokens.lines))) (numbers lines))
+  in_order = subst (λ lines. InOrder (places (map (λ line. orphan file line.number) (lines_before_header tokens.lines) ++ flat_map (diagnostics_of file) (sections tokens.lines))) (numbers lines))
       (lines_parted tokens.lines)
-      (placed-append (map (orphan file) (lines_before_header tokens.lines)) (flat_map (diagnostics_of file) (sections tokens.lines))
+      (placed-append (map (λ line. orphan file line.number) (lines_before_header tokens.lines)) (flat_map (diagnostics_of file) (sections tokens.lines))
       (lines_before_header tokens.lines) (flat_map section_lines (sections tokens.lines))
       (orphans_placed file (lines_before_header tokens.lines)) (sections_placed file (sections tokens.lines)));
 }
+
+-- ---- their lines ascend
+
+above_fewer : {some all : List ℕ} (least : ℕ) (rest : List ℕ) → InOrder some all
+    → AllByRecursion (λ other. least < other) (all ++ rest) → AllByRecursion (λ other. least < other) (some ++ rest)
+above_fewer least rest end above = above
+above_fewer least rest (left_out order) above = above_fewer least rest order above.1
+above_fewer least rest (taken order) above = (above.0, above_fewer least rest order above.1)
+
+fewer_ascend : {some all : List ℕ} (rest : List ℕ) → InOrder some all → Ascend (all ++ rest) → Ascend (some ++ rest)
+fewer_ascend rest end ascend = ascend
+fewer_ascend rest (left_out order) ascend = fewer_ascend rest order ascend.1
+fewer_ascend rest (taken {number = least} order) ascend = (above_fewer least rest order ascend.0, fewer_ascend rest order ascend.1)
+
+cut_place : (file : List ℕ) (dropped : Option ℕ) → option_to_list dropped ≡ places (cut file dropped)
+cut_place file None = refl
+cut_place file (Some line) = refl
+
+pub diagnostics_ascend : (file : List ℕ) (tokens : Tokens) (parsed : Parsed) → Sections file tokens parsed
+    → Ascend (token_numbers tokens.lines tokens.dropped) → Ascend (places parsed.diagnostics)
+diagnostics_ascend file tokens parsed are ascend =
+    let placed = diagnostics_placed file tokens parsed are in
+    subst (λ found. Ascend found)
+    (ap (λ (more : List ℕ). places placed.found ++ more) (cut_place file tokens.dropped)
+    ∙ sym (map-append (λ (found : Diagnostic). found.line) placed.found (cut file tokens.dropped))
+    ∙ sym (ap places placed.all_are))
+    (fewer_ascend (option_to_list tokens.dropped) placed.in_order ascend)

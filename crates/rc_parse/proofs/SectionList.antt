@@ -1,54 +1,28 @@
 -- The sections of a list of lines, header by header.
-use Rattle.std.proofs.Common.{◌≡◌, ℕ, ◌+◌, ◌≤◌, Bool, true, false, IsTrue, ◌&&◌, not, cond, if◌then◌else◌, Result, Ok, Err, List, [], ◌∷◌, ◌++◌, length, map, get_or, take, drop, ◌-◌, ◌<◌, refl, sym, ap, ◌∙◌, append_assoc, arith}
+use Rattle.std.proofs.Common.{◌≡◌, ℕ, ◌+◌, Bool, true, false, IsTrue, ◌&&◌, not, cond, if◌then◌else◌, Option, Some, None, Result, Ok, Err, List, [], ◌∷◌, ◌++◌, map, take, refl, sym, ap, ◌∙◌, append_assoc}
 use Rattle.std.proofs.Math.Numerals.{one-add}
-use Rattle.std.proofs.lemmas.List.{append-nil, take_all}
+use Rattle.std.proofs.lemmas.Bool.{cond-true, cond-false}
+use Rattle.std.proofs.lemmas.List.{append-nil}
 use Rattle.std.proofs.lemmas.List.Folds.{list_all-append}
 use Rattle.std.specs.List.{flat_map, list_all, position_or_len}
 use Rattle.init_machine.specs.declared.action.Action.{Action}
 use Rattle.init_machine.specs.declared.diagnostic.DiagKind.{DiagKind}
 use Rattle.init_machine.specs.declared.diagnostic.Diagnostic.{Diagnostic}
+use Rattle.init_machine.specs.declared.service.ServiceDef.{ServiceDef}
 use Rattle.rc_tokens.specs.declared.line.Line.{Line}
 use Rattle.rc_tokens.specs.declared.line.Tokens.{Tokens}
-use Rattle.rc_parse.specs.Lines.{Section, sections, is_header, is_on, lines_before_header}
-use Rattle.rc_parse.specs.Sections.{Sections, header_args, commands_of, has_command, action_under, actions_of, services_of, imports_of, diagnostics_of, orphan, cut}
+use Rattle.rc_parse.specs.Lines.{sections, is_header, is_on, is_service, lines_before_header}
+use Rattle.rc_parse.specs.Sections.{Sections, header_args, commands_of, has_command, action_under, actions_of, services_of, import_with, imports_of, import_fault, import_diagnostics, diagnostics_of, orphan, cut}
 use Rattle.rc_parse.specs.Triggers.{triggers_of}
-use Rattle.rc_parse.specs.Adding.{lines_from_header, begins_at_header, section_of, with_diagnostics, with_section, with_sections}
+use Rattle.rc_parse.specs.Code.Adding.{section_of, with_diagnostics, with_import, with_open, with_rest, with_section, with_sections}
+use Rattle.rc_parse.specs.Services.{is_service_header}
+use Rattle.rc_parse.specs.declared.parsed.Import.{Import}
 use Rattle.rc_parse.specs.declared.parsed.Parsed.{Parsed}
 use Rattle.rc_parse.specs.declared.trigger.Triggers.{Triggers}
+use Rattle.rc_parse.specs.declared.section.Section.{Section}
 
-from_here : (line : Line) (lines : List Line) → is_header line ≡ true → lines_from_header (line ∷ lines) ≡ line ∷ lines
-from_here line lines is = ap (λ (b : Bool). drop (cond (not b) (1 + position_or_len is_header lines) 0) (line ∷ lines)) is
-
-from_later : (line : Line) (lines : List Line) → is_header line ≡ false → lines_from_header (line ∷ lines) ≡ lines_from_header lines
-from_later line lines is =
-    ap (λ (b : Bool). drop (cond (not b) (1 + position_or_len is_header lines) 0) (line ∷ lines)) is
-    ∙ ap (λ (n : ℕ). drop n (line ∷ lines)) (one-add (position_or_len is_header lines))
-
--- lines that are no headers add no section
-from_header_step : (b : Bool) (line : Line) (lines : List Line) → is_header line ≡ b
-    → sections (lines_from_header lines) ≡ sections lines → sections (lines_from_header (line ∷ lines)) ≡ sections (line ∷ lines)
-from_header_step true line lines is same = ap (λ (more : List Line). sections more) (from_here line lines is)
-from_header_step false line lines is same =
-    ap (λ (more : List Line). sections more) (from_later line lines is) ∙ same
-    ∙ sym (ap (λ (b : Bool). if b then section_of line (lines_before_header lines) ∷ sections lines else sections lines) is)
-
-pub sections_from_header : (lines : List Line) → sections (lines_from_header lines) ≡ sections lines
-sections_from_header [] = refl
-sections_from_header (line ∷ lines) = from_header_step (is_header line) line lines refl (sections_from_header lines)
-
-begins_step : (b : Bool) (line : Line) (lines : List Line) → is_header line ≡ b
-    → begins_at_header (lines_from_header lines) ≡ true → begins_at_header (lines_from_header (line ∷ lines)) ≡ true
-begins_step true line lines is begins = ap (λ (more : List Line). begins_at_header more) (from_here line lines is) ∙ is
-begins_step false line lines is begins = ap (λ (more : List Line). begins_at_header more) (from_later line lines is) ∙ begins
-
-pub from_header_begins : (lines : List Line) → begins_at_header (lines_from_header lines) ≡ true
-from_header_begins [] = refl
-from_header_begins (line ∷ lines) = begins_step (is_header line) line lines refl (from_header_begins lines)
-
--- the first section, and the others
-sections_at_header : (header : Line) (behind : List Line) → is_header header ≡ true
-    → sections (header ∷ behind) ≡ section_of header (lines_before_header behind) ∷ sections (lines_from_header behind)
-sections_at_header header behind is = rw (is, sections_from_header behind) refl
+no_orphans : (file : List ℕ) (parsed : Parsed) → with_diagnostics parsed [] ≡ parsed
+no_orphans file parsed = ap (λ (found : List Diagnostic). record parsed { diagnostics = found }) (append-nil parsed.diagnostics)
 
 with_first_section : (file : List ℕ) (parsed : Parsed) (section : Section) (more : List Section)
     → with_sections file (with_section file parsed section) more ≡ with_sections file parsed (section ∷ more)
@@ -59,45 +33,74 @@ with_first_section file parsed section more = rw (
   append_assoc parsed.diagnostics (diagnostics_of file section) (flat_map (diagnostics_of file) more),
 ) refl
 
--- the section of a header was added
-section_added : (file : List ℕ) (parsed next all : Parsed) (header : Line) (behind : List Line) → is_header header ≡ true
-    → with_sections file parsed (sections (header ∷ behind)) ≡ all
-    → next ≡ with_section file parsed (section_of header (lines_before_header behind))
-    → with_sections file next (sections (lines_from_header behind)) ≡ all
-section_added file parsed next all header behind is left added =
-    ap (λ (p : Parsed). with_sections file p (sections (lines_from_header behind))) added
-    ∙ with_first_section file parsed (section_of header (lines_before_header behind)) (sections (lines_from_header behind))
-    ∙ ap (λ (more : List Section). with_sections file parsed more) (sym (sections_at_header header behind is))
-    ∙ left
+-- ---- a line more
 
--- the lines behind the first one
-abbrev pub behind_first : List Line → List Line
-behind_first lines = take (length lines - 1) (drop 1 lines)
+none_before : (line : Line) (lines : List Line) → is_header line ≡ true → lines_before_header (line ∷ lines) ≡ []
+none_before line lines is = ap (λ (b : Bool). take (cond (not b) (1 + position_or_len is_header lines) 0) (line ∷ lines)) is
 
-behind_first_is : (line : Line) (lines : List Line) → behind_first (line ∷ lines) ≡ lines
-behind_first_is line lines = take_all (length (line ∷ lines) - 1) lines (omega arith)
+one_before : (line : Line) (lines : List Line) → is_header line ≡ false → lines_before_header (line ∷ lines) ≡ line ∷ lines_before_header lines
+one_before line lines is =
+    ap (λ (b : Bool). take (cond (not b) (1 + position_or_len is_header lines) 0) (line ∷ lines)) is
+    ∙ ap (λ (n : ℕ). take n (line ∷ lines)) (one-add (position_or_len is_header lines))
 
--- the same, where the lines that are left begin with the header
-pub first_added : (file : List ℕ) (parsed next all : Parsed) (left body behind : List Line) (header : Line)
-    → 1 ≤ length left → header ≡ get_or left 0 header → begins_at_header left ≡ true
-    → body ≡ lines_before_header (behind_first left) → behind ≡ lines_from_header (behind_first left)
-    → with_sections file parsed (sections left) ≡ all
-    → next ≡ with_section file parsed (section_of header body)
-    → with_sections file next (sections behind) ≡ all
-first_added file parsed next all [] body behind header some is begins body_is behind_is before added = absurd (omega (arith, some))
-first_added file parsed next all (line ∷ lines) body behind header some is begins body_is behind_is before added =
-    let lines_are = behind_first_is line lines in
-    ap (λ (more : List Line). with_sections file next (sections more)) (behind_is ∙ ap (λ (more : List Line). lines_from_header more) lines_are)
-    ∙ section_added file parsed next all line lines begins before
-    (added ∙ ap (λ (first : Line). with_section file parsed (section_of first body)) is
-    ∙ ap (λ (lines_of_it : List Line). with_section file parsed (section_of line lines_of_it)) (body_is ∙ ap (λ (more : List Line). lines_before_header more) lines_are))
+one_section : (line : Line) (lines : List Line) → is_header line ≡ true → sections (line ∷ lines) ≡ section_of line (lines_before_header lines) ∷ sections lines
+one_section line lines is = cond-true _ _ _ is
+
+no_section : (line : Line) (lines : List Line) → is_header line ≡ false → sections (line ∷ lines) ≡ sections lines
+no_section line lines is = cond-false _ _ _ is
+
+-- a section that a header ends
+pub ended : (file : List ℕ) (parsed next : Parsed) (open_section : Option Section) (line : Line) (rest : List Line) → is_header line ≡ true
+    → next ≡ with_open file parsed open_section
+    → with_rest file next (Some (section_of line [])) rest ≡ with_rest file parsed open_section (line ∷ rest)
+ended file parsed next None line rest is next_is =
+    ap (λ (p : Parsed). with_sections file p (section_of line (lines_before_header rest) ∷ sections rest)) (next_is ∙ sym (no_orphans file parsed))
+    ∙ ap (λ (all : List Section). with_sections file (with_diagnostics parsed []) all) (sym (one_section line rest is))
+    ∙ ap (λ (lines : List Line). with_sections file (with_diagnostics parsed (map (λ l. orphan file l.number) lines)) (sections (line ∷ rest))) (sym (none_before line rest is))
+ended file parsed next (Some section) line rest is next_is =
+    ap (λ (p : Parsed). with_sections file p (section_of line (lines_before_header rest) ∷ sections rest)) next_is
+    ∙ with_first_section file parsed section (section_of line (lines_before_header rest) ∷ sections rest)
+    ∙ ap (λ (all : List Section). with_sections file parsed (section ∷ all)) (sym (one_section line rest is))
+    ∙ ap (λ (body : List Line). with_sections file parsed (record section { body = body } ∷ sections (line ∷ rest)))
+    (sym (append-nil section.body) ∙ ap (λ (lines : List Line). section.body ++ lines) (sym (none_before line rest is)))
+
+-- a line in the section that is open
+pub went_on : (file : List ℕ) (parsed : Parsed) (section : Section) (line : Line) (body rest : List Line) → is_header line ≡ false
+    → body ≡ section.body ++ line ∷ []
+    → with_rest file parsed (Some (section_of section.header body)) rest ≡ with_rest file parsed (Some section) (line ∷ rest)
+went_on file parsed section line body rest isnt body_is =
+    ap (λ (lines : List Line). with_sections file parsed (section_of section.header lines ∷ sections rest))
+    (ap (λ (lines : List Line). lines ++ lines_before_header rest) body_is
+    ∙ append_assoc section.body (line ∷ []) (lines_before_header rest)
+    ∙ ap (λ (lines : List Line). section.body ++ lines) (sym (one_before line rest isnt)))
+    ∙ ap (λ (all : List Section). with_sections file parsed (section_of section.header (section.body ++ lines_before_header (line ∷ rest)) ∷ all)) (sym (no_section line rest isnt))
+
+-- a line before the first header
+pub was_orphan : (file : List ℕ) (parsed next : Parsed) (line : Line) (rest : List Line) → is_header line ≡ false
+    → next ≡ with_diagnostics parsed (orphan file line.number ∷ [])
+    → with_rest file next None rest ≡ with_rest file parsed None (line ∷ rest)
+was_orphan file parsed next line rest isnt next_is =
+    ap (λ (p : Parsed). with_rest file p None rest) next_is
+    ∙ ap (λ (found : List Diagnostic). with_sections file (record parsed { diagnostics = found }) (sections rest))
+    (append_assoc parsed.diagnostics (orphan file line.number ∷ []) (map (λ l. orphan file l.number) (lines_before_header rest)))
+    ∙ ap (λ (lines : List Line). with_sections file (with_diagnostics parsed (map (λ l. orphan file l.number) lines)) (sections rest)) (sym (one_before line rest isnt))
+    ∙ ap (λ (all : List Section). with_sections file (with_diagnostics parsed (map (λ l. orphan file l.number) (lines_before_header (line ∷ rest)))) all) (sym (no_section line rest isnt))
+
+-- ---- all lines
+
+-- the section that is open at the end
+pub last_closed : (file : List ℕ) (parsed : Parsed) (open_section : Option Section) → with_rest file parsed open_section [] ≡ with_sections file (with_open file parsed open_section) []
+last_closed file parsed None = ap (λ (p : Parsed). with_sections file p []) (no_orphans file parsed)
+last_closed file parsed (Some section) =
+    ap (λ (body : List Line). with_sections file parsed (record section { body = body } ∷ [])) (append-nil section.body)
+    ∙ sym (with_first_section file parsed section [])
 
 abbrev pub nothing : Parsed
 nothing = record { actions = []; services = []; imports = []; diagnostics = [] }
 
 -- all sections were added to what had the first lines, and then the line that was left out
 all_added : (file : List ℕ) (tokens : Tokens) (begun parsed last : Parsed)
-    → begun ≡ with_diagnostics nothing (map (orphan file) (lines_before_header tokens.lines))
+    → begun ≡ with_diagnostics nothing (map (λ line. orphan file line.number) (lines_before_header tokens.lines))
     → with_sections file parsed [] ≡ with_sections file begun (sections tokens.lines)
     → last ≡ with_diagnostics parsed (cut file tokens.dropped)
     → Sections file tokens last
@@ -119,17 +122,19 @@ all_added file tokens begun parsed last begun_is left last_is = record {
 }
 
 -- the same, where no lines are left
-pub none_left : (file : List ℕ) (tokens : Tokens) (first begun parsed last : Parsed) (orphans left : List Line)
-    → first ≡ nothing → orphans ≡ lines_before_header tokens.lines → begun ≡ with_diagnostics first (map (orphan file) orphans)
-    → length left < 1 → with_sections file parsed (sections left) ≡ with_sections file begun (sections tokens.lines)
-    → last ≡ with_diagnostics parsed (cut file tokens.dropped)
+pub none_left : (file : List ℕ) (tokens : Tokens) (first parsed closed last : Parsed) (open_section : Option Section) (left : List Line)
+    → first ≡ nothing → left ≡ []
+    → with_rest file parsed open_section left ≡ with_rest file first None tokens.lines
+    → closed ≡ with_open file parsed open_section → last ≡ with_diagnostics closed (cut file tokens.dropped)
     → Sections file tokens last
-none_left file tokens first begun parsed last orphans [] first_is orphans_are begun_is none left last_is =
-    all_added file tokens begun parsed last
-    (begun_is ∙ ap (λ (p : Parsed). with_diagnostics p (map (orphan file) orphans)) first_is
-    ∙ ap (λ (lines : List Line). with_diagnostics nothing (map (orphan file) lines)) orphans_are)
-    left last_is
-none_left file tokens first begun parsed last orphans (line ∷ lines) first_is orphans_are begun_is none left last_is = absurd (omega (arith, none))
+none_left file tokens first parsed closed last open_section left first_is none left_decides closed_is last_is =
+    all_added file tokens (with_diagnostics nothing (map (λ line. orphan file line.number) (lines_before_header tokens.lines))) closed last refl
+    (ap (λ (p : Parsed). with_sections file p []) closed_is
+    ∙ sym (last_closed file parsed open_section)
+    ∙ sym (ap (λ (lines : List Line). with_rest file parsed open_section lines) none)
+    ∙ left_decides
+    ∙ ap (λ (p : Parsed). with_rest file p None tokens.lines) first_is)
+    last_is
 
 -- ---- each action has a command
 
@@ -156,3 +161,32 @@ actions_have file (section ∷ more) =
 
 pub parsed_have : (file : List ℕ) (tokens : Tokens) (parsed : Parsed) → Sections file tokens parsed → IsTrue (list_all has_command parsed.actions)
 parsed_have file tokens parsed are = ap (λ (actions : List Action). list_all has_command actions) are.actions_are ∙ actions_have file (sections tokens.lines)
+
+-- ---- imports
+
+-- what an import and the lines behind it add
+pub import_added : (file : List ℕ) (old between last : Parsed) (section : Section) (words : List (List ℕ)) (lines : List Line)
+    → is_on section.header ≡ false → is_service section.header ≡ false
+    → words ≡ header_args section → lines ≡ section.body → between ≡ with_import file old section.header.number words
+    → last ≡ with_diagnostics between (map (λ line. orphan file line.number) lines)
+    → last ≡ with_section file old section
+import_added file old between last section words lines other import words_are lines_are between_is last_is =
+    let no_actions : actions_of file section ≡ [] = cond-false _ _ _ other in
+    let no_services : services_of file section ≡ [] = cond-false _ _ _ (ap (λ (b : Bool). b && is_service_header (header_args section)) import) in
+    let the_import : imports_of section ≡ import_with section.header.number (header_args section) = cond-false _ _ _ other ∙ cond-false _ _ _ import in
+    let the_diagnostics : diagnostics_of file section ≡ import_diagnostics file section = cond-false _ _ _ other ∙ cond-false _ _ _ import in
+    let all_diagnostics : (old.diagnostics ++ import_fault file section) ++ map (λ line. orphan file line.number) section.body ≡ old.diagnostics ++ diagnostics_of file section =
+    append_assoc old.diagnostics (import_fault file section) (map (λ line. orphan file line.number) section.body)
+    ∙ sym (ap (λ (more : List Diagnostic). old.diagnostics ++ more) the_diagnostics) in
+    let whole : with_diagnostics (with_import file old section.header.number (header_args section)) (map (λ line. orphan file line.number) section.body) ≡ with_section file old section =
+    λ i. record {
+      actions = (sym (append-nil old.actions) ∙ sym (ap (λ (more : List Action). old.actions ++ more) no_actions)) i;
+      services = (sym (append-nil old.services) ∙ sym (ap (λ (more : List ServiceDef). old.services ++ more) no_services)) i;
+      imports = sym (ap (λ (more : List Import). old.imports ++ more) the_import) i;
+      diagnostics = all_diagnostics i;
+    } in
+    last_is
+    ∙ ap (λ (p : Parsed). with_diagnostics p (map (λ line. orphan file line.number) lines)) between_is
+    ∙ ap (λ (w : List (List ℕ)). with_diagnostics (with_import file old section.header.number w) (map (λ line. orphan file line.number) lines)) words_are
+    ∙ ap (λ (body : List Line). with_diagnostics (with_import file old section.header.number (header_args section)) (map (λ line. orphan file line.number) body)) lines_are
+    ∙ whole

@@ -1,12 +1,13 @@
 -- The first `=` of a text.
-use Rattle.std.proofs.Common.{◌≡◌, ℕ, ◌+◌, ◌-◌, Bool, true, false, ◌||◌, not, cond, List, [], ◌∷◌, length, take, drop, refl, ap, sym, ◌∙◌, Option, Some, None, arith, suc, nat_lt, IsTrue, ◌↔◌}
-use Rattle.std.specs.List.{list_any, position, position_or_len}
+use Rattle.std.proofs.Common.{◌≡◌, ℕ, ◌+◌, Bool, true, false, ◌||◌, not, cond, List, [], ◌∷◌, length, take, drop, refl, ap, sym, ◌∙◌, Option, Some, None, arith, suc, nat_lt, IsTrue, ◌↔◌}
+use Rattle.std.specs.List.{list_any, position, position_or_len, slice_range}
 use Rattle.std.specs.Option.{IsSome, is_some}
-use Rattle.std.proofs.lemmas.List.{take_rest}
+use Rattle.std.proofs.Math.Nat.{sub-zero}
 use Rattle.std.proofs.lemmas.Bool.{lt-ltb, ltb-true}
 use Rattle.std.specs.Cmp.{both_ways}
-use Rattle.rc_parse.specs.Joining.{Parts}
+use Rattle.rc_parse.specs.Code.Joining.{Parts}
 use Rattle.rc_parse.specs.Triggers.{is_equals_sign}
+use Rattle.rc_parse.proofs.Firsts.{all_behind}
 
 -- an answer that is there exactly where a test holds
 pub some_test : {A : Type 0} (answer : Option A) (b : Bool) → IsSome answer ↔ IsTrue b → is_some answer ≡ b
@@ -32,14 +33,14 @@ any_passes : (p : ℕ → Bool) (xs : List ℕ) → list_any p xs ≡ nat_lt (po
 any_passes p [] = refl
 any_passes p (x ∷ xs) = any_more (p x) (list_any p xs) (position_or_len p xs) (length xs) (any_passes p xs)
 
-pub parts_found : (text : List ℕ) (place : ℕ) → Some place ≡ position is_equals_sign text
-    → Parts text (take place text) (take (length text - (place + 1)) (drop (place + 1) text))
-parts_found text place h =
+pub parts_sliced : (text name value : List ℕ) (place len : ℕ) → Some place ≡ position is_equals_sign text
+    → name ≡ slice_range text 0 place → len ≡ length text → value ≡ slice_range text (place + 1) len → Parts text name value
+parts_sliced text name value place len h name_is end value_is =
     let f = found (nat_lt (position_or_len is_equals_sign text) (length text)) (position_or_len is_equals_sign text) place (sym h) in
     record {
       has_sign = any_passes is_equals_sign text ∙ f.0;
-      name_is = ap (λ (n : ℕ). take n text) (sym f.1);
-      value_is = take_rest text (place + 1) ∙ ap (λ (n : ℕ). drop (n + 1) text) (sym f.1);
+      name_is = name_is ∙ ap (λ (n : ℕ). take n text) (sub-zero place ∙ sym f.1);
+      value_is = value_is ∙ all_behind text (place + 1) len end ∙ ap (λ (n : ℕ). drop (n + 1) text) (sym f.1);
     }
 
 pub no_parts : (text : List ℕ) → None ≡ position is_equals_sign text → list_any is_equals_sign text ≡ false

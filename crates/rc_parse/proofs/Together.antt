@@ -21,7 +21,7 @@ one_more some others service same name =
     ∙ sym (list_any-append (is_named name) others (service ∷ []))
 
 -- what stays behind others depends on their names alone
-kept_by_names : (some others services : List ServiceDef) → SameNames some others → kept_behind some services ≡ kept_behind others services
+pub kept_by_names : (some others services : List ServiceDef) → SameNames some others → kept_behind some services ≡ kept_behind others services
 kept_by_names some others [] same = refl
 kept_by_names some others (service ∷ later) same =
     ap (λ (b : Bool). if not (b && not service.overrides) && is_not_overridden later service
@@ -30,7 +30,7 @@ kept_by_names some others (service ∷ later) same =
     ∙ ap (λ (u : List ServiceDef). if not (is_again others service) && is_not_overridden later service then service ∷ u else u)
     (kept_by_names (some ++ service ∷ []) (others ++ service ∷ []) later (one_more some others service same))
 
-agains_by_names : (some others services : List ServiceDef) → SameNames some others → agains_behind some services ≡ agains_behind others services
+pub agains_by_names : (some others services : List ServiceDef) → SameNames some others → agains_behind some services ≡ agains_behind others services
 agains_by_names some others [] same = refl
 agains_by_names some others (service ∷ later) same =
     ap (λ (b : Bool). if b && not service.overrides

@@ -2,14 +2,11 @@ pub mod Lines
 pub mod Readings
 pub mod Commands
 pub mod Triggers
-pub mod Joining
 pub mod Values
-pub mod Parts
 pub mod Options
 pub mod Services
-pub mod Settings
 pub mod Sections
-pub mod Adding
+pub mod Files
 pub mod Places
 pub mod Kept
-pub mod Merging
+pub mod Code

@@ -1,15 +1,18 @@
 -- The options of a service (AOSP, init's README, "Services").
 use Rattle.std.specs.Prelude.{ℕ, ◌*◌, Bool, if◌then◌else◌, List, [], ◌∷◌, length, codes, Option, Some, None, Result, Ok, Err}
-use Rattle.std.specs.List.{list_any}
+use Rattle.std.specs.List.{find, list_any}
+use Rattle.std.specs.Option.{ok_or, option_map}
 use Rattle.std.specs.Str.{bytes_eq}
+use Rattle.init_base.specs.declared.units.Millis.{Millis}
+use Rattle.init_machine.specs.Arity.{is_within}
 use Rattle.init_machine.specs.declared.action.Command.{Command}
+use Rattle.init_machine.specs.declared.arity.Arity.{Arity}
 use Rattle.init_machine.specs.declared.diagnostic.DiagKind.{DiagKind}
-use Rattle.init_machine.specs.declared.diagnostic.DiagKind.TheVariants.{BadOption}
-use Rattle.init_machine.specs.declared.service.Critical.{Critical}
+use Rattle.init_machine.specs.declared.diagnostic.DiagKind.TheVariants.{BadArity, BadOption, BadWord}
 use Rattle.init_machine.specs.declared.word.Word.TheVariants as word
 use Rattle.init_machine.specs.WordTexts.{word_text}
 use Rattle.rc_parse.specs.Lines.{first_word, arguments}
-use Rattle.rc_parse.specs.Commands.{row_of, word_with, command_of}
+use Rattle.rc_parse.specs.Commands.{command_of}
 use Rattle.rc_parse.specs.Values.{number_from, millis, critical_of}
 use Rattle.rc_parse.specs.declared.option_word.InertOption.{InertOption}
 use Rattle.rc_parse.specs.declared.option_word.InertOption.TheVariants as inert
@@ -51,25 +54,27 @@ option_text option.RestartPeriod = codes "restart_period"
 option_text option.TimeoutPeriod = codes "timeout_period"
 option_text (option.Inert inert) = inert_option_text inert
 
+-- the row of a table of options that has this word
+abbrev pub row_of : List (OptionWord × Arity) → List ℕ → Option (OptionWord × Arity)
+row_of rows word = find (λ row. bytes_eq (option_text row.0) word) rows
+
+-- the row's option, where there is a row and it permits so many arguments
+abbrev pub word_with : ℕ → Option (OptionWord × Arity) → Result OptionWord DiagKind
+word_with count None = Err BadWord
+word_with count (Some row) = if is_within row.1 count then Ok row.0 else Err BadArity
+
 -- the word of an option with so many arguments
 unfoldable pub option_word : List ℕ → ℕ → Result OptionWord DiagKind
-option_word word count = word_with count (row_of option_text OPTIONS word)
+option_word word count = word_with count (row_of OPTIONS word)
 
-abbrev pub period_setting : Option ℕ → Result Setting DiagKind
-period_setting None = Err BadOption
-period_setting (Some seconds) = Ok (setting.Period (millis (seconds * 1000)))
+-- what a value sets, where it is of a good form
+abbrev pub set_to : {A : Type 0} → (A → Setting) → Result A DiagKind → Result Setting DiagKind
+set_to set (Ok value) = Ok (set value)
+set_to set (Err kind) = Err kind
 
-abbrev pub timeout_setting : Option ℕ → Result Setting DiagKind
-timeout_setting None = Err BadOption
-timeout_setting (Some seconds) = Ok (setting.Timeout (millis (seconds * 1000)))
-
-abbrev pub critical_setting : Result (Option Critical) DiagKind → Result Setting DiagKind
-critical_setting (Ok critical) = Ok (setting.Critical critical)
-critical_setting (Err kind) = Err kind
-
-abbrev pub onrestart_setting : Result Command DiagKind → Result Setting DiagKind
-onrestart_setting (Ok command) = Ok (setting.Onrestart command)
-onrestart_setting (Err kind) = Err kind
+-- so many seconds, and at least these
+abbrev pub seconds_of : ℕ → List ℕ → Result Millis DiagKind
+seconds_of least text = ok_or (option_map (λ seconds. millis (seconds * 1000)) (number_from least text)) BadOption
 
 -- a command that waits, which `onrestart` can't have
 abbrev pub is_waiting_word : List ℕ → Bool
@@ -86,10 +91,10 @@ setting_for file line words option.Class = Ok (setting.Classes (arguments words)
 setting_for file line words option.Disabled = Ok setting.Disabled
 setting_for file line words option.Oneshot = Ok setting.Oneshot
 setting_for file line words option.Override = Ok setting.Override
-setting_for file line words option.Critical = critical_setting (critical_of (arguments words))
-setting_for file line words option.Onrestart = onrestart_setting (onrestart_of file line (arguments words))
-setting_for file line words option.RestartPeriod = period_setting (number_from 0 (first_word (arguments words)))
-setting_for file line words option.TimeoutPeriod = timeout_setting (number_from 1 (first_word (arguments words)))
+setting_for file line words option.Critical = set_to (λ critical. setting.Critical critical) (critical_of (arguments words))
+setting_for file line words option.Onrestart = set_to (λ command. setting.Onrestart command) (onrestart_of file line (arguments words))
+setting_for file line words option.RestartPeriod = set_to (λ period. setting.Period period) (seconds_of 0 (first_word (arguments words)))
+setting_for file line words option.TimeoutPeriod = set_to (λ timeout. setting.Timeout timeout) (seconds_of 1 (first_word (arguments words)))
 setting_for file line words (option.Inert inert) = Ok (setting.Kept words)
 
 abbrev pub setting_with : List ℕ → ℕ → List (List ℕ) → Result OptionWord DiagKind → Result Setting DiagKind

@@ -10,7 +10,7 @@ use Rattle.init_machine.specs.declared.diagnostic.Diagnostic.{Diagnostic}
 use Rattle.init_machine.specs.declared.service.ServiceDef.{ServiceDef}
 use Rattle.rc_tokens.specs.declared.line.Line.{Line}
 use Rattle.rc_tokens.specs.declared.line.Tokens.{Tokens}
-use Rattle.rc_parse.specs.Lines.{arguments, is_on, is_service, Section, sections, lines_before_header}
+use Rattle.rc_parse.specs.Lines.{arguments, is_on, is_service, sections, lines_before_header}
 use Rattle.rc_parse.specs.Readings.{diagnostic, values, diagnosed}
 use Rattle.rc_parse.specs.Commands.{command_of}
 use Rattle.rc_parse.specs.Options.{setting_of}
@@ -20,6 +20,7 @@ use Rattle.rc_parse.specs.declared.parsed.Import.{Import}
 use Rattle.rc_parse.specs.declared.parsed.Parsed.{Parsed}
 use Rattle.rc_parse.specs.declared.setting.Setting.{Setting}
 use Rattle.rc_parse.specs.declared.trigger.Triggers.{Triggers}
+use Rattle.rc_parse.specs.declared.section.Section.{Section}
 
 -- the words behind the first one of a section's header
 abbrev pub header_args : Section → List (List ℕ)
@@ -87,8 +88,8 @@ imports_of section =
     if is_on section.header then [] else if is_service section.header then []
     else import_with section.header.number (header_args section)
 
-abbrev pub orphan : List ℕ → Line → Diagnostic
-orphan file line = diagnostic file line.number Orphan
+abbrev pub orphan : List ℕ → ℕ → Diagnostic
+orphan file line = diagnostic file line Orphan
 
 abbrev pub import_fault : List ℕ → Section → List Diagnostic
 import_fault file section =
@@ -96,7 +97,7 @@ import_fault file section =
 
 -- the lines behind an import belong to no section
 abbrev pub import_diagnostics : List ℕ → Section → List Diagnostic
-import_diagnostics file section = import_fault file section ++ map (orphan file) section.body
+import_diagnostics file section = import_fault file section ++ map (λ line. orphan file line.number) section.body
 
 -- files
 
@@ -117,6 +118,6 @@ pub record Sections (file : List ℕ) (tokens : Tokens) (parsed : Parsed) : Type
   pub services_are : parsed.services ≡ flat_map (services_of file) (sections tokens.lines)
   pub imports_are : parsed.imports ≡ flat_map imports_of (sections tokens.lines)
   pub diagnostics_are : parsed.diagnostics
-      ≡ map (orphan file) (lines_before_header tokens.lines)
+      ≡ map (λ line. orphan file line.number) (lines_before_header tokens.lines)
       ++ flat_map (diagnostics_of file) (sections tokens.lines)
       ++ cut file tokens.dropped

@@ -1,12 +1,12 @@
 -- The triggers of an `on` line (AOSP, init's README, "Actions" and "Triggers").
-use Rattle.std.specs.Prelude.{ℕ, Bool, true, false, not, ◌&&◌, ◌||◌, ◌==◌, nat_eq, nat_lt, if◌then◌else◌, List, [], ◌∷◌, length, map, codes, drop, Option, Some, None, Result, Ok, Err}
+use Rattle.std.specs.Prelude.{ℕ, Bool, false, not, ◌&&◌, ◌||◌, ◌==◌, nat_eq, nat_lt, if◌then◌else◌, List, [], ◌∷◌, length, map, codes, drop, Option, Some, None, Result, Ok, Err}
 use Rattle.std.specs.List.{list_all, list_any, flat_map, starts_with, before_first, after_first}
 use Rattle.std.specs.Str.{bytes_eq}
 use Rattle.init_base.specs.Name.{is_legal_name}
 use Rattle.init_machine.specs.declared.action.PropTest.{PropTest}
 use Rattle.init_machine.specs.declared.diagnostic.DiagKind.{DiagKind}
 use Rattle.init_machine.specs.declared.diagnostic.DiagKind.TheVariants.{NoTrigger, BadTrigger, TwiceProp}
-use Rattle.rc_parse.specs.Readings.{values}
+use Rattle.rc_parse.specs.Readings.{is_bad, values}
 use Rattle.rc_parse.specs.declared.trigger.Trigger.{Trigger}
 use Rattle.rc_parse.specs.declared.trigger.Trigger.TheVariants.{Event, Test}
 use Rattle.rc_parse.specs.declared.trigger.Triggers.{Triggers}
@@ -51,10 +51,6 @@ joiners (word ∷ joiner ∷ words) = joiner ∷ joiners words
 
 abbrev pub is_joiner : List ℕ → Bool
 is_joiner word = bytes_eq word (codes "&&")
-
-abbrev pub is_bad : {A : Type 0} → Result A DiagKind → Bool
-is_bad (Ok value) = false
-is_bad (Err kind) = true
 
 -- the triggers of a line that are of a good form
 abbrev pub good_triggers : List (List ℕ) → List Trigger

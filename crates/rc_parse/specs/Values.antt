@@ -2,15 +2,17 @@
 -- this project's profile).
 use Rattle.std.specs.Prelude.{ℕ, ◌+◌, ◌-◌, ◌*◌, Bool, ◌&&◌, ◌||◌, ◌==◌, nat_eq, nat_le, nat_lt, if◌then◌else◌, List, [], ◌∷◌, length, codes, drop, take, Option, Some, None, Result, Ok, Err}
 use Rattle.std.specs.List.{fold, list_all, list_any, flat_map, starts_with, ends_with}
+use Rattle.std.specs.Option.{option_and_then, unwrap_or}
 use Rattle.std.specs.Str.{bytes_eq}
 use Rattle.init_base.specs.Name.{is_legal_name}
 use Rattle.init_base.specs.declared.units.Millis.{Millis}
 use Rattle.init_machine.specs.declared.diagnostic.DiagKind.{DiagKind}
 use Rattle.init_machine.specs.declared.diagnostic.DiagKind.TheVariants.{BadOption}
 use Rattle.init_machine.specs.declared.service.Critical.{Critical}
-use Rattle.rc_parse.specs.Readings.{values}
-use Rattle.rc_parse.specs.Triggers.{is_bad}
+use Rattle.rc_parse.specs.Readings.{is_bad, values}
 use Rattle.rc_parse.specs.declared.critical.CriticalPart.{CriticalPart}
+use Rattle.rc_parse.specs.declared.critical.WindowLength.{WindowLength}
+use Rattle.rc_parse.specs.declared.critical.WindowLength.TheVariants as minute
 use Rattle.rc_parse.specs.declared.critical.CriticalPart.TheVariants.{Window, Target}
 
 abbrev pub is_digit : ℕ → Bool
@@ -37,18 +39,12 @@ abbrev pub last_value : {A : Type 0} → A → List A → A
 last_value other [] = other
 last_value other (value ∷ later) = last_value value later
 
--- A window in minutes. `Some None` is `off`: the service isn't critical.
-abbrev pub plain_window : List ℕ → Option (Option ℕ)
+-- a window as it is written: `off`, or minutes
+abbrev pub plain_window : List ℕ → Option WindowLength
 plain_window text =
-    if bytes_eq text (codes "off") then Some None
-    else if is_number text then Some (Some (number_of text))
+    if bytes_eq text (codes "off") then Some minute.Off
+    else if is_number text then Some (minute.Minutes (number_of text))
     else None
-
--- what stands between `${` and a `}` at the end
-abbrev pub inside_braces : List ℕ → Option (List ℕ)
-inside_braces text =
-    if starts_with nat_eq text (codes "${") && ends_with nat_eq text (codes "}")
-    then Some (take (length text - 3) (drop 2 text)) else None
 
 abbrev pub onto_front : ℕ → Option (List ℕ × List ℕ) → Option (List ℕ × List ℕ)
 onto_front b None = None
@@ -60,27 +56,21 @@ parts_at_default [] = None
 parts_at_default (b ∷ text) =
     if starts_with nat_eq (b ∷ text) (codes ":-") then Some ([], drop 1 text) else onto_front b (parts_at_default text)
 
-abbrev pub legal_default : Option (List ℕ × List ℕ) → Option (List ℕ)
-legal_default None = None
-legal_default (Some parts) = if is_legal_name parts.0 then Some parts.1 else None
+-- what stands behind `${`, a legal name and `:-`, and before `}` at the end, where these are the parts round the `:-`
+abbrev pub default_between : List ℕ × List ℕ → Option (List ℕ)
+default_between parts =
+    if starts_with nat_eq parts.0 (codes "${") && is_legal_name (drop 2 parts.0) && ends_with nat_eq parts.1 (codes "}")
+    then Some (take (length parts.1 - 1) parts.1) else None
 
-abbrev pub default_inside : Option (List ℕ) → Option (List ℕ)
-default_inside None = None
-default_inside (Some inside) = legal_default (parts_at_default inside)
-
--- the window in `${NAME:-WINDOW}`
+-- M of `${NAME:-M}`, where NAME ends at the first `:-`
 abbrev pub default_window : List ℕ → Option (List ℕ)
-default_window text = default_inside (inside_braces text)
+default_window text = option_and_then default_between (parts_at_default text)
 
 -- a window as it is written, or as the default of a property, which isn't looked up
-abbrev pub window_or_default : List ℕ → Option (List ℕ) → Option (Option ℕ)
-window_or_default text None = plain_window text
-window_or_default text (Some default) = plain_window default
+abbrev pub window_of : List ℕ → Option WindowLength
+window_of text = plain_window (unwrap_or (default_window text) text)
 
-abbrev pub window_of : List ℕ → Option (Option ℕ)
-window_of text = window_or_default text (default_window text)
-
-abbrev pub window_part : Option (Option ℕ) → Result CriticalPart DiagKind
+abbrev pub window_part : Option WindowLength → Result CriticalPart DiagKind
 window_part None = Err BadOption
 window_part (Some window) = Ok (Window window)
 
@@ -95,7 +85,7 @@ part_of word =
     else if starts_with nat_eq word (codes "target=") then target_part (drop 7 word)
     else Err BadOption
 
-abbrev pub windows_in : CriticalPart → List (Option ℕ)
+abbrev pub windows_in : CriticalPart → List WindowLength
 windows_in (Window window) = window ∷ []
 windows_in (Target target) = []
 
@@ -106,7 +96,7 @@ targets_in (Target target) = target ∷ []
 abbrev pub parts_of : List (List ℕ) → List CriticalPart
 parts_of args = flat_map (λ arg. values (part_of arg)) args
 
-abbrev pub windows_of : List (List ℕ) → List (Option ℕ)
+abbrev pub windows_of : List (List ℕ) → List WindowLength
 windows_of args = flat_map windows_in (parts_of args)
 
 abbrev pub targets_of : List (List ℕ) → List (List ℕ)
@@ -118,12 +108,12 @@ has_bad_part args =
     list_any (λ arg. is_bad (part_of arg)) args || nat_lt 1 (length (windows_of args)) || nat_lt 1 (length (targets_of args))
 
 -- a window `off` takes the mark away
-abbrev pub critical_for : Option ℕ → List ℕ → Option Critical
-critical_for None target = None
-critical_for (Some minutes) target = Some (record { window = millis (minutes * 60000); target = target })
+abbrev pub critical_for : WindowLength → List ℕ → Option Critical
+critical_for minute.Off target = None
+critical_for (minute.Minutes minutes) target = Some (record { window = millis (minutes * 60000); target = target })
 
 -- The arguments of `critical`. Without a window it is four minutes, without a target `bootloader`.
 abbrev pub critical_of : List (List ℕ) → Result (Option Critical) DiagKind
 critical_of args =
     if has_bad_part args then Err BadOption
-    else Ok (critical_for (last_value (Some 4) (windows_of args)) (last_value (codes "bootloader") (targets_of args)))
+    else Ok (critical_for (last_value (minute.Minutes 4) (windows_of args)) (last_value (codes "bootloader") (targets_of args)))

@@ -1,13 +1,14 @@
 //! Action sections.
 
 ghost use Rattle.std.specs.Prelude.{◌≡◌, ◌++◌, true, IfOk, OnOk};
-ghost use Rattle.rc_parse.specs.Adding.{command_diagnostics, section_of, with_action, with_section};
+ghost use Rattle.rc_parse.specs.Code.Adding.{command_diagnostics, with_action, with_section};
 ghost use Rattle.rc_parse.specs.Lines.{is_on};
 ghost use Rattle.rc_parse.specs.Sections.{commands_of};
 
 use crate::command::command;
 use crate::fault::Fault;
 use crate::parsed::{Parsed, diagnose};
+use crate::section::Section;
 use crate::trigger::{Triggers, read_triggers};
 use crate::words::arguments;
 use init_base::{List, NoMemory, Text};
@@ -19,17 +20,17 @@ use std::alloc::Global;
 fn commands(
     alloc: Global,
     file: &Text,
-    lines: &[Line],
+    lines: List<Line>,
     diagnostics: &mut List<Diagnostic>,
 ) -> Result<List<Command>, NoMemory>
-    ensures commands { IfOk result (λ commands. commands ≡ commands_of file.now lines.now) }
-    ensures diagnostics { OnOk result (diagnostics.new ≡ diagnostics.old ++ command_diagnostics file.now lines.now) }
+    ensures commands { IfOk result (λ commands. commands ≡ commands_of file.now lines) }
+    ensures diagnostics { OnOk result (diagnostics.new ≡ diagnostics.old ++ command_diagnostics file.now lines) }
 {
-    let mut commands = List::new(alloc);
-    for line in lines {
-        match command(alloc, file, line.number, line.words.items()) {
+    let mut commands = List::with_capacity(alloc, lines.len())?;
+    for line in lines.into_vec() {
+        match command(file, line.number, line.words) {
             Ok(command) => commands.push(command)?,
-            Err(Fault::Bad(kind)) => diagnose(diagnostics, alloc, file, line.number, kind)?,
+            Err(Fault::Bad(kind)) => diagnose(diagnostics, file, line.number, kind)?,
             Err(Fault::NoMemory) => return Err(NoMemory),
         }
     }
@@ -43,16 +44,16 @@ fn add_triggered(
     file: &Text,
     line: u32,
     triggers: Triggers,
-    body: &[Line],
+    body: List<Line>,
 ) -> Result<(), NoMemory>
-    ensures { OnOk result (parsed.new ≡ with_action file.now parsed.old line triggers body.now) }
+    ensures { OnOk result (parsed.new ≡ with_action file.now parsed.old line triggers body) }
 {
     let commands = commands(alloc, file, body, &mut parsed.diagnostics)?;
     if commands.is_empty() {
         return Ok(());
     }
     parsed.actions.push(Action {
-        file: file.copy(alloc)?,
+        file: file.share()?,
         line,
         event: triggers.event,
         props: triggers.props,
@@ -65,17 +66,15 @@ pub fn add_action(
     parsed: &mut Parsed,
     alloc: Global,
     file: &Text,
-    header: &Line,
-    body: &[Line],
+    section: Section,
 ) -> Result<(), NoMemory>
-    requires { is_on header.now ≡ true }
-    ensures { OnOk result (parsed.new ≡ with_section file.now parsed.old (section_of header.now body.now)) }
+    requires { is_on section.header ≡ true }
+    ensures { OnOk result (parsed.new ≡ with_section file.now parsed.old section) }
 {
-    match read_triggers(alloc, arguments(header.words.items())) {
-        Ok(triggers) => add_triggered(parsed, alloc, file, header.number, triggers, body),
-        Err(Fault::Bad(kind)) => {
-            diagnose(&mut parsed.diagnostics, alloc, file, header.number, kind)
-        }
+    let line = section.header.number;
+    match read_triggers(alloc, arguments(section.header.words.items())) {
+        Ok(triggers) => add_triggered(parsed, alloc, file, line, triggers, section.body),
+        Err(Fault::Bad(kind)) => diagnose(&mut parsed.diagnostics, file, line, kind),
         Err(Fault::NoMemory) => Err(NoMemory),
     }
 }

@@ -1,22 +1,31 @@
 //! The option `critical`.
 
-ghost use Rattle.std.specs.Prelude.{◌≡◌, Some, None, IfOk, MatchOption};
+ghost use Rattle.std.specs.Prelude.{◌≡◌, ◌-◌, Some, None, if◌then◌else◌, nat_eq, codes, drop, take, length, IfOk, MatchOption};
+ghost use Rattle.std.specs.List.{ends_with, starts_with};
 ghost use Rattle.std.specs.Option.{option_copied};
-ghost use Rattle.rc_parse.specs.Parts.{mark_of, with_part};
+ghost use Rattle.rc_parse.specs.Code.Parts.{mark_of, with_part};
 ghost use Rattle.rc_parse.specs.Readings.{IsReading};
-ghost use Rattle.rc_parse.specs.Values.{critical_of, default_window as default_window_lem, inside_braces as inside_braces_lem, part_of, parts_at_default, plain_window as plain_window_lem, window_of};
+ghost use Rattle.rc_parse.specs.Values.{critical_of, default_window as default_window_lem, part_of, parts_at_default, plain_window as plain_window_lem, target_part, window_of};
 
 use crate::fault::Fault;
 use crate::number::number_from;
-use init_base::{Millis, NoMemory, PropName, Text};
+use crate::words::{behind, is_legal_name};
+use init_base::{Millis, NoMemory, Text};
 use init_machine::{Critical, DiagKind};
 use std::alloc::Global;
+
+/// A window.
+#[derive(Clone, Copy, Debug, PartialEq, Eq)]
+pub enum WindowLength {
+    /// The service isn't critical.
+    Off,
+    Minutes(u32),
+}
 
 /// An argument of `critical`.
 #[derive(Debug, Drop)]
 pub enum CriticalPart {
-    /// The window in minutes, or none for `off`.
-    Window(Option<u32>),
+    Window(WindowLength),
     Target(Text),
 }
 
@@ -32,34 +41,22 @@ const CLOSING: &[u8] = b"}";
 
 const ON_DEFAULT: &[u8] = b":-";
 
-const DEFAULT_MINUTES: u32 = 4;
+const DEFAULT_WINDOW: WindowLength = WindowLength::Minutes(4);
 
 const DEFAULT_TARGET: &[u8] = b"bootloader";
 
 const MILLIS_OF_MINUTE: u64 = 60_000;
 
-/// A window as it is written: minutes, or none within `Some` for `off`.
-fn plain_window(text: &[u8]) -> Option<Option<u32>>
+/// A window as it is written.
+fn plain_window(text: &[u8]) -> Option<WindowLength>
     ensures { result ≡ plain_window_lem text.now }
 {
     if text == NO_WINDOW {
-        return Some(None);
+        return Some(WindowLength::Off);
     }
     match number_from(0, text) {
-        Some(minutes) => Some(Some(minutes)),
+        Some(minutes) => Some(WindowLength::Minutes(minutes)),
         None => None,
-    }
-}
-
-/// What stands between `${` and a `}` at the end.
-#[tactic(auto, using(crate::proofs::Windows::braces_fit))]
-fn inside_braces(text: &[u8]) -> Option<&[u8]>
-    ensures { option_copied result ≡ inside_braces_lem text.entry.now }
-{
-    if text.starts_with(OPENING) && text.ends_with(CLOSING) {
-        Some(&text[OPENING.len()..text.len() - CLOSING.len()])
-    } else {
-        None
     }
 }
 
@@ -76,45 +73,79 @@ fn parts_at_default(text: &[u8]) -> Option<(&[u8], &[u8])>
     None
 }
 
-/// The window in `${NAME:-WINDOW}`, split at the first `:-`.
+/// M of `${NAME:-M}`, where NAME ends at the first `:-`.
+#[tactic(auto, using(crate::proofs::Windows::no_opening))]
 fn default_window(text: &[u8]) -> Option<&[u8]>
     ensures { option_copied result ≡ default_window_lem text.entry.now }
 {
-    let (name, window) = parts_at_default(inside_braces(text)?)?;
-    PropName::of(name)?;
-    Some(window)
+    let (front, back) = parts_at_default(text)?;
+    let name = behind_opening(front)?;
+    if !is_legal_name(name) {
+        return None;
+    }
+    before_closing(back)
 }
 
-/// A window as it is written, or as the default of a property, which isn't looked up.
-fn window(text: &[u8]) -> Option<Option<u32>>
-    ensures { result ≡ window_of text.now }
+/// What stands behind `${`.
+fn behind_opening(text: &[u8]) -> Option<&[u8]>
+    ensures { option_copied result ≡ (if starts_with nat_eq text.entry.now (codes "${") then Some (drop 2 text.entry.now) else None) }
 {
-    match default_window(text) {
-        Some(window) => plain_window(window),
-        None => plain_window(text),
+    if text.starts_with(OPENING) {
+        Some(&text[OPENING.len()..])
+    } else {
+        None
     }
 }
 
+/// What stands before a `}` at the end.
+fn before_closing(text: &[u8]) -> Option<&[u8]>
+    ensures { option_copied result ≡ (if ends_with nat_eq text.entry.now (codes "}") then Some (take (length text.entry.now - 1) text.entry.now) else None) }
+{
+    if text.ends_with(CLOSING) {
+        Some(&text[..text.len() - CLOSING.len()])
+    } else {
+        None
+    }
+}
+
+/// A window as it is written, or as the default of a property, which isn't looked up.
+fn window(text: &[u8]) -> Option<WindowLength>
+    ensures { result ≡ window_of text.now }
+{
+    plain_window(default_window(text).unwrap_or(text))
+}
+
+/// A target, which isn't empty.
+fn target(text: Text) -> Result<CriticalPart, Fault>
+    ensures { IsReading result (target_part text) }
+{
+    if text.is_empty() {
+        return Err(Fault::Bad(DiagKind::BadOption));
+    }
+    Ok(CriticalPart::Target(text))
+}
+
 /// `window=WINDOW` or `target=TARGET`.
-fn part(alloc: Global, word: &[u8]) -> Result<CriticalPart, Fault>
+#[tactic(auto, using(crate::proofs::Firsts::prefix_fits))]
+fn part(word: &Text) -> Result<CriticalPart, Fault>
     ensures { IsReading result (part_of word.now) }
 {
-    if word.starts_with(ON_WINDOW) {
-        return match window(&word[ON_WINDOW.len()..]) {
+    if word.bytes().starts_with(ON_WINDOW) {
+        return match window(&word.bytes()[ON_WINDOW.len()..]) {
             Some(window) => Ok(CriticalPart::Window(window)),
             None => Err(Fault::Bad(DiagKind::BadOption)),
         };
     }
-    if !word.starts_with(ON_TARGET) || word.len() == ON_TARGET.len() {
+    if !word.bytes().starts_with(ON_TARGET) {
         return Err(Fault::Bad(DiagKind::BadOption));
     }
-    Ok(CriticalPart::Target(Text::of(alloc, &word[ON_TARGET.len()..])?))
+    target(behind(word, ON_TARGET.len())?)
 }
 
 /// What the arguments of `critical` gave so far.
 #[derive(Drop)]
 struct Parts {
-    window: Option<Option<u32>>,
+    window: Option<WindowLength>,
     target: Option<Text>,
 }
 
@@ -135,7 +166,8 @@ impl Parts {
     fn mark(self, alloc: Global) -> Result<Option<Critical>, NoMemory>
         ensures { IfOk result (λ mark. mark ≡ mark_of self) }
     {
-        let Some(minutes) = self.window.unwrap_or(Some(DEFAULT_MINUTES)) else {
+        let window = self.window.unwrap_or(DEFAULT_WINDOW);
+        let WindowLength::Minutes(minutes) = window else {
             return Ok(None);
         };
         let target = match self.target {
@@ -158,7 +190,7 @@ pub fn critical(alloc: Global, args: &[Text]) -> Result<Option<Critical>, Fault>
         target: None,
     };
     for arg in args {
-        parts = parts.with(part(alloc, arg.bytes())?)?;
+        parts = parts.with(part(arg)?)?;
     }
     Ok(parts.mark(alloc)?)
 }

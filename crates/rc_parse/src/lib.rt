@@ -1,13 +1,14 @@
 //! The sections of rc files: actions, services and imports, and what is wrong in them.
 //!
 //! `parse` answers what the lines of one file mean, which `specs/Sections.antt` defines over the whole list of lines:
-//! a line belongs to the last header before it, and each line is kept or gives its first diagnostic. `merge` puts
-//! files together, by the rule on services of one name in `specs/Kept.antt`. The words of commands and options, with
-//! the arguments that they take, stand once, in the tables of `table`, which code and definitions share.
+//! a line belongs to the last header before it, and each line is kept or gives its first diagnostic. `Merger` puts
+//! files together, by the rule on services of one name in `specs/Kept.antt`. The words of commands and the
+//! arguments that they take stand in `init_machine`, with the type `Word`; the words of options stand in `option_word`,
+//! and the arguments that they take in the table of `table`, which code and definitions share. What the code's loops say
+//! of themselves is in `specs/Code/` and is no part of any promise.
 #![tactic(auto)]
 
 mod action;
-mod arity;
 mod command;
 mod critical;
 mod fault;
@@ -16,16 +17,18 @@ mod number;
 mod option_word;
 mod parsed;
 mod places;
+mod section;
 mod sections;
 mod service;
 mod setting;
+mod standing;
 mod table;
 mod trigger;
 mod words;
 
-pub use merging::{merge, one_service_of_a_name};
+pub use merging::{Merger, one_service_of_a_name};
 pub use parsed::{Import, Parsed};
-pub use places::lines_have_their_places;
+pub use places::{lines_have_their_places, one_meaning};
 pub use sections::parse;
 
 #[cfg(test)]

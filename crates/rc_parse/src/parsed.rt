@@ -40,7 +40,6 @@ impl Parsed {
 /// Adds a diagnostic at a line of a file.
 pub fn diagnose(
     diagnostics: &mut List<Diagnostic>,
-    alloc: Global,
     file: &Text,
     line: u32,
     kind: DiagKind,
@@ -48,7 +47,7 @@ pub fn diagnose(
     ensures { OnOk result (diagnostics.new ≡ diagnostics.old ++ diagnostic file.now line kind ∷ []) }
 {
     diagnostics.push(Diagnostic {
-        file: file.copy(alloc)?,
+        file: file.share()?,
         line,
         kind,
     })

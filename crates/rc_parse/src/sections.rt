@@ -1,55 +1,53 @@
 //! Files, section by section.
 
-ghost use Rattle.std.specs.Prelude.{◌≡◌, false, IsTrue, IfOk, OnOk, map};
-ghost use Rattle.std.specs.List.{list_all, position};
-ghost use Rattle.rc_parse.specs.Adding.{lines_from_header, section_of, with_diagnostics, with_section};
-ghost use Rattle.rc_parse.specs.Lines.{is_on as is_on_lem, is_service as is_service_lem, is_header as is_header_lem, lines_before_header};
+ghost use Rattle.std.specs.Prelude.{◌≡◌, ◌∷◌, [], false, IsTrue, IfOk, OnOk, List as Items, map};
+ghost use Rattle.std.specs.List.{list_all};
+ghost use Rattle.rc_tokens.specs.declared.line.Line.{Line as TokenLine};
+ghost use Rattle.rc_parse.specs.Code.Adding.{with_diagnostics, with_import, with_open, with_rest, with_section};
+ghost use Rattle.rc_parse.specs.Lines.{is_header as is_header_lem, is_on as is_on_lem, is_service as is_service_lem};
 ghost use Rattle.rc_parse.specs.Sections.{Sections, cut, has_command, orphan};
 
 use crate::action::add_action;
 use crate::parsed::{Import, Parsed, diagnose};
+use crate::section::Section;
 use crate::service::add_service;
-use crate::words::{arguments, is_header, is_on, is_service};
+use crate::words::{is_header, is_on, is_service, take_first, without_first};
 use init_base::{List, NoMemory, Text};
 use init_machine::DiagKind;
 use rc_tokens::{Line, Tokens};
 use std::alloc::Global;
 
-/// The place of the first header.
-fn first_header(lines: &[Line]) -> Option<usize>
-    ensures { result ≡ position is_header_lem lines.now }
+/// Adds a line that belongs to no section.
+fn add_orphan(parsed: &mut Parsed, file: &Text, line: u32) -> Result<(), NoMemory>
+    ensures { OnOk result (parsed.new ≡ with_diagnostics parsed.old (orphan file.now line ∷ [])) }
 {
-    lines.iter().position(is_header)
-}
-
-/// The lines before the first header, and those from it on.
-fn split_at_header(lines: &[Line]) -> (&[Line], &[Line])
-    ensures before { result.0.now ≡ lines_before_header lines.entry.now }
-    ensures behind { result.1.now ≡ lines_from_header lines.entry.now }
-{
-    let place = first_header(lines).unwrap_or(lines.len());
-    lines.split_at(place)
+    diagnose(&mut parsed.diagnostics, file, line, DiagKind::Orphan)
 }
 
 /// Adds lines that belong to no section.
-fn add_orphans(
-    parsed: &mut Parsed,
-    alloc: Global,
-    file: &Text,
-    lines: &[Line],
-) -> Result<(), NoMemory>
-    ensures { OnOk result (parsed.new ≡ with_diagnostics parsed.old (map (orphan file.now) lines.now)) }
+fn add_orphans(parsed: &mut Parsed, file: &Text, lines: &[Line]) -> Result<(), NoMemory>
+    ensures { OnOk result (parsed.new ≡ with_diagnostics parsed.old (map (λ line. orphan file.now line.number) lines.now)) }
 {
     for line in lines {
-        diagnose(
-            &mut parsed.diagnostics,
-            alloc,
-            file,
-            line.number,
-            DiagKind::Orphan,
-        )?;
+        add_orphan(parsed, file, line.number)?;
     }
     Ok(())
+}
+
+/// Adds the import that these words behind `import` are.
+fn add_path(
+    parsed: &mut Parsed,
+    file: &Text,
+    line: u32,
+    mut words: List<Text>,
+) -> Result<(), NoMemory>
+    ensures { OnOk result (parsed.new ≡ with_import file.now parsed.old line words) }
+{
+    if words.len() != 1 {
+        return diagnose(&mut parsed.diagnostics, file, line, DiagKind::BadImport);
+    }
+    let path = take_first(&mut words);
+    parsed.imports.push(Import { path, line })
 }
 
 /// Adds an `import` section. The lines behind its header belong to no section.
@@ -57,79 +55,112 @@ fn add_import(
     parsed: &mut Parsed,
     alloc: Global,
     file: &Text,
-    header: &Line,
-    body: &[Line],
+    section: Section,
 ) -> Result<(), NoMemory>
-    requires other { is_on_lem header.now ≡ false }
-    requires import { is_service_lem header.now ≡ false }
-    ensures { OnOk result (parsed.new ≡ with_section file.now parsed.old (section_of header.now body.now)) }
+    requires other { is_on_lem section.header ≡ false }
+    requires import { is_service_lem section.header ≡ false }
+    ensures { OnOk result (parsed.new ≡ with_section file.now parsed.old section) }
 {
-    let line = header.number;
-    match arguments(header.words.items()) {
-        [path] => parsed.imports.push(Import {
-            path: path.copy(alloc)?,
-            line,
-        })?,
-        _ => diagnose(
-            &mut parsed.diagnostics,
-            alloc,
-            file,
-            line,
-            DiagKind::BadImport,
-        )?,
-    }
-    add_orphans(parsed, alloc, file, body)
+    let Section { header, body } = section;
+    add_path(parsed, file, header.number, without_first(header.words))?;
+    add_orphans(parsed, file, body.items())
 }
 
-/// Adds the section of a header.
+/// Adds a section.
 fn add_section(
     parsed: &mut Parsed,
     alloc: Global,
     file: &Text,
-    header: &Line,
-    body: &[Line],
+    section: Section,
 ) -> Result<(), NoMemory>
-    ensures { OnOk result (parsed.new ≡ with_section file.now parsed.old (section_of header.now body.now)) }
+    ensures { OnOk result (parsed.new ≡ with_section file.now parsed.old section) }
 {
-    if is_on(header) {
-        add_action(parsed, alloc, file, header, body)
-    } else if is_service(header) {
-        add_service(parsed, alloc, file, header, body)
+    if is_on(&section.header) {
+        add_action(parsed, alloc, file, section)
+    } else if is_service(&section.header) {
+        add_service(parsed, alloc, file, section)
     } else {
-        add_import(parsed, alloc, file, header, body)
+        add_import(parsed, alloc, file, section)
     }
 }
 
-/// Adds the line that was left out of a file.
-fn add_cut(
+/// Adds the section that ends, if one is open.
+fn close(
     parsed: &mut Parsed,
     alloc: Global,
     file: &Text,
-    dropped: Option<u32>,
+    current: Option<Section>,
 ) -> Result<(), NoMemory>
-    ensures { OnOk result (parsed.new ≡ with_diagnostics parsed.old (cut file.now dropped)) }
+    ensures { OnOk result (parsed.new ≡ with_open file.now parsed.old current) }
 {
-    match dropped {
-        Some(line) => diagnose(&mut parsed.diagnostics, alloc, file, line, DiagKind::Cut),
+    match current {
+        Some(section) => add_section(parsed, alloc, file, section),
         None => Ok(()),
     }
 }
 
-/// What the lines of a file mean.
-#[tactic(auto, using(crate::proofs::SectionList::sections_from_header, crate::proofs::SectionList::from_header_begins))]
-pub fn parse(alloc: Global, file: &Text, tokens: &Tokens) -> Result<Parsed, NoMemory>
-    ensures sections { IfOk result (λ parsed. Sections file.now tokens.now parsed) }
+/// Adds a line that is no header to the open section. Without one it is an orphan.
+#[tactic(auto, using(crate::proofs::SectionList::went_on, crate::proofs::SectionList::was_orphan))]
+fn with_line(
+    parsed: &mut Parsed,
+    file: &Text,
+    current: Option<Section>,
+    line: Line,
+) -> Result<Option<Section>, NoMemory>
+    requires { is_header_lem line ≡ false }
+    ensures { IfOk result (λ next. (rest : Items TokenLine) → with_rest file.now parsed.new next rest ≡ with_rest file.now parsed.old current (line ∷ rest)) }
+{
+    let Some(mut section) = current else {
+        add_orphan(parsed, file, line.number)?;
+        return Ok(None);
+    };
+    section.body.push(line)?;
+    Ok(Some(section))
+}
+
+/// Takes the next line, and answers the section that is open behind it.
+#[tactic(auto, using(crate::proofs::SectionList::ended))]
+fn take_line(
+    parsed: &mut Parsed,
+    alloc: Global,
+    file: &Text,
+    current: Option<Section>,
+    line: Line,
+) -> Result<Option<Section>, NoMemory>
+    ensures { IfOk result (λ next. (rest : Items TokenLine) → with_rest file.now parsed.new next rest ≡ with_rest file.now parsed.old current (line ∷ rest)) }
+{
+    if !is_header(&line) {
+        return with_line(parsed, file, current, line);
+    }
+    close(parsed, alloc, file, current)?;
+    Ok(Some(Section {
+        header: line,
+        body: List::new(alloc),
+    }))
+}
+
+/// Adds the line that was left out of a file.
+fn add_cut(parsed: &mut Parsed, file: &Text, dropped: Option<u32>) -> Result<(), NoMemory>
+    ensures { OnOk result (parsed.new ≡ with_diagnostics parsed.old (cut file.now dropped)) }
+{
+    match dropped {
+        Some(line) => diagnose(&mut parsed.diagnostics, file, line, DiagKind::Cut),
+        None => Ok(()),
+    }
+}
+
+/// What the lines of a file mean. Their words become those of the sections.
+pub fn parse(alloc: Global, file: &Text, tokens: Tokens) -> Result<Parsed, NoMemory>
+    ensures sections { IfOk result (λ parsed. Sections file.now tokens parsed) }
     // Each action has a command.
     ensures commands { IfOk result (λ parsed. IsTrue (list_all has_command parsed.actions)) }
 {
     let mut parsed = Parsed::new(alloc);
-    let (orphans, mut left) = split_at_header(tokens.lines.items());
-    add_orphans(&mut parsed, alloc, file, orphans)?;
-    while let [header, behind @ ..] = left {
-        let (body, next) = split_at_header(behind);
-        add_section(&mut parsed, alloc, file, header, body)?;
-        left = next;
+    let mut current = None;
+    for line in tokens.lines.into_vec() {
+        current = take_line(&mut parsed, alloc, file, current, line)?;
     }
-    add_cut(&mut parsed, alloc, file, tokens.dropped)?;
+    close(&mut parsed, alloc, file, current)?;
+    add_cut(&mut parsed, file, tokens.dropped)?;
     Ok(parsed)
 }

@@ -2,17 +2,18 @@
 
 ghost use Rattle.std.specs.Prelude.{◌≡◌, ◌++◌, ◌∷◌, [], true, false, IfOk, OnOk};
 ghost use Rattle.std.specs.List.{flat_map};
-ghost use Rattle.rc_parse.specs.Adding.{section_of, with_section};
-ghost use Rattle.rc_parse.specs.Lines.{is_on, is_service};
+ghost use Rattle.rc_parse.specs.Code.Adding.{with_section};
+ghost use Rattle.rc_parse.specs.Lines.{arguments as arguments_lem, is_on, is_service};
 ghost use Rattle.rc_parse.specs.Readings.{diagnosed, values};
 ghost use Rattle.rc_parse.specs.Sections.{setting_at, settings_of};
-ghost use Rattle.rc_parse.specs.Services.{is_service_name as is_service_name_lem, service_with};
-ghost use Rattle.rc_parse.specs.Settings.{with_setting, with_settings};
+ghost use Rattle.rc_parse.specs.Services.{is_service_header as is_service_header_lem, is_service_name as is_service_name_lem, service_with};
+ghost use Rattle.rc_parse.specs.Code.Settings.{with_setting, with_settings};
 
 use crate::fault::Fault;
 use crate::parsed::{Parsed, diagnose};
+use crate::section::Section;
 use crate::setting::{Setting, read_setting};
-use crate::words::{arguments, copies, is_legal_name};
+use crate::words::{arguments, is_legal_name, take_first, without_first};
 use init_base::{List, Millis, NoMemory, Text};
 use init_machine::{DiagKind, Diagnostic, ServiceDef};
 use rc_tokens::Line;
@@ -31,25 +32,30 @@ fn is_service_name(name: &[u8]) -> bool
     is_legal_name(name) && name.len() <= LONGEST_NAME
 }
 
-/// A service without options.
-fn new_service(
-    alloc: Global,
-    file: &Text,
-    line: u32,
-    name: &Text,
-    path: &Text,
-    args: &[Text],
-) -> Result<ServiceDef, NoMemory>
-    ensures { IfOk result (λ service. service ≡ service_with file.now line (name.now ∷ path.now ∷ args.now) []) }
+/// Whether these are the words behind `service` in a header of a good form.
+fn is_service_header(words: &[Text]) -> bool
+    ensures { result ≡ is_service_header_lem words.now }
+{
+    words.len() >= 2 && is_service_name(words[0].bytes()) && !words[1].is_empty()
+}
+
+/// The service of a header, without options.
+#[tactic(auto, using(crate::proofs::Firsts::has_two, crate::proofs::Firsts::one_less))]
+fn new_service(alloc: Global, file: &Text, header: Line) -> Result<ServiceDef, NoMemory>
+    requires { is_service_header_lem (arguments_lem header.words) ≡ true }
+    ensures { IfOk result (λ service. service ≡ service_with file.now header.number (arguments_lem header.words) []) }
 {
     let mut classes = List::new(alloc);
     classes.push(Text::of(alloc, DEFAULT_CLASS)?)?;
+    let mut words = without_first(header.words);
+    let name = take_first(&mut words);
+    let path = take_first(&mut words);
     Ok(ServiceDef {
-        name: name.copy(alloc)?,
-        path: path.copy(alloc)?,
-        args: copies(alloc, args)?,
-        file: file.copy(alloc)?,
-        line,
+        name,
+        path,
+        args: words,
+        file: file.share()?,
+        line: header.number,
         classes,
         disabled: false,
         oneshot: false,
@@ -85,15 +91,15 @@ fn set_option(
     service: &mut ServiceDef,
     alloc: Global,
     file: &Text,
-    line: &Line,
+    line: Line,
     diagnostics: &mut List<Diagnostic>,
 ) -> Result<(), NoMemory>
-    ensures service { OnOk result (service.new ≡ with_settings service.old (values (setting_at file.now line.now))) }
-    ensures diagnostics { OnOk result (diagnostics.new ≡ diagnostics.old ++ diagnosed file.now line.now.number (setting_at file.now line.now)) }
+    ensures service { OnOk result (service.new ≡ with_settings service.old (values (setting_at file.now line))) }
+    ensures diagnostics { OnOk result (diagnostics.new ≡ diagnostics.old ++ diagnosed file.now line.number (setting_at file.now line)) }
 {
-    match read_setting(alloc, file, line.number, line.words.items()) {
+    match read_setting(alloc, file, line.number, line.words) {
         Ok(setting) => set(service, setting),
-        Err(Fault::Bad(kind)) => diagnose(diagnostics, alloc, file, line.number, kind),
+        Err(Fault::Bad(kind)) => diagnose(diagnostics, file, line.number, kind),
         Err(Fault::NoMemory) => Err(NoMemory),
     }
 }
@@ -103,13 +109,13 @@ fn set_options(
     service: &mut ServiceDef,
     alloc: Global,
     file: &Text,
-    lines: &[Line],
+    lines: List<Line>,
     diagnostics: &mut List<Diagnostic>,
 ) -> Result<(), NoMemory>
-    ensures service { OnOk result (service.new ≡ with_settings service.old (settings_of file.now lines.now)) }
-    ensures diagnostics { OnOk result (diagnostics.new ≡ diagnostics.old ++ flat_map (λ line. diagnosed file.now line.number (setting_at file.now line)) lines.now) }
+    ensures service { OnOk result (service.new ≡ with_settings service.old (settings_of file.now lines)) }
+    ensures diagnostics { OnOk result (diagnostics.new ≡ diagnostics.old ++ flat_map (λ line. diagnosed file.now line.number (setting_at file.now line)) lines) }
 {
-    for line in lines {
+    for line in lines.into_vec() {
         set_option(service, alloc, file, line, diagnostics)?;
     }
     Ok(())
@@ -120,26 +126,18 @@ pub fn add_service(
     parsed: &mut Parsed,
     alloc: Global,
     file: &Text,
-    header: &Line,
-    body: &[Line],
+    section: Section,
 ) -> Result<(), NoMemory>
-    requires other { is_on header.now ≡ false }
-    requires service { is_service header.now ≡ true }
-    ensures { OnOk result (parsed.new ≡ with_section file.now parsed.old (section_of header.now body.now)) }
+    requires other { is_on section.header ≡ false }
+    requires service { is_service section.header ≡ true }
+    ensures { OnOk result (parsed.new ≡ with_section file.now parsed.old section) }
 {
-    let line = header.number;
-    match arguments(header.words.items()) {
-        [name, path, args @ ..] if is_service_name(name.bytes()) && !path.is_empty() => {
-            let mut service = new_service(alloc, file, line, name, path, args)?;
-            set_options(&mut service, alloc, file, body, &mut parsed.diagnostics)?;
-            parsed.services.push(service)
-        }
-        _ => diagnose(
-            &mut parsed.diagnostics,
-            alloc,
-            file,
-            line,
-            DiagKind::BadService,
-        ),
+    let Section { header, body } = section;
+    if !is_service_header(arguments(header.words.items())) {
+        let kind = DiagKind::BadService;
+        return diagnose(&mut parsed.diagnostics, file, header.number, kind);
     }
+    let mut service = new_service(alloc, file, header)?;
+    set_options(&mut service, alloc, file, body, &mut parsed.diagnostics)?;
+    parsed.services.push(service)
 }

@@ -1,21 +1,19 @@
 //! The options of a service.
 
 ghost use Rattle.std.specs.Prelude.{◌≡◌, ◌*◌};
-ghost use Rattle.rc_parse.specs.Commands.{row_of};
-ghost use Rattle.rc_parse.specs.Options.{is_waiting_word as is_waiting_word_lem, onrestart_of, option_text, option_word as option_word_lem, period_setting, setting_of, timeout_setting};
+ghost use Rattle.rc_parse.specs.Options.{is_waiting_word as is_waiting_word_lem, onrestart_of, option_word as option_word_lem, row_of, seconds_of, setting_of, word_with as word_with_lem};
 ghost use Rattle.rc_parse.specs.Readings.{IsReading};
-ghost use Rattle.rc_parse.specs.Values.{millis as millis_lem, number_from as number_from_lem};
+ghost use Rattle.rc_parse.specs.Values.{millis as millis_lem};
 
-use crate::arity::Arity;
-use crate::command::{command, word_with};
+use crate::command::command;
 use crate::critical::critical;
 use crate::fault::Fault;
 use crate::number::number_from;
 use crate::option_word::OptionWord;
 use crate::table::OPTIONS;
-use crate::words::{arguments, copies, first_word};
+use crate::words::{arguments, first_word, without_first};
 use init_base::{List, Millis, Text};
-use init_machine::{Command, Critical, DiagKind, Word};
+use init_machine::{Arity, Command, Critical, DiagKind, Word};
 use std::alloc::Global;
 
 /// What an option sets.
@@ -41,9 +39,22 @@ const MILLIS_OF_SECOND: u64 = 1000;
 
 /// The row of a word among these rows.
 fn row_of_option(rows: &[(OptionWord, Arity)], word: &[u8]) -> Option<(OptionWord, Arity)>
-    ensures { result ≡ row_of option_text rows.now word.now }
+    ensures { result ≡ row_of rows.now word.now }
 {
     rows.iter().copied().find(|row| row.0.name() == word)
+}
+
+/// The row's option, if the row permits so many arguments.
+fn word_with(row: Option<(OptionWord, Arity)>, count: usize) -> Result<OptionWord, Fault>
+    ensures { IsReading result (word_with_lem count row) }
+{
+    let Some((word, arity)) = row else {
+        return Err(Fault::Bad(DiagKind::BadWord));
+    };
+    if !arity.permits(count) {
+        return Err(Fault::Bad(DiagKind::BadArity));
+    }
+    Ok(word)
 }
 
 /// The word of an option with so many arguments.
@@ -61,13 +72,13 @@ fn is_waiting_word(text: &[u8]) -> bool
 }
 
 /// The command behind `onrestart`.
-fn onrestart(alloc: Global, file: &Text, line: u32, words: &[Text]) -> Result<Command, Fault>
-    ensures { IsReading result (onrestart_of file.now line words.now) }
+fn onrestart(file: &Text, line: u32, words: List<Text>) -> Result<Command, Fault>
+    ensures { IsReading result (onrestart_of file.now line words) }
 {
-    if is_waiting_word(first_word(words)) {
+    if is_waiting_word(first_word(words.items())) {
         return Err(Fault::Bad(DiagKind::BadOption));
     }
-    command(alloc, file, line, words)
+    command(file, line, words)
 }
 
 fn millis(seconds: u32) -> Millis
@@ -76,40 +87,38 @@ fn millis(seconds: u32) -> Millis
     Millis(u64::from(seconds) * MILLIS_OF_SECOND)
 }
 
-/// A period of so many seconds.
-fn period(text: &[u8]) -> Result<Setting, Fault>
-    ensures { IsReading result (period_setting (number_from_lem 0 text.now)) }
+/// A time of so many seconds, and of at least these.
+fn seconds(least: u32, text: &[u8]) -> Result<Millis, Fault>
+    ensures { IsReading result (seconds_of least text.now) }
 {
-    match number_from(0, text) {
-        Some(seconds) => Ok(Setting::Period(millis(seconds))),
-        None => Err(Fault::Bad(DiagKind::BadOption)),
-    }
-}
-
-/// A timeout of so many seconds, and at least one.
-fn timeout(text: &[u8]) -> Result<Setting, Fault>
-    ensures { IsReading result (timeout_setting (number_from_lem 1 text.now)) }
-{
-    match number_from(1, text) {
-        Some(seconds) => Ok(Setting::Timeout(millis(seconds))),
+    match number_from(least, text) {
+        Some(seconds) => Ok(millis(seconds)),
         None => Err(Fault::Bad(DiagKind::BadOption)),
     }
 }
 
 /// What the words of an option's line set.
-pub fn read_setting(alloc: Global, file: &Text, line: u32, words: &[Text]) -> Result<Setting, Fault>
-    ensures { IsReading result (setting_of file.now line words.now) }
+pub fn read_setting(
+    alloc: Global,
+    file: &Text,
+    line: u32,
+    words: List<Text>,
+) -> Result<Setting, Fault>
+    ensures { IsReading result (setting_of file.now line words) }
 {
-    let args = arguments(words);
-    match option_word(first_word(words), args.len())? {
-        OptionWord::Class => Ok(Setting::Classes(copies(alloc, args)?)),
+    let args = arguments(words.items());
+    match option_word(first_word(words.items()), args.len())? {
+        OptionWord::Class => Ok(Setting::Classes(without_first(words))),
         OptionWord::Disabled => Ok(Setting::Disabled),
         OptionWord::Oneshot => Ok(Setting::Oneshot),
         OptionWord::Override => Ok(Setting::Override),
         OptionWord::Critical => Ok(Setting::Critical(critical(alloc, args)?)),
-        OptionWord::Onrestart => Ok(Setting::Onrestart(onrestart(alloc, file, line, args)?)),
-        OptionWord::RestartPeriod => period(first_word(args)),
-        OptionWord::TimeoutPeriod => timeout(first_word(args)),
-        OptionWord::Inert(_) => Ok(Setting::Kept(copies(alloc, words)?)),
+        OptionWord::Onrestart => {
+            let command = onrestart(file, line, without_first(words))?;
+            Ok(Setting::Onrestart(command))
+        }
+        OptionWord::RestartPeriod => Ok(Setting::Period(seconds(0, first_word(args))?)),
+        OptionWord::TimeoutPeriod => Ok(Setting::Timeout(seconds(1, first_word(args))?)),
+        OptionWord::Inert(_) => Ok(Setting::Kept(words)),
     }
 }

@@ -1,55 +1,8 @@
-//! The words of commands and options, and how many arguments they take (AOSP, init's README, "Commands" and
-//! "Services"; the inert ones are this project's profile).
+//! The options of a service, and how many arguments they take (AOSP, init's README, "Services"; the inert ones are this
+//! project's profile).
 
-use crate::arity::Arity::{self, AtLeast, Between, Exactly};
 use crate::option_word::{InertOption, OptionWord};
-use init_machine::{InertWord, Word};
-
-/// The commands.
-pub const COMMANDS: [(Word, Arity); 42] = [
-    (Word::ClassStart, Exactly(1)),
-    (Word::ClassStop, Exactly(1)),
-    (Word::ClassReset, Exactly(1)),
-    (Word::ClassRestart, Between(1, 2)),
-    (Word::Start, Exactly(1)),
-    (Word::Stop, Exactly(1)),
-    (Word::Enable, Exactly(1)),
-    (Word::Restart, Between(1, 2)),
-    (Word::ExecStart, Exactly(1)),
-    (Word::Exec, AtLeast(1)),
-    (Word::Setprop, Exactly(2)),
-    (Word::Trigger, Exactly(1)),
-    (Word::WaitForProp, Exactly(2)),
-    (Word::Wait, Between(1, 2)),
-    (Word::LoadPersistProps, Exactly(0)),
-    (Word::Export, Exactly(2)),
-    (Word::Write, Exactly(2)),
-    (Word::Copy, Exactly(2)),
-    (Word::Rm, Exactly(1)),
-    (Word::Rmdir, Exactly(1)),
-    (Word::Symlink, Exactly(2)),
-    (Word::Chmod, Exactly(2)),
-    (Word::Mkdir, Between(1, 6)),
-    (Word::Inert(InertWord::Mount), AtLeast(0)),
-    (Word::Inert(InertWord::Umount), AtLeast(0)),
-    (Word::Inert(InertWord::Restorecon), AtLeast(0)),
-    (Word::Inert(InertWord::RestoreconRecursive), AtLeast(0)),
-    (Word::Inert(InertWord::Chown), AtLeast(0)),
-    (Word::Inert(InertWord::Insmod), AtLeast(0)),
-    (Word::Inert(InertWord::Ifup), AtLeast(0)),
-    (Word::Inert(InertWord::Sysclktz), AtLeast(0)),
-    (Word::Inert(InertWord::Setrlimit), AtLeast(0)),
-    (Word::Inert(InertWord::SwaponAll), AtLeast(0)),
-    (Word::Inert(InertWord::VerityUpdateState), AtLeast(0)),
-    (Word::Inert(InertWord::Installkey), AtLeast(0)),
-    (Word::Inert(InertWord::InitUser0), AtLeast(0)),
-    (Word::Inert(InertWord::MarkPostData), AtLeast(0)),
-    (Word::Inert(InertWord::ExecBackground), AtLeast(0)),
-    (Word::Inert(InertWord::Loglevel), AtLeast(0)),
-    (Word::Inert(InertWord::Hostname), AtLeast(0)),
-    (Word::Inert(InertWord::Domainname), AtLeast(0)),
-    (Word::Inert(InertWord::Bootchart), AtLeast(0)),
-];
+use init_machine::Arity::{self, AtLeast, Between, Exactly};
 
 /// The options of a service.
 pub const OPTIONS: [(OptionWord, Arity); 25] = [

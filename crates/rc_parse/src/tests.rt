@@ -164,7 +164,7 @@ fn add_parsed(out: &mut Vec<u8>, alloc: Global, parsed: &Parsed) -> Result<(), F
 
 fn parsed(alloc: Global, file: &[u8], text: &[u8]) -> Result<Parsed, Fail> {
     let tokens = rc_tokens::lines(alloc, text)?;
-    Ok(parse(alloc, &Text::of(alloc, file)?, &tokens)?)
+    Ok(parse(alloc, &Text::of(alloc, file)?, tokens)?)
 }
 
 /// The file of a row.
@@ -204,36 +204,11 @@ setprop a
 
 #[test]
 fn files_mean(rt: HostRuntime) -> Result<(), Fail> {
-    for row in FILES.split("\n\n") {
-        let text = read_again(rt.alloc(), row)?;
-        assert_eq!(rt; text.as_slice(), row.as_bytes(), "at {row}");
-    }
-    Ok(())
-}
-
-#[test]
-fn triggers_mean(rt: HostRuntime) -> Result<(), Fail> {
-    for row in TRIGGERS.split("\n\n") {
-        let text = read_again(rt.alloc(), row)?;
-        assert_eq!(rt; text.as_slice(), row.as_bytes(), "at {row}");
-    }
-    Ok(())
-}
-
-#[test]
-fn commands_mean(rt: HostRuntime) -> Result<(), Fail> {
-    for row in COMMANDS.split("\n\n") {
-        let text = read_again(rt.alloc(), row)?;
-        assert_eq!(rt; text.as_slice(), row.as_bytes(), "at {row}");
-    }
-    Ok(())
-}
-
-#[test]
-fn options_mean(rt: HostRuntime) -> Result<(), Fail> {
-    for row in OPTIONS.split("\n\n") {
-        let text = read_again(rt.alloc(), row)?;
-        assert_eq!(rt; text.as_slice(), row.as_bytes(), "at {row}");
+    for table in [FILES, TRIGGERS, COMMANDS, OPTIONS] {
+        for row in table.split("\n\n") {
+            let text = read_again(rt.alloc(), row)?;
+            assert_eq!(rt; text.as_slice(), row.as_bytes(), "at {row}");
+        }
     }
     Ok(())
 }
@@ -265,17 +240,6 @@ fn longest_names(rt: HostRuntime) -> Result<(), Fail> {
         assert_eq!(rt; parsed.diagnostics.is_empty(), legal, "at {count}");
     }
     Ok(())
-}
-
-fn empty_config(alloc: Global) -> Config {
-    Config {
-        actions: List::new(alloc),
-        services: List::new(alloc),
-        pairs: List::new(alloc),
-        saved: List::new(alloc),
-        plans: List::new(alloc),
-        domains: List::new(alloc),
-    }
 }
 
 /// Adds a file's name and a line.
@@ -313,9 +277,11 @@ fn add_agains(out: &mut Vec<u8>, alloc: Global, agains: &[Diagnostic]) -> Result
 fn merge_again(alloc: Global, row: &str) -> Result<Vec<u8>, Fail> {
     let files = file_of(row);
     let (first, second) = files.split_once("\n--\n").unwrap_or((files, ""));
-    let mut config = empty_config(alloc);
-    let mut agains = merge(alloc, &mut config, parsed(alloc, b"a", first.as_bytes())?)?;
-    agains.append(merge(alloc, &mut config, parsed(alloc, b"b", second.as_bytes())?)?)?;
+    let merger = Merger::new(alloc);
+    let (merger, mut agains) = merger.merge(alloc, parsed(alloc, b"a", first.as_bytes())?)?;
+    let (merger, more) = merger.merge(alloc, parsed(alloc, b"b", second.as_bytes())?)?;
+    agains.append(more)?;
+    let config = merger.into_config(alloc)?;
     let mut out = Vec::from_slice(alloc, files.as_bytes())?;
     add_config(&mut out, alloc, &config)?;
     add_agains(&mut out, alloc, agains.items())?;

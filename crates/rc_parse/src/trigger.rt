@@ -3,12 +3,12 @@
 ghost use Rattle.std.specs.Prelude.{◌≡◌, false, IfOk, MatchOption, map};
 ghost use Rattle.std.specs.List.{list_any, position};
 ghost use Rattle.std.specs.Option.{option_copied};
-ghost use Rattle.rc_parse.specs.Joining.{Parts, behind_joiner as behind_joiner_lem, joined_of, with_trigger};
+ghost use Rattle.rc_parse.specs.Code.Joining.{Parts, behind_joiner as behind_joiner_lem, joined_of, with_trigger};
 ghost use Rattle.rc_parse.specs.Readings.{IsReading};
 ghost use Rattle.rc_parse.specs.Triggers.{has_twice, is_equals_sign, test_of, tested_value as tested_value_lem, trigger_of, triggers_of};
 
 use crate::fault::Fault;
-use crate::words::is_legal_name;
+use crate::words::{behind, is_legal_name};
 use init_base::{List, NoMemory, Text};
 use init_machine::{DiagKind, PropTest};
 use std::alloc::Global;
@@ -39,52 +39,53 @@ fn equals_sign(text: &[u8]) -> Option<usize>
 
 /// What stands before the first `=`, and what stands behind it.
 #[tactic(auto, using(crate::proofs::Signs::no_parts))]
-fn parts_at_equals(text: &[u8]) -> Option<(&[u8], &[u8])>
-    ensures { MatchOption result (list_any is_equals_sign text.entry.now ≡ false) (λ parts. Parts text.entry.now parts.0.now parts.1.now) }
+fn parts_at_equals(text: &Text) -> Result<Option<(Text, Text)>, NoMemory>
+    ensures { IfOk result (λ parts. MatchOption parts (list_any is_equals_sign text.now ≡ false) (λ found. Parts text.now found.0 found.1)) }
 {
-    match equals_sign(text) {
-        Some(place) => Some((&text[..place], &text[place + 1..])),
-        None => None,
-    }
+    let Some(place) = equals_sign(text.bytes()) else {
+        return Ok(None);
+    };
+    let name = text.slice(0, place)?;
+    let value = text.slice(place + 1, text.len())?;
+    Ok(Some((name, value)))
 }
 
 /// The value that is tested; `*` stands for any.
-fn tested_value(alloc: Global, value: &[u8]) -> Result<Option<Text>, NoMemory>
-    ensures { IfOk result (λ tested. tested ≡ tested_value_lem value.now) }
+fn tested_value(value: Text) -> Option<Text>
+    ensures { result ≡ tested_value_lem value }
 {
-    if value == b"*".as_slice() {
-        return Ok(None);
-    }
-    Ok(Some(Text::of(alloc, value)?))
+    if value.is(b"*") { None } else { Some(value) }
 }
 
 /// `NAME=VALUE`, split at the first `=`.
-fn test(alloc: Global, text: &[u8]) -> Result<Trigger, Fault>
+fn test(text: &Text) -> Result<Trigger, Fault>
     ensures { IsReading result (test_of text.now) }
 {
-    let Some((name, value)) = parts_at_equals(text) else {
+    let Some((name, value)) = parts_at_equals(text)? else {
         return Err(Fault::Bad(DiagKind::BadTrigger));
     };
-    if !is_legal_name(name) {
+    if !is_legal_name(name.bytes()) {
         return Err(Fault::Bad(DiagKind::BadTrigger));
     }
     Ok(Trigger::Test(PropTest {
-        name: Text::of(alloc, name)?,
-        value: tested_value(alloc, value)?,
+        name,
+        value: tested_value(value),
     }))
 }
 
 /// `property:NAME=VALUE`, or an event.
-fn read_trigger(alloc: Global, word: &[u8]) -> Result<Trigger, Fault>
+#[tactic(auto, using(crate::proofs::Firsts::prefix_fits))]
+fn read_trigger(word: &Text) -> Result<Trigger, Fault>
     ensures { IsReading result (trigger_of word.now) }
 {
-    if let Some(text) = word.strip_prefix(ON_PROPERTY) {
-        return test(alloc, text);
+    if word.bytes().starts_with(ON_PROPERTY) {
+        let text = behind(word, ON_PROPERTY.len())?;
+        return test(&text);
     }
     if word.is_empty() {
         return Err(Fault::Bad(DiagKind::BadTrigger));
     }
-    Ok(Trigger::Event(Text::of(alloc, word)?))
+    Ok(Trigger::Event(word.share()?))
 }
 
 impl Triggers {
@@ -136,7 +137,7 @@ fn joined(alloc: Global, words: &[Text]) -> Result<Triggers, Fault>
     };
     let mut left = words;
     while let [word, behind @ ..] = left {
-        triggers = triggers.with(read_trigger(alloc, word.bytes())?)?;
+        triggers = triggers.with(read_trigger(word)?)?;
         left = match behind_joiner(behind) {
             Some(words) => words,
             None => return Err(Fault::Bad(DiagKind::BadTrigger)),

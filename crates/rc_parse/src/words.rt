@@ -1,12 +1,11 @@
 //! Words, and what a line is by its first one.
 
-ghost use Rattle.std.specs.Prelude.{◌≡◌, IfOk};
+ghost use Rattle.std.specs.Prelude.{◌≡◌, ◌<◌, ◌≤◌, IfOk, drop, length};
 ghost use Rattle.init_base.specs.Name.{is_legal_name as is_legal_name_lem};
 ghost use Rattle.rc_parse.specs.Lines.{arguments as arguments_lem, first_word as first_word_lem, is_header as is_header_lem, is_import as is_import_lem, is_on as is_on_lem, is_service as is_service_lem};
 
 use init_base::{List, NoMemory, PropName, Text};
 use rc_tokens::Line;
-use std::alloc::Global;
 
 /// The first of some words, or the empty word.
 pub fn first_word(words: &[Text]) -> &[u8]
@@ -62,13 +61,31 @@ pub fn is_legal_name(name: &[u8]) -> bool
     PropName::of(name).is_some()
 }
 
-/// Copies of these words.
-pub fn copies(alloc: Global, words: &[Text]) -> Result<List<Text>, NoMemory>
-    ensures { IfOk result (λ copies. copies ≡ words.now) }
+/// What stands behind so many bytes of a word.
+#[tactic(auto, using(crate::proofs::Firsts::all_behind))]
+pub fn behind(word: &Text, count: usize) -> Result<Text, NoMemory>
+    requires { count ≤ length word.now }
+    ensures { IfOk result (λ rest. rest ≡ drop count word.now) }
 {
-    let mut copies = List::new(alloc);
-    for word in words {
-        copies.push(word.copy(alloc)?)?;
+    word.slice(count, word.len())
+}
+
+/// Takes the first word away.
+#[tactic(auto, using(crate::proofs::Firsts::first_taken, crate::proofs::Firsts::others_left))]
+pub fn take_first(words: &mut List<Text>) -> Text
+    requires { 0 < length words.old }
+    ensures first { result ≡ first_word_lem words.old }
+    ensures others { words.new ≡ arguments_lem words.old }
+{
+    words.remove(0)
+}
+
+/// The words behind the first one.
+pub fn without_first(mut words: List<Text>) -> List<Text>
+    ensures { result ≡ arguments_lem words }
+{
+    if !words.is_empty() {
+        let _first = take_first(&mut words);
     }
-    Ok(copies)
+    words
 }

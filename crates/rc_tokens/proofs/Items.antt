@@ -5,8 +5,9 @@ use Rattle.std.proofs.lemmas.List.Sums.{sum_by-append}
 use Rattle.std.proofs.lemmas.Bool.{not-true, or_cases}
 use Rattle.std.specs.List.{list_any}
 use Rattle.rc_tokens.specs.Grammar.{is_blank, is_line_feed, is_hash, stops, has_none, Piece, plain, quoted, escape, folded, piece_bytes, is_quoted, PieceFits, pieces_bytes, PiecesFit, begin_with_hash, Item, blank, line_end, comment, token, item_bytes, ItemFits, items_bytes, ItemsFit, Ending, whole, open_quote, lone_backslash, ending_bytes, EndingFits}
-use Rattle.rc_tokens.specs.Lines.{has_any, word_of, counts, line_number, no_tokens, put_before, onto_first_line, ending_line, stretches, with_words, all_but_last, last_number, lines_of, dropped_of}
-use Rattle.rc_tokens.specs.Steps.{number_after, in_word, between, in_comment, ended_token, with_token, with_line, begun_token}
+use Rattle.rc_tokens.specs.Lines.{has_any, word_of, counts, line_number, all_but_last}
+use Rattle.rc_tokens.proofs.Stretches.{no_tokens, put_before, onto_first_line, ending_line, line_parts, with_words, last_number, kept_lines, dropped_line}
+use Rattle.rc_tokens.specs.Code.Steps.{number_after, in_word, between, in_comment, ended_token, with_token, with_line, begun_token}
 use Rattle.rc_tokens.specs.declared.reader.Mode.TheVariants as mode
 use Rattle.rc_tokens.specs.declared.reader.Reader.{Reader}
 use Rattle.rc_tokens.specs.declared.line.Line.{Line}
@@ -21,7 +22,7 @@ abbrev pub first_of : List (List ℕ) → ℕ → ℕ → ℕ
 first_of words first n = if has_any words then first else n
 
 abbrev pub begun : Reader → ℕ → Reader
-begun r n = record r { first = first_of r.words r.first n }
+begun r n = record r { first = first_of r.spelled.words r.first n }
 
 between_other : (r : Reader) (b : ℕ) → is_blank b ≡ false → is_line_feed b ≡ false → is_hash b ≡ false → between r b ≡ in_word (begun_token r) b
 between_other r b no_blank no_feed no_hash = rw (no_blank, no_feed, no_hash) refl
@@ -39,7 +40,7 @@ token_begins (folded end spaces) ps r n t q next h fits = refl
 
 -- a reader whose token has ended
 abbrev pub rested : Reader → ℕ → List ℕ → Bool → Reader
-rested r n t q = at mode.Between (record r { words = with_token r.words q t }) n [] q
+rested r n t q = at mode.Between (record r { spelled = record r.spelled { words = with_token r.spelled.words q t } }) n [] q
 
 in_word_blank : (r : Reader) (b : ℕ) → is_blank b ≡ true → in_word r b ≡ ended_token r
 in_word_blank r b h = rw h refl
@@ -88,8 +89,8 @@ joined first words (line ∷ lines) = join_line first words line ∷ lines
 
 abbrev pub answer : Reader → List ℕ → List Item → Ending → Tokens
 answer r before items ending =
-    let lines = joined r.first r.words (stretches before items ending) in
-    record { lines = r.lines ++ lines_of lines ending; dropped = dropped_of lines ending }
+    let lines = joined r.first r.spelled.words (line_parts before items ending) in
+    record { lines = r.spelled.lines ++ kept_lines lines ending; dropped = dropped_line lines ending }
 
 -- ---- the ending
 
@@ -113,14 +114,14 @@ cut_runs (p ∷ ps) r n q b next h fits no_blank no_feed no_hash =
     ∙ ap (λ (u : List ℕ). outcome (at mode.Word (begun r n) n [] false) u) (sym split)
     ∙ pieces_run (p ∷ ps) (begun r n) n [] false (b ∷ next) fits
 
-cut_answer : (r : Reader) (n : ℕ) → cut_at (begun r n) ≡ (let t : Tokens = record { lines = r.lines ++ []; dropped = Some (join_line r.first r.words (put_before n [] no_tokens)).number } in t)
+cut_answer : (r : Reader) (n : ℕ) → cut_at (begun r n) ≡ (let t : Tokens = record { lines = r.spelled.lines ++ []; dropped = Some (join_line r.first r.spelled.words (put_before n [] no_tokens)).number } in t)
 cut_answer r n =
-    ap (λ (ls : List Line). (let t : Tokens = record { lines = ls; dropped = Some (first_of r.words r.first n) } in t)) (sym (append-nil r.lines))
-    ∙ ap (λ (k : ℕ). (let t : Tokens = record { lines = r.lines ++ []; dropped = Some k } in t)) (cut_line r.first n r.words)
+    ap (λ (ls : List Line). (let t : Tokens = record { lines = ls; dropped = Some (first_of r.spelled.words r.first n) } in t)) (sym (append-nil r.spelled.lines))
+    ∙ ap (λ (k : ℕ). (let t : Tokens = record { lines = r.spelled.lines ++ []; dropped = Some k } in t)) (cut_line r.first n r.spelled.words)
 
 ending_runs : (ending : Ending) (r : Reader) (before : List ℕ) (q : Bool) → EndingFits ending
     → outcome (at mode.Between r (line_number before) [] q) (ending_bytes ending) ≡ answer r before [] ending
-ending_runs whole r before q h = ap (λ (ls : List Line). (let t : Tokens = record { lines = ls; dropped = None } in t)) (last_line r.lines r.first r.words)
+ending_runs whole r before q h = ap (λ (ls : List Line). (let t : Tokens = record { lines = ls; dropped = None } in t)) (last_line r.spelled.lines r.first r.spelled.words)
 ending_runs (open_quote ps bytes) r before q h =
     let n = line_number before in
     let m = number_past n (pieces_bytes ps) in
@@ -147,15 +148,15 @@ token_runs p ps r n q next h =
 -- ---- items
 
 -- there is a stretch
-pub some_stretch : (before : List ℕ) (items : List Item) (ending : Ending) → (line : Line) × (lines : List Line) × (stretches before items ending ≡ line ∷ lines)
+pub some_stretch : (before : List ℕ) (items : List Item) (ending : Ending) → (line : Line) × (lines : List Line) × (line_parts before items ending ≡ line ∷ lines)
 some_stretch before [] ending = (ending_line before ending, [], refl)
 some_stretch before (blank b ∷ items) ending = some_stretch (before ++ item_bytes (blank b)) items ending
-some_stretch before (line_end ∷ items) ending = (no_tokens, stretches (before ++ item_bytes line_end) items ending, refl)
+some_stretch before (line_end ∷ items) ending = (no_tokens, line_parts (before ++ item_bytes line_end) items ending, refl)
 some_stretch before (comment bytes ∷ items) ending = some_stretch (before ++ item_bytes (comment bytes)) items ending
 some_stretch before (token p ps ∷ items) ending =
     let behind = before ++ item_bytes (token p ps) in
     let s = some_stretch behind items ending in
-    elim (counts (p ∷ ps)) as (λ (v : Bool). (line : Line) × (lines : List Line) × (cond v (onto_first_line (line_number before) (word_of (p ∷ ps)) (stretches behind items ending)) (stretches behind items ending) ≡ line ∷ lines)) [
+    elim (counts (p ∷ ps)) as (λ (v : Bool). (line : Line) × (lines : List Line) × (cond v (onto_first_line (line_number before) (word_of (p ∷ ps)) (line_parts behind items ending)) (line_parts behind items ending) ≡ line ∷ lines)) [
       | true ↦ (put_before (line_number before) (word_of (p ∷ ps)) s.0, s.1, ap (λ (ls : List Line). onto_first_line (line_number before) (word_of (p ∷ ps)) ls) s.2)
       | false ↦ s
     ]
@@ -172,8 +173,8 @@ with_words_ended done first (w ∷ words) rest =
     ∙ ap (λ (ws : List (List ℕ)). done ++ record { number = first; words = w ∷ ws } ∷ with_words rest) (sym (append-nil words))
 
 line_ended : (ending : Ending) (done : List Line) (first : ℕ) (words : List (List ℕ)) (line : Line) (lines : List Line)
-    → (let t : Tokens = record { lines = with_line done first words ++ lines_of (joined first [] (line ∷ lines)) ending; dropped = dropped_of (joined first [] (line ∷ lines)) ending } in t)
-    ≡ (let t : Tokens = record { lines = done ++ lines_of (join_line first words no_tokens ∷ line ∷ lines) ending; dropped = dropped_of (join_line first words no_tokens ∷ line ∷ lines) ending } in t)
+    → (let t : Tokens = record { lines = with_line done first words ++ kept_lines (joined first [] (line ∷ lines)) ending; dropped = dropped_line (joined first [] (line ∷ lines)) ending } in t)
+    ≡ (let t : Tokens = record { lines = done ++ kept_lines (join_line first words no_tokens ∷ line ∷ lines) ending; dropped = dropped_line (join_line first words no_tokens ∷ line ∷ lines) ending } in t)
 line_ended whole done first words line lines = ap (λ (ls : List Line). (let t : Tokens = record { lines = ls; dropped = None } in t)) (with_words_ended done first words (line ∷ lines))
 line_ended (open_quote ps bytes) done first words line lines = ap (λ (ls : List Line). (let t : Tokens = record { lines = ls; dropped = Some (last_number (line ∷ lines)) } in t)) (with_words_ended done first words (all_but_last (line ∷ lines)))
 line_ended (lone_backslash ps) done first words line lines = ap (λ (ls : List Line). (let t : Tokens = record { lines = ls; dropped = Some (last_number (line ∷ lines)) } in t)) (with_words_ended done first words (all_but_last (line ∷ lines)))
@@ -229,12 +230,12 @@ items_run (line_end ∷ items) ending r before q fits end =
     let behind = before ++ 10 ∷ [] in
     let next = items_bytes items ++ ending_bytes ending in
     let some = some_stretch behind items ending in
-    let ended : Reader = record r { lines = with_line r.lines r.first r.words; words = [] } in
+    let ended : Reader = record r { spelled = record r.spelled { lines = with_line r.spelled.lines r.first r.spelled.words; words = [] } } in
     ap (λ (m : ℕ). outcome (at mode.Between ended m [] q) next) (number_behind before (10 ∷ []))
     ∙ items_run items ending ended behind q fits.1 end
-    ∙ ap (λ (ls : List Line). (let t : Tokens = record { lines = ended.lines ++ lines_of (joined r.first [] ls) ending; dropped = dropped_of (joined r.first [] ls) ending } in t)) some.2
-    ∙ line_ended ending r.lines r.first r.words some.0 some.1
-    ∙ ap (λ (ls : List Line). (let t : Tokens = record { lines = r.lines ++ lines_of (join_line r.first r.words no_tokens ∷ ls) ending; dropped = dropped_of (join_line r.first r.words no_tokens ∷ ls) ending } in t)) (sym some.2)
+    ∙ ap (λ (ls : List Line). (let t : Tokens = record { lines = ended.spelled.lines ++ kept_lines (joined r.first [] ls) ending; dropped = dropped_line (joined r.first [] ls) ending } in t)) some.2
+    ∙ line_ended ending r.spelled.lines r.first r.spelled.words some.0 some.1
+    ∙ ap (λ (ls : List Line). (let t : Tokens = record { lines = r.spelled.lines ++ kept_lines (join_line r.first r.spelled.words no_tokens ∷ ls) ending; dropped = dropped_line (join_line r.first r.spelled.words no_tokens ∷ ls) ending } in t)) (sym some.2)
 items_run (comment bytes ∷ items) ending r before q fits end =
     let next = items_bytes items ++ ending_bytes ending in
     let n = line_number before in
@@ -247,10 +248,10 @@ items_run (token p ps ∷ items) ending r before q fits end =
     let n = line_number before in
     let behind = before ++ pieces_bytes (p ∷ ps) in
     let quotes = list_any is_quoted (p ∷ ps) || false in
-    let words = with_token r.words quotes (word_of (p ∷ ps)) in
-    let ended : Reader = record (begun r n) { words = words } in
+    let words = with_token r.spelled.words quotes (word_of (p ∷ ps)) in
+    let ended : Reader = record (begun r n) { spelled = record r.spelled { words = words } } in
     ap (λ (u : List ℕ). outcome (at mode.Between r n [] q) u) (append_assoc (pieces_bytes (p ∷ ps)) (items_bytes items) (ending_bytes ending))
     ∙ token_runs p ps r n q next fits.0
     ∙ ap (λ (m : ℕ). outcome (at mode.Between ended m [] quotes) next) (number_behind before (pieces_bytes (p ∷ ps)))
     ∙ items_run items ending ended behind quotes fits.1 end
-    ∙ ap (λ (ls : List Line). (let t : Tokens = record { lines = r.lines ++ lines_of ls ending; dropped = dropped_of ls ending } in t)) (joined_token r.first n r.words (p ∷ ps) (stretches behind items ending))
+    ∙ ap (λ (ls : List Line). (let t : Tokens = record { lines = r.spelled.lines ++ kept_lines ls ending; dropped = dropped_line ls ending } in t)) (joined_token r.first n r.spelled.words (p ∷ ps) (line_parts behind items ending))

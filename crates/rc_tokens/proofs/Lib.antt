@@ -1,6 +1,9 @@
 pub mod Bytes
 pub mod Pieces
+pub mod Stretches
 pub mod Items
 pub mod Existence
 pub mod Uniqueness
 pub mod Answer
+pub mod Ascending
+pub mod Ranges

@@ -4,11 +4,11 @@ use Rattle.std.proofs.lemmas.List.{append-nil}
 use Rattle.std.proofs.lemmas.Grind.{fold-append}
 use Rattle.std.proofs.lemmas.List.Sums.{sum_by_from}
 use Rattle.std.proofs.lemmas.Bool.{not-true, or_parts, and_parts, eqb-true}
-use Rattle.std.specs.List.{fold, list_all, list_any}
+use Rattle.std.specs.List.{count_by, fold, list_all, list_any}
 use Rattle.rc_tokens.specs.Grammar.{is_space, is_line_feed, is_quote, is_plain, begins, has_none, LineEnd, bare, returned, Piece, plain, quoted, escape, folded, piece_bytes, escaped, spelled, is_quoted, PieceFits, pieces_bytes, PiecesFit}
-use Rattle.rc_tokens.specs.Lines.{word_of, line_feeds}
-use Rattle.rc_tokens.specs.Steps as steps
-use Rattle.rc_tokens.specs.Steps.{run, step, finished, number_after, with_byte, in_word, between, in_comment, in_quotes, after_backslash, after_return, in_fold, ended_token, ended_line, with_token}
+use Rattle.rc_tokens.specs.Lines.{word_of}
+use Rattle.rc_tokens.specs.Code.Steps as steps
+use Rattle.rc_tokens.specs.Code.Steps.{run, step, finished, number_after, with_byte, in_word, between, in_comment, in_quotes, after_backslash, after_return, in_fold, ended_token, ended_line, with_token}
 use Rattle.rc_tokens.specs.declared.reader.Mode.{Mode}
 use Rattle.rc_tokens.specs.declared.reader.Mode.TheVariants as mode
 use Rattle.rc_tokens.specs.declared.reader.Reader.{Reader}
@@ -21,13 +21,13 @@ outcome r bytes = finished (run r bytes)
 
 -- a reader in this mode, on this physical line, with this token
 abbrev pub at : Mode → Reader → ℕ → List ℕ → Bool → Reader
-at m r n t q = record r { number = n; token = t; has_quotes = q; mode = m }
+at m r n t q = record r { spelled = record r.spelled { token = t }; number = n; has_quotes = q; mode = m }
 
 -- the physical line behind the bytes
 abbrev pub number_past : ℕ → List ℕ → ℕ
 number_past n bytes = fold number_after n bytes
 
-pub number_past-is : (n : ℕ) (bytes : List ℕ) → number_past n bytes ≡ n + line_feeds bytes
+pub number_past-is : (n : ℕ) (bytes : List ℕ) → number_past n bytes ≡ n + count_by is_line_feed bytes
 number_past-is n bytes = sum_by_from (λ b. cond (is_line_feed b) 1 0) n bytes
 
 pub number_past-append : (n : ℕ) (xs ys : List ℕ) → number_past n (xs ++ ys) ≡ number_past (number_past n xs) ys
@@ -53,7 +53,7 @@ plain_runs r n t q b next h = after_step (at mode.Word r n t q) _ b next (in_wor
 pub none_parts : (test : ℕ → Bool) (b : ℕ) (bytes : List ℕ) → has_none test (b ∷ bytes) ≡ true → (test b ≡ false) × (has_none test bytes ≡ true)
 none_parts test b bytes h = let p = and_parts (not (test b)) (has_none test bytes) h in (not-true (test b) p.0, p.1)
 
-in_quotes_other : (r : Reader) (b : ℕ) → is_quote b ≡ false → in_quotes r b ≡ record r { token = r.token ++ b ∷ [] }
+in_quotes_other : (r : Reader) (b : ℕ) → is_quote b ≡ false → in_quotes r b ≡ record r { spelled = record r.spelled { token = r.spelled.token ++ b ∷ [] } }
 in_quotes_other r b h = rw h refl
 
 quotes_run : (r : Reader) (n : ℕ) (t : List ℕ) (bytes next : List ℕ) → has_none is_quote bytes ≡ true
@@ -66,7 +66,7 @@ quotes_run r n t (b ∷ bytes) next h =
     ∙ ap (λ (u : List ℕ). outcome (at mode.Word r (number_past (number_after n b) (bytes ++ 34 ∷ [])) u true) next) (append_assoc t (b ∷ []) bytes)
 
 abbrev pub cut_at : Reader → Tokens
-cut_at r = record { lines = r.lines; dropped = Some r.first }
+cut_at r = record { lines = r.spelled.lines; dropped = Some r.first }
 
 pub open_quotes_run : (r : Reader) (n : ℕ) (t : List ℕ) (q : Bool) (bytes : List ℕ) → has_none is_quote bytes ≡ true
     → outcome (at mode.Quoted r n t q) bytes ≡ cut_at r

@@ -1,12 +1,15 @@
 -- The lines that a text spells.
-use Rattle.std.specs.Prelude.{◌≡◌, ℕ, ◌+◌, Bool, true, false, ◌||◌, if◌then◌else◌, List, [], ◌∷◌, ◌++◌, Option, Some, None, count_by, filter}
-use Rattle.std.specs.List.{flat_map, list_any}
+use Rattle.std.specs.Prelude.{◌≡◌, ℕ, ◌+◌, ◌<◌, Bool, true, false, ◌||◌, if◌then◌else◌, List, [], ◌∷◌, ◌++◌, Option, Some, None, count_by, map}
+use Rattle.std.specs.List.{AllByRecursion, flat_map, list_any, slice_split}
+use Rattle.std.specs.Option.{option_to_list}
 use Rattle.rc_tokens.specs.declared.line.Line.{Line}
-use Rattle.rc_tokens.specs.Grammar.{is_line_feed, Piece, spelled, is_quoted, Item, blank, line_end, comment, token, item_bytes, Ending, whole, open_quote, lone_backslash, IsReading}
+use Rattle.rc_tokens.specs.Grammar.{is_line_feed, Piece, spelled, is_quoted, Item, blank, line_end, comment, token, item_bytes, items_bytes, Ending, whole, open_quote, lone_backslash, IsReading}
 
 abbrev pub has_any : {A : Type 0} → List A → Bool
 has_any [] = false
 has_any (x ∷ xs) = true
+
+-- ---- tokens
 
 -- what a token spells
 abbrev pub word_of : List Piece → List ℕ
@@ -16,70 +19,98 @@ word_of pieces = flat_map spelled pieces
 abbrev pub counts : List Piece → Bool
 counts pieces = list_any is_quoted pieces || has_any (word_of pieces)
 
-abbrev pub line_feeds : List ℕ → ℕ
-line_feeds bytes = count_by is_line_feed bytes
-
-abbrev pub no_tokens : Line
-no_tokens = record { number = 0; words = [] }
-
--- a token in front of the others of its line: the line's number is that of its first token
-abbrev pub put_before : ℕ → List ℕ → Line → Line
-put_before number word line = record { number = number; words = word ∷ line.words }
-
--- the token in front of those of the first line
-abbrev pub onto_first_line : ℕ → List ℕ → List Line → List Line
-onto_first_line number word [] = put_before number word no_tokens ∷ []
-onto_first_line number word (line ∷ lines) = put_before number word line ∷ lines
-
--- the physical line on which what stands behind these bytes begins
+-- the physical line, from 1, on which what stands behind these bytes begins
 abbrev pub line_number : List ℕ → ℕ
-line_number before = 1 + line_feeds before
+line_number before = 1 + count_by is_line_feed before
 
--- a token that isn't finished has its place in its line, though it spells no word
-abbrev pub ending_line : List ℕ → Ending → Line
-ending_line before whole = no_tokens
-ending_line before (open_quote pieces run) = put_before (line_number before) [] no_tokens
-ending_line before (lone_backslash pieces) = put_before (line_number before) [] no_tokens
+-- an item, and the physical line on which it begins
+pub record Placed : Type 0 where
+  pub number : ℕ
+  pub item : Item
 
--- the line of each stretch between two line ends, where `before` are the bytes of the file before these items
-abbrev pub stretches : List ℕ → List Item → Ending → List Line
-stretches before [] ending = ending_line before ending ∷ []
-stretches before (blank b ∷ items) ending = stretches (before ++ item_bytes (blank b)) items ending
-stretches before (line_end ∷ items) ending = no_tokens ∷ stretches (before ++ item_bytes line_end) items ending
-stretches before (comment run ∷ items) ending = stretches (before ++ item_bytes (comment run)) items ending
-stretches before (token piece pieces ∷ items) ending =
-    let rest = stretches (before ++ item_bytes (token piece pieces)) items ending in
-    if counts (piece ∷ pieces) then onto_first_line (line_number before) (word_of (piece ∷ pieces)) rest else rest
+-- items in their places, where `before` are the bytes of the file before them
+abbrev pub placed : List ℕ → List Item → List Placed
+placed before [] = []
+placed before (item ∷ items) = record { number = line_number before; item = item } ∷ placed (before ++ item_bytes item) items
 
--- a stretch without tokens gives no line
-abbrev pub with_words : List Line → List Line
-with_words lines = filter (λ line. has_any line.words) lines
+-- a word, and the physical line on which its token begins
+pub record Word : Type 0 where
+  pub number : ℕ
+  pub bytes : List ℕ
 
-abbrev pub all_but_last : List Line → List Line
+abbrev pub word_at : ℕ → Item → List Word
+word_at number (blank b) = []
+word_at number line_end = []
+word_at number (comment run) = []
+word_at number (token piece pieces) =
+    if counts (piece ∷ pieces) then record { number = number; bytes = word_of (piece ∷ pieces) } ∷ [] else []
+
+-- ---- lines
+
+abbrev pub ends_line : Item → Bool
+ends_line (blank b) = false
+ends_line line_end = true
+ends_line (comment run) = false
+ends_line (token piece pieces) = false
+
+-- the words of some items
+abbrev pub words_in : List Placed → List Word
+words_in places = flat_map (λ place. word_at place.number place.item) places
+
+-- the words between two line ends, stretch by stretch, where `before` are the bytes of the file before these items
+abbrev pub stretches : List ℕ → List Item → List (List Word)
+stretches before items = map words_in (slice_split (λ place. ends_line place.item) (placed before items))
+
+-- the line that such words make: its number is that of its first token; without words there is none
+abbrev pub line_of : List Word → List Line
+line_of [] = []
+line_of (first ∷ others) = record { number = first.number; words = first.bytes ∷ map (λ other. other.bytes) others } ∷ []
+
+abbrev pub all_but_last : {A : Type 0} → List A → List A
 all_but_last [] = []
-all_but_last (line ∷ []) = []
-all_but_last (line ∷ next ∷ lines) = line ∷ all_but_last (next ∷ lines)
+all_but_last (x ∷ []) = []
+all_but_last (x ∷ y ∷ xs) = x ∷ all_but_last (y ∷ xs)
 
-abbrev pub last_number : List Line → ℕ
-last_number [] = 0
-last_number (line ∷ []) = line.number
-last_number (line ∷ next ∷ lines) = last_number (next ∷ lines)
+abbrev pub last_of : List (List Word) → List Word
+last_of [] = []
+last_of (words ∷ []) = words
+last_of (words ∷ next ∷ more) = last_of (next ∷ more)
+
+-- the physical line on which the first of these words begins, or else what stands behind them, at this line
+abbrev pub first_number : List Word → ℕ → ℕ
+first_number [] number = number
+first_number (first ∷ others) number = first.number
+
+-- the number of the last line, where a token begins behind all items and isn't finished
+abbrev pub cut_number : List Item → ℕ
+cut_number items = first_number (last_of (stretches [] items)) (line_number (items_bytes items))
 
 -- where the file ends inside a token, the last line is left out
-abbrev pub lines_of : List Line → Ending → List Line
-lines_of lines whole = with_words lines
-lines_of lines (open_quote pieces run) = with_words (all_but_last lines)
-lines_of lines (lone_backslash pieces) = with_words (all_but_last lines)
+abbrev pub lines_of : List Item → Ending → List Line
+lines_of items whole = flat_map line_of (stretches [] items)
+lines_of items (open_quote pieces run) = flat_map line_of (all_but_last (stretches [] items))
+lines_of items (lone_backslash pieces) = flat_map line_of (all_but_last (stretches [] items))
 
-abbrev pub dropped_of : List Line → Ending → Option ℕ
-dropped_of lines whole = None
-dropped_of lines (open_quote pieces run) = Some (last_number lines)
-dropped_of lines (lone_backslash pieces) = Some (last_number lines)
+abbrev pub dropped_of : List Item → Ending → Option ℕ
+dropped_of items whole = None
+dropped_of items (open_quote pieces run) = Some (cut_number items)
+dropped_of items (lone_backslash pieces) = Some (cut_number items)
 
 -- the text spells these lines, and `dropped` is the number of the line that is left out
 pub record Lines (bytes : List ℕ) (lines : List Line) (dropped : Option ℕ) : Type 0 where
   pub items : List Item
   pub ending : Ending
   pub reading : IsReading bytes items ending
-  pub lines_are : lines ≡ lines_of (stretches [] items ending) ending
-  pub dropped_is : dropped ≡ dropped_of (stretches [] items ending) ending
+  pub lines_are : lines ≡ lines_of items ending
+  pub dropped_is : dropped ≡ dropped_of items ending
+
+-- ---- their numbers
+
+-- each number is less than all that follow it
+abbrev pub Ascend : List ℕ → Type 0
+Ascend [] = Unit {0}
+Ascend (number ∷ others) = AllByRecursion (λ other. number < other) others × Ascend others
+
+-- the numbers of the lines, and behind them that of the line that is left out
+abbrev pub numbers : List Line → Option ℕ → List ℕ
+numbers lines dropped = map (λ line. line.number) lines ++ option_to_list dropped

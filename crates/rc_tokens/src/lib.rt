@@ -2,15 +2,18 @@
 //!
 //! `lines` answers the one reading that a text has. What a reading is stands in `specs/Grammar.antt`, a grammar
 //! of the whole text, and `specs/Lines.antt`, the lines that it spells; `one_reading` says that each text has
-//! exactly one. The steps of the reader, byte by byte, are in `specs/Steps.antt` and are no part of any promise.
+//! exactly one. The words of a file are ranges of one buffer. What the code's loops say of themselves is in `specs/Code/`
+//! and is no part of any promise.
 #![tactic(auto)]
 
 mod line;
+mod range;
 mod read;
 mod reader;
+mod spelled;
 
 pub use line::{Line, TokenRefusal, Tokens};
-pub use read::{lines, one_reading};
+pub use read::{lines, lines_ascend, one_reading};
 
 #[cfg(test)]
 mod tests;

@@ -2,8 +2,8 @@
 
 ghost use Rattle.std.specs.Prelude.{◌≡◌, ◌<◌, ◌≤◌, ◌↔◌, ℕ, List as Items, Option, Err, length, IfOk};
 ghost use Rattle.rc_tokens.specs.Grammar.{Item, Ending, IsReading};
-ghost use Rattle.rc_tokens.specs.Lines.{Lines};
-ghost use Rattle.rc_tokens.specs.Steps as steps;
+ghost use Rattle.rc_tokens.specs.Lines.{Ascend, Lines, numbers};
+ghost use Rattle.rc_tokens.specs.Code.Steps as steps;
 ghost use Rattle.rc_tokens.specs.declared.line.Line.{Line};
 
 use crate::line::{TokenRefusal, Tokens};
@@ -41,13 +41,18 @@ pub fn one_reading()
         Lines bytes lines dropped → Lines bytes others other → (lines ≡ others) × (dropped ≡ other) }
 {}
 
+/// The numbers of the lines of a text ascend, and that of the line that is left out is the greatest.
+pub fn lines_ascend()
+    ensures { (bytes : Items ℕ) (lines : Items Line) (dropped : Option ℕ) → Lines bytes lines dropped → Ascend (numbers lines dropped) }
+{}
+
 fn read(alloc: Global, bytes: &[u8]) -> Result<Tokens, NoMemory>
     requires { length bytes.now ≤ 1048576 }
-    ensures { IfOk result (λ tokens. tokens ≡ steps.finished (steps.run (steps.start alloc) bytes.now)) }
+    ensures { IfOk result (λ tokens. tokens ≡ steps.finished (steps.run steps.start bytes.now)) }
 {
-    let mut reader = Reader::new(alloc);
+    let mut reader = Reader::new(alloc, bytes.len())?;
     for byte in bytes {
         reader.take(*byte)?;
     }
-    reader.finish()
+    reader.finish(alloc)
 }

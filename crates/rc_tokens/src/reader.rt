@@ -1,13 +1,14 @@
-//! The reader: it takes the bytes of a file one by one. Its steps are `step` and `finished` of `specs/Steps.antt`.
+//! The reader: it takes the bytes of a file one by one. Its steps are `step` and `finished` of
+//! `specs/Code/Steps.antt`.
 
 ghost use Rattle.std.specs.Prelude.{◌≡◌, ◌<◌, ◌^◌, ◌-◌, ◌++◌, ◌∷◌, [], IsTrue, OnOk, IfOk};
 ghost use Rattle.rc_tokens.specs.Grammar.{escaped as escaped_lem, is_space as is_space_lem, is_blank as is_blank_lem};
-ghost use Rattle.rc_tokens.specs.Steps as steps;
+ghost use Rattle.rc_tokens.specs.Code.Steps as steps;
 
-use crate::line::{Line, Tokens};
-use init_base::{List, NoMemory, Text};
+use crate::line::Tokens;
+use crate::spelled::Spelled;
+use init_base::NoMemory;
 use std::alloc::Global;
-use std::mem;
 
 /// What the bytes so far have begun.
 #[derive(Clone, Copy)]
@@ -30,36 +31,28 @@ pub enum Mode {
 /// A file, read up to some byte.
 #[derive(Drop)]
 pub struct Reader {
-    alloc: Global,
-    /// The lines that have ended.
-    lines: List<Line>,
-    /// The tokens of the present line that have ended.
-    words: List<Text>,
+    spelled: Spelled,
     /// The number of the present line, if a token of it has begun.
     first: u32,
     /// The number of the physical line.
     number: u32,
-    /// What the present token spells so far.
-    token: List<u8>,
     /// Whether the present token has a quoted run.
     has_quotes: bool,
     mode: Mode,
 }
 
 impl Reader {
-    pub fn new(alloc: Global) -> Reader
-        ensures { result ≡ steps.start alloc }
+    /// A reader of so many bytes, which has read none.
+    pub fn new(alloc: Global, room: usize) -> Result<Reader, NoMemory>
+        ensures { IfOk result (λ reader. reader ≡ steps.start) }
     {
-        Reader {
-            alloc,
-            lines: List::new(alloc),
-            words: List::new(alloc),
+        Ok(Reader {
+            spelled: Spelled::new(alloc, room)?,
             first: 1,
             number: 1,
-            token: List::new(alloc),
             has_quotes: false,
             mode: Mode::Between,
-        }
+        })
     }
 
     /// Takes the next byte.
@@ -146,7 +139,7 @@ impl Reader {
             self.mode = Mode::Word;
             return Ok(());
         }
-        self.token.push(byte)
+        self.spelled.spell(byte)
     }
 
     fn after_backslash(&mut self, byte: u8) -> Result<(), NoMemory>
@@ -189,7 +182,7 @@ impl Reader {
     fn begin_token(&mut self)
         ensures { self.new ≡ steps.begun_token self.old }
     {
-        if self.words.is_empty() {
+        if self.spelled.is_line_empty() {
             self.first = self.number;
         }
         self.has_quotes = false;
@@ -201,7 +194,7 @@ impl Reader {
         ensures { OnOk result (self.new ≡ steps.with_byte self.old byte) }
     {
         self.mode = Mode::Word;
-        self.token.push(byte)
+        self.spelled.spell(byte)
     }
 
     /// A token that spells nothing is one only if it has a quoted run.
@@ -209,9 +202,8 @@ impl Reader {
         ensures { OnOk result (self.new ≡ steps.ended_token self.old) }
     {
         self.mode = Mode::Between;
-        if self.has_quotes || !self.token.is_empty() {
-            let token = mem::replace(&mut self.token, List::new(self.alloc));
-            self.words.push(Text::from_vec(token.into_vec()))?;
+        if self.has_quotes || !self.spelled.is_token_empty() {
+            self.spelled.end_word()?;
         }
         Ok(())
     }
@@ -220,24 +212,20 @@ impl Reader {
         ensures { OnOk result (self.new ≡ steps.ended_line self.old) }
     {
         self.mode = Mode::Between;
-        if !self.words.is_empty() {
-            let words = mem::replace(&mut self.words, List::new(self.alloc));
-            self.lines.push(Line {
-                number: self.first,
-                words,
-            })?;
+        if !self.spelled.is_line_empty() {
+            self.spelled.end_line(self.first)?;
         }
         Ok(())
     }
 
     /// What was read, at the end of the file.
-    pub fn finish(mut self) -> Result<Tokens, NoMemory>
+    pub fn finish(mut self, alloc: Global) -> Result<Tokens, NoMemory>
         ensures { IfOk result (λ tokens. tokens ≡ steps.finished self) }
     {
         let dropped = self.dropped();
         self.close()?;
         Ok(Tokens {
-            lines: self.lines,
+            lines: self.spelled.into_lines(alloc)?,
             dropped,
         })
     }

@@ -19,12 +19,6 @@ class c
 > service1<s></s>[c] period 5000
 
 service s /s
-class a
-class
-> service1<s></s>[a] period 5000
-> 3 BadArity
-
-service s /s
 class ""
 > service1<s></s>[] period 5000
 
@@ -49,15 +43,6 @@ class a
 > service1<s></s>[a] disabled oneshot override period 5000
 
 service s /s
-disabled x
-oneshot ""
-override a b
-> service1<s></s>[default] period 5000
-> 2 BadArity
-> 3 BadArity
-> 4 BadArity
-
-service s /s
 critical
 > service1<s></s>[default] critical 240000<bootloader> period 5000
 
@@ -74,23 +59,8 @@ critical window=1000000
 > service1<s></s>[default] critical 60000000000<bootloader> period 5000
 
 service s /s
-critical window=1000001
-> service1<s></s>[default] period 5000
-> 2 BadOption
-
-service s /s
-critical window=9999999
-> service1<s></s>[default] period 5000
-> 2 BadOption
-
-service s /s
 critical window=0000001
 > service1<s></s>[default] critical 60000<bootloader> period 5000
-
-service s /s
-critical window=00000001
-> service1<s></s>[default] period 5000
-> 2 BadOption
 
 service s /s
 critical window=0000000
@@ -101,47 +71,12 @@ critical window=off
 > service1<s></s>[default] period 5000
 
 service s /s
-critical window=Off
-> service1<s></s>[default] period 5000
-> 2 BadOption
-
-service s /s
-critical window=
-> service1<s></s>[default] period 5000
-> 2 BadOption
-
-service s /s
-critical window=x
-critical window=-1
-critical window=+1
-critical "window= 1"
-> service1<s></s>[default] period 5000
-> 2 BadOption
-> 3 BadOption
-> 4 BadOption
-> 5 BadOption
-
-service s /s
-critical window=1.0
-critical window=1m
-critical window==1
-> service1<s></s>[default] period 5000
-> 2 BadOption
-> 3 BadOption
-> 4 BadOption
-
-service s /s
 critical target=recovery
 > service1<s></s>[default] critical 240000<recovery> period 5000
 
 service s /s
 critical target=a=b
 > service1<s></s>[default] critical 240000<a=b> period 5000
-
-service s /s
-critical target=
-> service1<s></s>[default] period 5000
-> 2 BadOption
 
 service s /s
 critical window=2 target=t
@@ -154,44 +89,6 @@ critical target=t window=2
 service s /s
 critical target=t window=off
 > service1<s></s>[default] period 5000
-
-service s /s
-critical window=1 window=2
-> service1<s></s>[default] period 5000
-> 2 BadOption
-
-service s /s
-critical target=a target=a
-> service1<s></s>[default] period 5000
-> 2 BadOption
-
-service s /s
-critical window=1 x
-critical 1
-critical ""
-> service1<s></s>[default] period 5000
-> 2 BadOption
-> 3 BadOption
-> 4 BadOption
-
-service s /s
-critical Window=1
-critical window
-critical target
-> service1<s></s>[default] period 5000
-> 2 BadOption
-> 3 BadOption
-> 4 BadOption
-
-service s /s
-critical window=1 target=a x
-> service1<s></s>[default] period 5000
-> 2 BadArity
-
-service s /s
-critical x x x
-> service1<s></s>[default] period 5000
-> 2 BadArity
 
 service s /s
 critical window=1
@@ -212,12 +109,6 @@ service s /s
 critical window=off
 critical window=3
 > service1<s></s>[default] critical 180000<bootloader> period 5000
-
-service s /s
-critical window=1
-critical window=x
-> service1<s></s>[default] critical 60000<bootloader> period 5000
-> 3 BadOption
 
 service s /s
 critical window=${a:-5}
@@ -244,53 +135,6 @@ critical window=${a::-3}
 > service1<s></s>[default] critical 180000<bootloader> period 5000
 
 service s /s
-critical window=${a:-1000001}
-> service1<s></s>[default] period 5000
-> 2 BadOption
-
-service s /s
-critical window=${a:-}
-critical window=${a}
-critical window=${:-5}
-critical window=${.a:-5}
-> service1<s></s>[default] period 5000
-> 2 BadOption
-> 3 BadOption
-> 4 BadOption
-> 5 BadOption
-
-service s /s
-critical window=${a:-5
-critical window=${a:-5}x
-critical window=${a:-5}}
-critical window={a:-5}
-> service1<s></s>[default] period 5000
-> 2 BadOption
-> 3 BadOption
-> 4 BadOption
-> 5 BadOption
-
-service s /s
-critical window=${a:-1:-2}
-critical window=${a:-${b:-3}}
-critical window=x${a:-5}
-> service1<s></s>[default] period 5000
-> 2 BadOption
-> 3 BadOption
-> 4 BadOption
-
-service s /s
-critical window=${a-5}
-critical window=${}
-critical window=$
-critical window=${
-> service1<s></s>[default] period 5000
-> 2 BadOption
-> 3 BadOption
-> 4 BadOption
-> 5 BadOption
-
-service s /s
 restart_period 0
 > service1<s></s>[default] period 0
 
@@ -303,11 +147,6 @@ restart_period 1000000
 > service1<s></s>[default] period 1000000000
 
 service s /s
-restart_period 1000001
-> service1<s></s>[default] period 5000
-> 2 BadOption
-
-service s /s
 restart_period 0001000
 > service1<s></s>[default] period 1000000
 
@@ -316,68 +155,9 @@ restart_period 0000000
 > service1<s></s>[default] period 0
 
 service s /s
-restart_period 00000001
-> service1<s></s>[default] period 5000
-> 2 BadOption
-
-service s /s
-restart_period 10000000
-> service1<s></s>[default] period 5000
-> 2 BadOption
-
-service s /s
 restart_period 1
 restart_period 2
 > service1<s></s>[default] period 2000
-
-service s /s
-restart_period 1
-restart_period x
-> service1<s></s>[default] period 1000
-> 3 BadOption
-
-service s /s
-restart_period
-restart_period 1 2
-> service1<s></s>[default] period 5000
-> 2 BadArity
-> 3 BadArity
-
-service s /s
-restart_period ""
-restart_period 5s
-restart_period -1
-restart_period +1
-> service1<s></s>[default] period 5000
-> 2 BadOption
-> 3 BadOption
-> 4 BadOption
-> 5 BadOption
-
-service s /s
-restart_period 0x1
-restart_period 1.5
-restart_period " 1"
-restart_period off
-> service1<s></s>[default] period 5000
-> 2 BadOption
-> 3 BadOption
-> 4 BadOption
-> 5 BadOption
-
-service s /s
-restart_period /
-restart_period :
-restart_period 1:
-> service1<s></s>[default] period 5000
-> 2 BadOption
-> 3 BadOption
-> 4 BadOption
-
-service s /s
-timeout_period 0
-> service1<s></s>[default] period 5000
-> 2 BadOption
 
 service s /s
 timeout_period 1
@@ -388,43 +168,13 @@ timeout_period 1000000
 > service1<s></s>[default] period 5000 timeout 1000000000
 
 service s /s
-timeout_period 1000001
-> service1<s></s>[default] period 5000
-> 2 BadOption
-
-service s /s
 timeout_period 0000001
 > service1<s></s>[default] period 5000 timeout 1000
-
-service s /s
-timeout_period 0000000
-> service1<s></s>[default] period 5000
-> 2 BadOption
-
-service s /s
-timeout_period 00000001
-> service1<s></s>[default] period 5000
-> 2 BadOption
-
-service s /s
-timeout_period
-timeout_period 1 2
-timeout_period x
-> service1<s></s>[default] period 5000
-> 2 BadArity
-> 3 BadArity
-> 4 BadOption
 
 service s /s
 timeout_period 1
 timeout_period 2
 > service1<s></s>[default] period 5000 timeout 2000
-
-service s /s
-timeout_period 1
-timeout_period 0
-> service1<s></s>[default] period 5000 timeout 1000
-> 3 BadOption
 
 service s /s
 timeout_period 7
@@ -442,60 +192,10 @@ onrestart start x
 > service1<s></s>[default] period 5000{2start<x>}{3stop<y>}{4start<x>}
 
 service s /s
-onrestart
-onrestart bounce
-onrestart start
-onrestart ""
-> service1<s></s>[default] period 5000
-> 2 BadArity
-> 3 BadWord
-> 4 BadArity
-> 5 BadWord
-
-service s /s
-onrestart exec
-onrestart exec /x
-onrestart exec_start
-onrestart exec_start x
-> service1<s></s>[default] period 5000
-> 2 BadOption
-> 3 BadOption
-> 4 BadOption
-> 5 BadOption
-
-service s /s
-onrestart wait
-onrestart wait /x 1 2
-onrestart wait_for_prop
-onrestart wait_for_prop a b
-> service1<s></s>[default] period 5000
-> 2 BadOption
-> 3 BadOption
-> 4 BadOption
-> 5 BadOption
-
-service s /s
-onrestart onrestart start x
-onrestart class a
-onrestart Exec
-> service1<s></s>[default] period 5000
-> 2 BadWord
-> 3 BadWord
-> 4 BadWord
-
-service s /s
 onrestart exec_background /x
 onrestart load_persist_props
 onrestart mount
 > service1<s></s>[default] period 5000{2exec_background</x>}{3load_persist_props}{4mount}
-
-service s /s
-onrestart load_persist_props x
-onrestart setprop a
-onrestart setprop a b
-> service1<s></s>[default] period 5000{4setprop<a><b>}
-> 2 BadArity
-> 3 BadArity
 
 service s /s
 user
@@ -540,19 +240,6 @@ console
 rlimit 1 2 3
 oom_score_adjust -900
 > service1<s></s>[default] period 5000(<console>)(<rlimit><1><2><3>)(<oom_score_adjust><-900>)
-
-service s /s
-User a
-keycodes 1
-updatable
-start x
-mount
-> service1<s></s>[default] period 5000
-> 2 BadWord
-> 3 BadWord
-> 4 BadWord
-> 5 BadWord
-> 6 BadWord
 
 service s /s
 onrestart start x

@@ -1,37 +1,13 @@
 //! Triggers.
 
 /// Events, joining words, tests of properties, and two tests of one property.
-pub const TRIGGERS: &str = r#"on
-start x
-> 1 NoTrigger
-
-on a
+pub const TRIGGERS: &str = r#"on a
 start x
 > on1<a>{2start<x>}
 
 on "a b"
 start x
 > on1<a b>{2start<x>}
-
-on ""
-start x
-> 1 BadTrigger
-
-on a && ""
-start x
-> 1 BadTrigger
-
-on "" && property:a=1
-start x
-> 1 BadTrigger
-
-on a && b
-start x
-> 1 BadTrigger
-
-on a && a
-start x
-> 1 BadTrigger
 
 on property
 start x
@@ -64,50 +40,6 @@ start x
 on property:a=1 &&
 start x
 > on1(a=1){2start<x>}
-
-on a && &&
-start x
-> 1 BadTrigger
-
-on a && && &&
-start x
-> 1 BadTrigger
-
-on && a
-start x
-> 1 BadTrigger
-
-on && && a
-start x
-> 1 BadTrigger
-
-on a b
-start x
-> 1 BadTrigger
-
-on a & property:b=1
-start x
-> 1 BadTrigger
-
-on a || property:b=1
-start x
-> 1 BadTrigger
-
-on a &&& property:b=1
-start x
-> 1 BadTrigger
-
-on a "" property:b=1
-start x
-> 1 BadTrigger
-
-on a property:b=1
-start x
-> 1 BadTrigger
-
-on property:a=1 property:b=1
-start x
-> 1 BadTrigger
 
 on a "&&" property:b=1
 start x
@@ -161,82 +93,6 @@ on property:c=1 && property:b=1
 start x
 > on1(c=1)(b=1){2start<x>}
 
-on property:
-start x
-> 1 BadTrigger
-
-on property:a
-start x
-> 1 BadTrigger
-
-on property:=1
-start x
-> 1 BadTrigger
-
-on property:=
-start x
-> 1 BadTrigger
-
-on property:.a=1
-start x
-> 1 BadTrigger
-
-on property:a.=1
-start x
-> 1 BadTrigger
-
-on property:a..b=1
-start x
-> 1 BadTrigger
-
-on "property:a b=1"
-start x
-> 1 BadTrigger
-
-on property:a/b=1
-start x
-> 1 BadTrigger
-
-on a && property:b
-start x
-> 1 BadTrigger
-
-on property:a=1 && property:a=2
-start x
-> 1 TwiceProp
-
-on property:a=1 && property:a=1
-start x
-> 1 TwiceProp
-
-on property:a=1 && property:b=1 && property:a=*
-start x
-> 1 TwiceProp
-
-on property:a=1 && b && property:a=
-start x
-> 1 TwiceProp
-
-on property:c=1 && property:b=1 && property:b=1 &&
-start x
-> 1 TwiceProp
-
 on property:a=1 && property:A=1
 start x
-> on1(a=1)(A=1){2start<x>}
-
-on property:a=1 && property:a=2 && ""
-start x
-> 1 BadTrigger
-
-on property:a=1 && property:a=2 x
-start x
-> 1 BadTrigger
-
-on property:a=1 && property:a=2 && property:a
-start x
-> 1 BadTrigger
-
-on property:a=1 && property:a=2 && b && c
-start x
-> 1 BadTrigger"#;
+> on1(a=1)(A=1){2start<x>}"#;

@@ -1,8 +1,8 @@
 use Rattle.std.proofs.Common.{◌≡◌, map, drop}
-use Rattle.rc_parse.specs.Adding.{with_diagnostics}
+use Rattle.rc_parse.specs.Code.Adding.{with_diagnostics}
 use Rattle.rc_parse.specs.Sections.{orphan}
 use Rattle.rc_parse.proofs.sections.add_orphans.Given as goal
 
 -- what is left decides
 abbrev pub invariant-loop-line : goal.invariant-loop-line
-invariant-loop-line l = with_diagnostics l.parsed (map (orphan l.file) (drop l.line-index l.lines)) ≡ with_diagnostics l.initial.parsed (map (orphan l.file) l.lines)
+invariant-loop-line l = with_diagnostics l.parsed (map (λ line. orphan l.file line.number) (drop l.line-index l.lines)) ≡ with_diagnostics l.initial.parsed (map (λ line. orphan l.file line.number) l.lines)

@@ -1,0 +1,36 @@
+-- The first words of a list.
+use Rattle.std.proofs.Common.{◌≡◌, ℕ, ◌-◌, ◌≤◌, ◌&&◌, nat_le, true, not, ◌==◌, List, [], ◌∷◌, length, Some, slice_get, nat_eq, take, drop, refl, ap, ◌∙◌, arith}
+use Rattle.std.proofs.lemmas.Bool.{and_parts, leb-true}
+use Rattle.std.proofs.lemmas.List.{length-take, take_rest}
+use Rattle.std.proofs.lemmas.Slice.Eq.{bytes_eq-Decides}
+use Rattle.std.specs.List.{remove, slice_range, starts_with}
+use Rattle.rc_parse.specs.Lines.{first_word, arguments}
+use Rattle.rc_parse.specs.Services.{is_service_header, is_service_name}
+
+pub first_taken : (words : List (List ℕ)) (word : List ℕ) → slice_get words 0 ≡ Some word → word ≡ first_word words
+first_taken [] word is = cc
+first_taken (first ∷ words) word is = cc
+
+pub others_left : (words : List (List ℕ)) → remove words 0 ≡ arguments words
+others_left [] = refl
+others_left (first ∷ words) = refl
+
+pub one_less : (words : List (List ℕ)) → length (arguments words) ≡ length words - 1
+one_less [] = refl
+one_less (first ∷ words) = omega arith
+
+-- the words of a header of a good form are two or more
+pub has_two : (words : List (List ℕ)) → is_service_header words ≡ true → 2 ≤ length words
+has_two words good =
+    let front = and_parts (nat_le 2 (length words) && is_service_name (first_word words)) (not (length (first_word (arguments words)) == 0)) good in
+    leb-true 2 (length words) (and_parts (nat_le 2 (length words)) (is_service_name (first_word words)) front.0).0
+
+-- all behind a place
+pub all_behind : (text : List ℕ) (from len : ℕ) → len ≡ length text → slice_range text from len ≡ drop from text
+all_behind text from len end = ap (λ (n : ℕ). take (n - from) (drop from text)) end ∙ take_rest text from
+
+-- a text that begins with another one is as long
+pub prefix_fits : (text front : List ℕ) → starts_with nat_eq text front ≡ true → length front ≤ length text
+prefix_fits text front starts =
+    let same : front ≡ take (length front) text = (bytes_eq-Decides front (take (length front) text)).0 starts in
+    omega (arith, ap length same, length-take (length front) text)
