@@ -4,12 +4,12 @@ use Rattle.std.proofs.lemmas.List.{append-nil}
 use Rattle.std.proofs.lemmas.List.Elements.{Contains-append_left, Contains-append_right, Contains-push}
 use Rattle.std.proofs.lemmas.Option.{slice_get_within, get_or_from_slice_get}
 use Rattle.std.specs.List.{flat_map, position_or_len}
-use Rattle.init_machine.specs.Effect.{set_property, set_answer, trigger_event, done_by, command_line}
-use Rattle.init_machine.specs.History.{LegalFrom, Legal}
-use Rattle.init_machine.specs.Matches.{matches, is_matched}
-use Rattle.init_machine.specs.State.{Opening, State, first_state}
-use Rattle.init_machine.specs.Step.{step, boot_from, next_from, run_first, run_command, moved_on, command_at, commands_at, commands_of}
-use Rattle.init_machine.specs.Taking.{taken_now, with_taken, events_to_take, event_line, action_line, action_lines, begun_from, begun_by}
+use Rattle.init_core.specs.Stage.Effect.{set_property, set_answer, trigger_event, done_by, command_line}
+use Rattle.init_core.specs.Stage.History.{LegalFrom, Legal}
+use Rattle.init_core.specs.Stage.Matches.{matches, is_matched}
+use Rattle.init_core.specs.Stage.State.{Opening, State, first_state}
+use Rattle.init_core.specs.Stage.Step.{step, boot_from, next_from, run_first, run_command, moved_on, command_at, commands_at, commands_of}
+use Rattle.init_core.specs.Stage.Taking.{taken_now, with_taken, events_to_take, event_line, action_line, action_lines, begun_from, begun_by}
 use Rattle.init_machine.specs.declared.action.Action.{Action}
 use Rattle.init_machine.specs.declared.action.Command.{Command}
 use Rattle.init_machine.specs.declared.action.CommandRef.{CommandRef}

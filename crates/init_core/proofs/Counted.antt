@@ -7,12 +7,13 @@ use Rattle.std.proofs.lemmas.Bool.{false≢true}
 use Rattle.std.proofs.lemmas.Slice.Eq.{bytes_eq-Decides}
 use Rattle.std.specs.List.{flat_map}
 use Rattle.std.specs.Str.{bytes_eq}
-use Rattle.init_machine.specs.Effect.{set_property, set_answer, trigger_event, done_by}
-use Rattle.init_machine.specs.History.{after_from, after, inputs_of, LegalFrom, Legal, sets_in, sets_of, number_in, numbers_of, last_value, value_at, count_at}
+use Rattle.init_core.specs.Stage.Effect.{set_property, set_answer, trigger_event, done_by}
+use Rattle.init_core.specs.Stage.History.{after_from, after, LegalFrom, Legal}
+use Rattle.init_machine.specs.History.{inputs_of, sets_in, sets_of, number_in, numbers_of, last_value, value_at, count_at}
 use Rattle.init_machine.specs.Props.{Property, lookup_in, put_in}
-use Rattle.init_machine.specs.State.{Opening, State, first_state}
-use Rattle.init_machine.specs.Step.{step, boot_from, next_from, run_first, run_command, moved_on, command_at}
-use Rattle.init_machine.specs.Taking.{taken_now, with_taken}
+use Rattle.init_core.specs.Stage.State.{Opening, State, first_state}
+use Rattle.init_core.specs.Stage.Step.{step, boot_from, next_from, run_first, run_command, moved_on, command_at}
+use Rattle.init_core.specs.Stage.Taking.{taken_now, with_taken}
 use Rattle.init_machine.specs.declared.action.Action.{Action}
 use Rattle.init_machine.specs.declared.action.Command.{Command}
 use Rattle.init_machine.specs.declared.action.CommandRef.{CommandRef}

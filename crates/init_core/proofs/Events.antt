@@ -2,8 +2,8 @@
 use Rattle.std.proofs.Common.{◌≡◌, ℕ, suc, ◌+◌, ◌<◌, Bool, true, false, ◌||◌, cond, List, [], ◌∷◌, ◌++◌, length, take, drop, map, filter, Some, refl, sym, ap, ◌∙◌, subst, arith, append_assoc, length-append}
 use Rattle.std.proofs.lemmas.List.{append-nil}
 use Rattle.std.specs.List.{list_any, flat_map, position_or_len, slice_get}
-use Rattle.init_machine.specs.Matches.{matches, is_matched}
-use Rattle.init_machine.specs.Taking.{Taken, taken_now, taken_from, events_to_take, event_line, action_line, action_lines, begun_from, begun_by, is_mark, is_all_properties}
+use Rattle.init_core.specs.Stage.Matches.{matches, is_matched}
+use Rattle.init_core.specs.Stage.Taking.{Taken, taken_now, taken_from, events_to_take, event_line, action_line, action_lines, begun_from, begun_by, is_mark, is_all_properties}
 use Rattle.init_machine.specs.declared.action.Action.{Action}
 use Rattle.init_machine.specs.declared.action.CommandRef.{CommandRef}
 use Rattle.init_machine.specs.declared.event.Event.{Event}

@@ -1,11 +1,11 @@
 -- What a step keeps: the capacity, and that few marks wait.
 use Rattle.std.proofs.Common.{◌≡◌, ℕ, zero, suc, ◌+◌, ◌≤◌, Bool, true, false, cond, List, [], ◌∷◌, ◌++◌, drop, Option, Some, None, refl, arith}
 use Rattle.std.specs.List.{position_or_len, remove}
-use Rattle.init_machine.specs.Effect.{set_property, done_by, trigger_event, triggered, change_of, set_answer}
-use Rattle.init_machine.specs.Matches.{is_matched}
-use Rattle.init_machine.specs.State.{Opening, State}
-use Rattle.init_machine.specs.Step.{step, boot_events, boot_from, next_from, run_first, run_command, moved_on, command_at}
-use Rattle.init_machine.specs.Taking.{taken_now, events_to_take, past_mark, reaches_mark, with_taken, is_mark}
+use Rattle.init_core.specs.Stage.Effect.{set_property, done_by, trigger_event, triggered, change_of, set_answer}
+use Rattle.init_core.specs.Stage.Matches.{is_matched}
+use Rattle.init_core.specs.Stage.State.{Opening, State}
+use Rattle.init_core.specs.Stage.Step.{step, boot_events, boot_from, next_from, run_first, run_command, moved_on, command_at}
+use Rattle.init_core.specs.Stage.Taking.{taken_now, events_to_take, past_mark, reaches_mark, with_taken, is_mark}
 use Rattle.init_machine.specs.declared.action.Action.{Action}
 use Rattle.init_machine.specs.declared.action.Command.{Command}
 use Rattle.init_machine.specs.declared.action.CommandRef.{CommandRef}

@@ -1,8 +1,9 @@
 -- Legal histories: their entries, and their beginnings.
 use Rattle.std.proofs.Common.{◌≡◌, ◌↔◌, ℕ, zero, suc, List, [], ◌∷◌, ◌++◌, take, slice_get, Some, refl, sym, ap, ◌∙◌}
-use Rattle.init_machine.specs.History.{after_from, inputs_of, LegalFrom, Legal}
-use Rattle.init_machine.specs.State.{Opening, State, first_state}
-use Rattle.init_machine.specs.Step.{step}
+use Rattle.init_core.specs.Stage.History.{after_from, LegalFrom, Legal}
+use Rattle.init_machine.specs.History.{inputs_of}
+use Rattle.init_core.specs.Stage.State.{Opening, State, first_state}
+use Rattle.init_core.specs.Stage.Step.{step}
 use Rattle.init_machine.specs.declared.input.Input.{Input}
 use Rattle.init_machine.specs.declared.output.Output.{Output}
 use Rattle.init_machine.specs.declared.report.Entry.{Entry}

@@ -3,8 +3,8 @@ use Rattle.std.proofs.Common.{◌≡◌, ℕ, ◌+◌, List, [], ◌∷◌, ◌+
 use Rattle.std.proofs.lemmas.Grind.{flat_map-append}
 use Rattle.std.specs.List.{flat_map, slice_get, position_or_len}
 use Rattle.init_machine.specs.History.{set_in, sets_in, number_in}
-use Rattle.init_machine.specs.Matches.{matches, is_matched}
-use Rattle.init_machine.specs.Taking.{taken_now, events_to_take, event_line, action_line, action_lines}
+use Rattle.init_core.specs.Stage.Matches.{matches, is_matched}
+use Rattle.init_core.specs.Stage.Taking.{taken_now, events_to_take, event_line, action_line, action_lines}
 use Rattle.init_machine.specs.declared.action.Action.{Action}
 use Rattle.init_machine.specs.declared.action.CommandRef.{CommandRef}
 use Rattle.init_machine.specs.declared.event.Event.{Event}

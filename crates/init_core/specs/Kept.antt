@@ -1,9 +1,10 @@
 -- What a core is to its caller, and what it keeps.
 use Rattle.std.specs.Prelude.{◌≡◌, ◌≤◌, Bool, false, List, if◌then◌else◌}
-use Rattle.init_machine.specs.History.{after, inputs_of, Legal}
+use Rattle.init_core.specs.Stage.History.{after, Legal}
+use Rattle.init_machine.specs.History.{inputs_of}
 use Rattle.init_machine.specs.Props.{Props}
-use Rattle.init_machine.specs.State.{Opening, State}
-use Rattle.init_machine.specs.Step.{step}
+use Rattle.init_core.specs.Stage.State.{Opening, State}
+use Rattle.init_core.specs.Stage.Step.{step}
 use Rattle.init_machine.specs.declared.config.Config.{Config}
 use Rattle.init_machine.specs.declared.input.Input.{Input}
 use Rattle.init_machine.specs.declared.output.Output.{Output}

@@ -1,12 +1,13 @@
 -- What the laws of the machine speak of: the words for what its outputs must be in every legal history.
 use Rattle.std.specs.Prelude.{◌≡◌, ℕ, zero, suc, ◌+◌, List, [], ◌∷◌, Option, Some, None, Contains}
 use Rattle.std.specs.List.{flat_map}
-use Rattle.init_machine.specs.Effect.{command_line}
-use Rattle.init_machine.specs.History.{after, inputs_of}
+use Rattle.init_core.specs.Stage.Effect.{command_line}
+use Rattle.init_core.specs.Stage.History.{after}
+use Rattle.init_machine.specs.History.{inputs_of}
 use Rattle.init_machine.specs.Props.{Property}
-use Rattle.init_machine.specs.State.{Opening}
-use Rattle.init_machine.specs.Step.{step}
-use Rattle.init_machine.specs.Taking.{action_line}
+use Rattle.init_core.specs.Stage.State.{Opening}
+use Rattle.init_core.specs.Stage.Step.{step}
+use Rattle.init_core.specs.Stage.Taking.{action_line}
 use Rattle.init_machine.specs.declared.action.Action.{Action}
 use Rattle.init_machine.specs.declared.action.Command.{Command}
 use Rattle.init_machine.specs.declared.output.Output.{Output}

@@ -3,3 +3,4 @@ pub mod Laws
 pub mod OneEvent
 pub mod Parts
 pub mod Running
+pub mod Stage

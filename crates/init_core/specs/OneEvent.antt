@@ -1,6 +1,6 @@
 -- What taking one event does: the mark gives way to AllProperties, and another event's actions begin.
 use Rattle.std.specs.Prelude.{ℕ, ◌+◌, ◌≤◌, false, ◌||◌, List, [], ◌∷◌, ◌++◌, Some, if◌then◌else◌}
-use Rattle.init_machine.specs.Taking.{Taken, event_line, action_lines, begun_by, is_all_properties, is_mark}
+use Rattle.init_core.specs.Stage.Taking.{Taken, event_line, action_lines, begun_by, is_all_properties, is_mark}
 use Rattle.init_machine.specs.declared.action.Action.{Action}
 use Rattle.init_machine.specs.declared.event.Event.{Event}
 use Rattle.init_machine.specs.declared.event.Event.TheVariants.{AllProperties, Mark}

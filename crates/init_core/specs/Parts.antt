@@ -1,9 +1,9 @@
 -- What the parts stand for: the state of the machine, with what the store means in the place of the properties.
 use Rattle.std.specs.Prelude.{ℕ, List}
-use Rattle.init_machine.specs.Effect.{set_answer, set_property}
+use Rattle.init_core.specs.Stage.Effect.{set_answer, set_property}
 use Rattle.init_machine.specs.Props.{Props}
-use Rattle.init_machine.specs.Step.{boot_from, run_first, next_from, step}
-use Rattle.init_machine.specs.State.{State, untold}
+use Rattle.init_core.specs.Stage.Step.{boot_from, run_first, next_from, step}
+use Rattle.init_core.specs.Stage.State.{State}
 use Rattle.init_machine.specs.declared.action.Action.{Action}
 use Rattle.init_machine.specs.declared.config.Config.{Config}
 use Rattle.init_machine.specs.declared.input.Input.{Input}
@@ -12,7 +12,7 @@ use Rattle.init_core.specs.declared.parts.Parts.{Parts}
 
 abbrev pub state_of : {S : Type 0} → (S → Props) → Parts S → State
 state_of meaning p = record {
-  props = untold (meaning p.store);
+  props = meaning p.store;
   events = p.queue.events;
   running = p.queue.running;
   changes = p.queue.changes;
@@ -23,7 +23,7 @@ state_of meaning p = record {
 
 -- init's own set, in the state that the parts stand for
 abbrev pub set_by : {S : Type 0} → (S → Props) → Parts S → List ℕ → List ℕ → State × List Output
-set_by meaning p name value = set_property (set_answer (untold (meaning p.store)) name value) (state_of meaning p) name value
+set_by meaning p name value = set_property (set_answer (meaning p.store) name value) (state_of meaning p) name value
 
 -- the next command of the first running action, in the state that the parts stand for
 abbrev pub run_by : {S : Type 0} → (S → Props) → List Action → Parts S → State × List Output

@@ -1,6 +1,6 @@
 -- The running actions, when the first one's command was taken.
 use Rattle.std.specs.Prelude.{◌≡◌, ◌+◌, nat_lt, List, ◌∷◌, length, Option, Some, None, if◌then◌else◌}
-use Rattle.init_machine.specs.Step.{commands_at, moved_on}
+use Rattle.init_core.specs.Stage.Step.{commands_at, moved_on}
 use Rattle.init_machine.specs.declared.action.Action.{Action}
 use Rattle.init_machine.specs.declared.action.CommandRef.{CommandRef}
 

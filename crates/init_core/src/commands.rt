@@ -3,8 +3,7 @@
 ghost use Rattle.std.specs.Prelude.{◌≡◌, ◌++◌, ◌∷◌, [], None, IfOk, OnOk};
 ghost use Rattle.std.specs.Result.{result_err};
 ghost use Rattle.init_machine.specs.Props.{full_for, more_sets};
-ghost use Rattle.init_machine.specs.State.{untold};
-ghost use Rattle.init_machine.specs.Effect.{set_answer, with_put, put_line, triggered, trigger_lines, done_by, effect, refusal_of_full};
+ghost use Rattle.init_core.specs.Stage.Effect.{set_answer, with_put, put_line, triggered, trigger_lines, done_by, effect, refusal_of_full};
 ghost use Rattle.init_machine.specs.declared.output.Output.TheVariants as output;
 ghost use Rattle.init_machine.specs.History.{sets_in};
 ghost use Rattle.init_core.specs.Parts.{state_of, set_by, run_by};
@@ -35,6 +34,7 @@ fn judge<'a, S: PropStore>(
     ensures refusal { result_err result ≡ set_answer (S.meaning store.old) name.entry.now value.entry.now }
     ensures room { IfOk result (λ pair. (pair.0.bytes ≡ name.entry) × (pair.1.bytes ≡ value.entry) × (full_for (S.meaning store.old) name.entry.now ≡ None)) }
     ensures same { S.meaning store.new ≡ S.meaning store.old }
+    ensures told { S.told store.new ≡ S.told store.old }
     ensures beside { S.Beside store.old store.new }
 {
     let Some(name) = PropName::of(name) else {
@@ -57,28 +57,31 @@ fn judge<'a, S: PropStore>(
 fn put_property<S: PropStore>(
     alloc: Global,
     parts: &mut Parts<S>,
-    name: PropName<'_>,
-    value: PropValue<'_>,
+    legal: (PropName<'_>, PropValue<'_>),
+    name: &Text,
+    value: &Text,
     outputs: &mut List<Output>,
 ) -> Result<(), NoMemory>
-    requires { full_for (S.meaning parts.old.store) name.bytes.now ≡ None }
-    ensures state { OnOk result (state_of S.meaning parts.new ≡ with_put (state_of S.meaning parts.old) name.entry.bytes.now value.entry.bytes.now) }
-    ensures outputs { OnOk result (outputs.new ≡ outputs.old ++ put_line (S.meaning parts.old.store) name.entry.bytes.now value.entry.bytes.now ∷ output.Ok ∷ []) }
-    ensures sets { OnOk result ((S.meaning parts.new.store).sets ≡ more_sets (S.meaning parts.old.store).sets ((name.entry.bytes.now, value.entry.bytes.now) ∷ [])) }
+    requires name { legal.0.bytes.now ≡ name.now }
+    requires value { legal.1.bytes.now ≡ value.now }
+    requires room { full_for (S.meaning parts.old.store) name.now ≡ None }
+    ensures state { OnOk result (state_of S.meaning parts.new ≡ with_put (state_of S.meaning parts.old) name.now value.now) }
+    ensures outputs { OnOk result (outputs.new ≡ outputs.old ++ put_line (S.meaning parts.old.store) name.now value.now ∷ output.Ok ∷ []) }
+    ensures sets { OnOk result (S.told parts.new.store ≡ more_sets (S.told parts.old.store) ((name.now, value.now) ∷ [])) }
     ensures beside { S.Beside parts.old.store parts.new.store }
 {
     parts.store.reserve(alloc)?;
-    let number = parts.store.put(name, value);
+    let number = parts.store.put(legal.0, legal.1);
     if parts.queue.changes {
         parts.queue.events.push(Event::Change(Pair {
-            name: Text::of(alloc, name.bytes())?,
-            value: Text::of(alloc, value.bytes())?,
+            name: name.share()?,
+            value: value.share()?,
         }))?;
     }
     outputs.push(Output::Put {
         number,
-        name: Text::of(alloc, name.bytes())?,
-        value: Text::of(alloc, value.bytes())?,
+        name: name.share()?,
+        value: value.share()?,
     })?;
     outputs.push(Output::Ok)
 }
@@ -93,11 +96,11 @@ fn set_property<S: PropStore>(
 ) -> Result<(), NoMemory>
     ensures state { OnOk result (state_of S.meaning parts.new ≡ (set_by S.meaning parts.old name.now value.now).0) }
     ensures outputs { OnOk result (outputs.new ≡ outputs.old ++ (set_by S.meaning parts.old name.now value.now).1) }
-    ensures sets { OnOk result ((S.meaning parts.new.store).sets ≡ more_sets (S.meaning parts.old.store).sets (sets_in (set_by S.meaning parts.old name.now value.now).1)) }
+    ensures sets { OnOk result (S.told parts.new.store ≡ more_sets (S.told parts.old.store) (sets_in (set_by S.meaning parts.old name.now value.now).1)) }
     ensures beside { S.Beside parts.old.store parts.new.store }
 {
     match judge(&mut parts.store, name.bytes(), value.bytes()) {
-        Ok((name, value)) => put_property(alloc, parts, name, value, outputs),
+        Ok(legal) => put_property(alloc, parts, legal, name, value, outputs),
         Err(refusal) => outputs.push(Output::Failed {
             cause: Cause::Set { refusal },
         }),
@@ -119,7 +122,7 @@ fn trigger_event(
             cause: Cause::BadArgument { number: 1 },
         });
     }
-    events.push(Event::Named(event.copy(alloc)?))?;
+    events.push(Event::Named(event.share()?))?;
     outputs.push(Output::Ok)
 }
 
@@ -131,7 +134,7 @@ fn do_command<S: PropStore>(
 ) -> Result<(), NoMemory>
     ensures state { OnOk result (state_of S.meaning parts.new ≡ (done_by command.now.word command.now.args (state_of S.meaning parts.old)).0) }
     ensures outputs { OnOk result (outputs.new ≡ outputs.old ++ (done_by command.now.word command.now.args (state_of S.meaning parts.old)).1) }
-    ensures sets { OnOk result ((S.meaning parts.new.store).sets ≡ more_sets (S.meaning parts.old.store).sets (sets_in (done_by command.now.word command.now.args (state_of S.meaning parts.old)).1)) }
+    ensures sets { OnOk result (S.told parts.new.store ≡ more_sets (S.told parts.old.store) (sets_in (done_by command.now.word command.now.args (state_of S.meaning parts.old)).1)) }
     ensures beside { S.Beside parts.old.store parts.new.store }
 {
     match (command.word, command.args.items()) {
@@ -150,11 +153,11 @@ fn run_command<S: PropStore>(
 ) -> Result<(), NoMemory>
     ensures state { OnOk result (state_of S.meaning parts.new ≡ (effect command.now (state_of S.meaning parts.old)).0) }
     ensures outputs { OnOk result (outputs.new ≡ outputs.old ++ (effect command.now (state_of S.meaning parts.old)).1) }
-    ensures sets { OnOk result ((S.meaning parts.new.store).sets ≡ more_sets (S.meaning parts.old.store).sets (sets_in (effect command.now (state_of S.meaning parts.old)).1)) }
+    ensures sets { OnOk result (S.told parts.new.store ≡ more_sets (S.told parts.old.store) (sets_in (effect command.now (state_of S.meaning parts.old)).1)) }
     ensures beside { S.Beside parts.old.store parts.new.store }
 {
     outputs.push(Output::Command {
-        file: command.file.copy(alloc)?,
+        file: command.file.share()?,
         line: command.line,
         word: command.word,
         args: copy_of(alloc, &command.args)?,
@@ -166,9 +169,9 @@ fn run_command<S: PropStore>(
 fn copy_of(alloc: Global, texts: &List<Text>) -> Result<List<Text>, NoMemory>
     ensures { IfOk result (λ copy. copy ≡ texts.now) }
 {
-    let mut copy = List::new(alloc);
+    let mut copy = List::with_capacity(alloc, texts.len())?;
     for text in texts.items() {
-        copy.push(text.copy(alloc)?)?;
+        copy.push(text.share()?)?;
     }
     Ok(copy)
 }
@@ -182,7 +185,7 @@ pub fn run_first<S: PropStore>(
 ) -> Result<(), NoMemory>
     ensures state { OnOk result (state_of S.meaning parts.new ≡ (run_by S.meaning actions.now parts.old).0) }
     ensures outputs { OnOk result (outputs.new ≡ outputs.old ++ (run_by S.meaning actions.now parts.old).1) }
-    ensures sets { OnOk result ((S.meaning parts.new.store).sets ≡ more_sets (S.meaning parts.old.store).sets (sets_in (run_by S.meaning actions.now parts.old).1)) }
+    ensures sets { OnOk result (S.told parts.new.store ≡ more_sets (S.told parts.old.store) (sets_in (run_by S.meaning actions.now parts.old).1)) }
     ensures beside { S.Beside parts.old.store parts.new.store }
 {
     let Some(next) = advance(actions, &mut parts.queue.running) else {

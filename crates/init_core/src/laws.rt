@@ -4,9 +4,10 @@
 //! alone. By the same definitions `Core::take` keeps the history of a core legal, so each law holds of it.
 
 ghost use Rattle.std.specs.Prelude.{◌≡◌, ◌↔◌, ◌++◌, ◌∷◌, ℕ, List, Some, length, take, slice_get};
-ghost use Rattle.init_machine.specs.History.{after, inputs_of, sets_of, numbers_of, value_at, count_at, Legal};
+ghost use Rattle.init_core.specs.Stage.History.{after, Legal};
+ghost use Rattle.init_machine.specs.History.{inputs_of, sets_of, numbers_of, value_at, count_at};
 ghost use Rattle.init_machine.specs.Props.{lookup_in};
-ghost use Rattle.init_machine.specs.State.{Opening};
+ghost use Rattle.init_core.specs.Stage.State.{Opening};
 ghost use Rattle.init_machine.specs.declared.output.Output.{Output};
 ghost use Rattle.init_machine.specs.declared.output.Output.TheVariants as output;
 ghost use Rattle.init_machine.specs.declared.report.Entry.{Entry};

@@ -55,9 +55,9 @@ impl<S: PropStore> Model for Core<S> {
 }
 
 impl<S: PropStore> Core<S> {
-    ghost use Rattle.init_machine.specs.Built.{IsBuiltConfig, IsBuiltInput};
-    ghost use Rattle.init_machine.specs.History.{after, inputs_of, sets_in, Legal};
-    ghost use Rattle.init_machine.specs.State.{untold};
+    ghost use Rattle.init_core.specs.Stage.Built.{IsBuiltConfig, IsBuiltInput};
+    ghost use Rattle.init_core.specs.Stage.History.{after, Legal};
+    ghost use Rattle.init_machine.specs.History.{inputs_of, sets_in};
     ghost use Rattle.init_core.specs.Kept.{opening_of, outputs_at};
 
     /// The machine in its first state.
@@ -96,7 +96,7 @@ impl<S: PropStore> Core<S> {
         ensures opening { OnOk result (self.new.opening ≡ self.old.opening) }
         ensures entry { OnOk result (self.new.history ≡ self.old.history ++ record { input = input; outputs = outputs_at self.old input } ∷ []) }
         ensures legal { OnOk result (Legal self.new.opening self.new.history) }
-        ensures sets { OnOk result ((S.meaning self.new.store).sets ≡ more_sets (S.meaning self.old.store).sets (sets_in (outputs_at self.old input))) }
+        ensures sets { OnOk result (S.told self.new.store ≡ more_sets (S.told self.old.store) (sets_in (outputs_at self.old input))) }
         ensures ready { OnOk result (self.new.spent ≡ false) }
 
         ensures spent { (result ≡ Err CoreStop.Spent) ↔ (self.old.spent ≡ true) }
@@ -155,7 +155,7 @@ impl<S: PropStore> Core<S> {
 
     pub fn store(&self) -> &S
         ensures same { result.now ≡ self.now.store }
-        ensures props { self.now.spent ≡ false → untold (S.meaning result.now) ≡ (after self.now.opening (inputs_of self.now.history)).props }
+        ensures props { self.now.spent ≡ false → S.meaning result.now ≡ (after self.now.opening (inputs_of self.now.history)).props }
     {
         &self.parts.store
     }
@@ -166,6 +166,7 @@ impl<S: PropStore> Core<S> {
         ensures found { IsLookUp (lookup_in (S.meaning self.old.store).held name.entry.bytes.now) result out.new }
         ensures same { self.new ≡ record self.old { store = self.new.store } }
         ensures meaning { S.meaning self.new.store ≡ S.meaning self.old.store }
+        ensures told { S.told self.new.store ≡ S.told self.old.store }
         ensures beside { S.Beside self.old.store self.new.store }
     {
         self.parts.store.get(name, out)

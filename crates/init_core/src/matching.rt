@@ -1,8 +1,8 @@
 //! Which actions an event begins.
 
 ghost use Rattle.std.specs.Prelude.{◌≡◌, ◌++◌, OnOk, IfOk, map, filter};
-ghost use Rattle.init_machine.specs.Matches.{matches, has_event, has_no_test};
-ghost use Rattle.init_machine.specs.Taking.{begun_from, action_line, action_lines};
+ghost use Rattle.init_core.specs.Stage.Matches.{matches, has_event, has_no_test};
+ghost use Rattle.init_core.specs.Stage.Taking.{begun_from, action_line, action_lines};
 
 use init_base::{Fifo, List, NoMemory, Text};
 use init_machine::{Action, CommandRef, Event, Output};
@@ -48,7 +48,7 @@ pub fn begin(
     for (at, action) in actions.items().iter().enumerate() {
         if is_match(event, action) {
             outputs.push(Output::Action {
-                file: action.file.copy(alloc)?,
+                file: action.file.share()?,
                 line: action.line,
             })?;
             begun.push(CommandRef {

@@ -2,7 +2,7 @@
 
 ghost use Rattle.std.specs.Prelude.{◌≡◌, [], length, MatchOption, slice_get, Some};
 ghost use Rattle.std.specs.Option.{option_copied};
-ghost use Rattle.init_machine.specs.Step.{commands_at, command_at as command_at_lem};
+ghost use Rattle.init_core.specs.Stage.Step.{commands_at, command_at as command_at_lem};
 ghost use Rattle.init_core.specs.Running.{MovesOn, following as following_lem};
 
 use init_base::{Fifo, List};

@@ -1,10 +1,10 @@
 //! The step: what one input does to the parts.
 
 ghost use Rattle.std.specs.Prelude.{◌≡◌, ◌∷◌, [], ◌++◌, OnOk};
-ghost use Rattle.init_machine.specs.Built.{IsBuiltInput};
+ghost use Rattle.init_core.specs.Stage.Built.{IsBuiltInput};
 ghost use Rattle.init_machine.specs.History.{sets_in};
 ghost use Rattle.init_machine.specs.Props.{more_sets};
-ghost use Rattle.init_machine.specs.Step.{boot_events};
+ghost use Rattle.init_core.specs.Stage.Step.{boot_events};
 ghost use Rattle.init_machine.specs.declared.event.Event.TheVariants.{Named};
 ghost use Rattle.init_core.specs.OneEvent.{HasLoneMark};
 ghost use Rattle.init_core.specs.Parts.{state_of, boot_by, next_by, step_by};
@@ -40,7 +40,7 @@ fn boot<S: PropStore>(
 ) -> Result<(), NoMemory>
     ensures state { OnOk result (state_of S.meaning parts.new ≡ (boot_by S.meaning parts.old).0) }
     ensures outputs { OnOk result (outputs.new ≡ outputs.old ++ (boot_by S.meaning parts.old).1) }
-    ensures sets { OnOk result ((S.meaning parts.new.store).sets ≡ more_sets (S.meaning parts.old.store).sets (sets_in (boot_by S.meaning parts.old).1)) }
+    ensures sets { OnOk result (S.told parts.new.store ≡ more_sets (S.told parts.old.store) (sets_in (boot_by S.meaning parts.old).1)) }
     ensures beside { S.Beside parts.old.store parts.new.store }
 {
     if parts.had_boot {
@@ -61,7 +61,7 @@ fn next<S: PropStore>(
     requires { HasLoneMark parts.old.queue.events }
     ensures state { OnOk result (state_of S.meaning parts.new ≡ (next_by S.meaning actions.now parts.old).0) }
     ensures outputs { OnOk result (outputs.new ≡ outputs.old ++ (next_by S.meaning actions.now parts.old).1) }
-    ensures sets { OnOk result ((S.meaning parts.new.store).sets ≡ more_sets (S.meaning parts.old.store).sets (sets_in (next_by S.meaning actions.now parts.old).1)) }
+    ensures sets { OnOk result (S.told parts.new.store ≡ more_sets (S.told parts.old.store) (sets_in (next_by S.meaning actions.now parts.old).1)) }
     ensures beside { S.Beside parts.old.store parts.new.store }
 {
     take_events(alloc, actions, &mut parts.queue, outputs)?;
@@ -80,7 +80,7 @@ pub fn step<S: PropStore>(
     requires lone { HasLoneMark parts.old.queue.events }
     ensures state { OnOk result (state_of S.meaning parts.new ≡ (step_by S.meaning config.now parts.old input.now).0) }
     ensures outputs { OnOk result (outputs.new ≡ outputs.old ++ (step_by S.meaning config.now parts.old input.now).1) }
-    ensures sets { OnOk result ((S.meaning parts.new.store).sets ≡ more_sets (S.meaning parts.old.store).sets (sets_in (step_by S.meaning config.now parts.old input.now).1)) }
+    ensures sets { OnOk result (S.told parts.new.store ≡ more_sets (S.told parts.old.store) (sets_in (step_by S.meaning config.now parts.old input.now).1)) }
     ensures beside { S.Beside parts.old.store parts.new.store }
 {
     match input {

@@ -1,7 +1,7 @@
 //! Taking events, where no action runs.
 
 ghost use Rattle.std.specs.Prelude.{◌≡◌, ◌++◌, [], OnOk};
-ghost use Rattle.init_machine.specs.Taking.{Taken, taken_now, event_line, is_all_properties};
+ghost use Rattle.init_core.specs.Stage.Taking.{Taken, taken_now, event_line, is_all_properties};
 ghost use Rattle.init_core.specs.OneEvent.{one_begun, one_taken, queue_after, HasLoneMark};
 
 use crate::matching::begin;

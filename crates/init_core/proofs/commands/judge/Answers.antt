@@ -2,7 +2,7 @@ use Rattle.std.proofs.Common.{◌≡◌, Bool, true, false, ℕ, List, Some, ref
 use Rattle.std.proofs.lemmas.Bool.{false≢true}
 use Rattle.init_base.specs.Name.{is_legal_name}
 use Rattle.init_machine.specs.Props.{Props}
-use Rattle.init_machine.specs.Effect.{set_answer}
+use Rattle.init_core.specs.Stage.Effect.{set_answer}
 use Rattle.init_machine.specs.declared.output.SetRefusal.TheVariants.{InvalidName}
 use Rattle.init_core.proofs.commands.judge.Goals as goal
 

@@ -1,6 +1,6 @@
 use Rattle.std.proofs.Common.{◌≡◌, ◌++◌, drop, map, filter}
-use Rattle.init_machine.specs.Matches.{matches}
-use Rattle.init_machine.specs.Taking.{begun_from, action_line}
+use Rattle.init_core.specs.Stage.Matches.{matches}
+use Rattle.init_core.specs.Stage.Taking.{begun_from, action_line}
 use Rattle.init_core.proofs.matching.begin.Given as goal
 
 abbrev pub invariant-loop-at : goal.invariant-loop-at

@@ -1,4 +1,4 @@
-use Rattle.init_machine.specs.Taking.{taken_now}
+use Rattle.init_core.specs.Stage.Taking.{taken_now}
 use Rattle.init_core.proofs.Events.{keeps}
 use Rattle.init_core.proofs.taking.take_events.Goals as goal
 

@@ -1,5 +1,5 @@
 use Rattle.std.proofs.Common.{◌≡◌, ◌+◌, ◌++◌, ◌||◌, length}
-use Rattle.init_machine.specs.Taking.{taken_now}
+use Rattle.init_core.specs.Stage.Taking.{taken_now}
 use Rattle.init_core.specs.OneEvent.{HasLoneMark, mark_count}
 use Rattle.init_core.proofs.taking.take_events.Given as goal
 
