@@ -115,7 +115,7 @@ went_on a b c bytes piece n m is e f =
     ∙ ap (λ z. append_known a z) (sym (take-add n m bytes))
 
 -- a write takes no more than the piece
-pub takes_at_most : (count : ℕ) (piece : List ℕ) → TakesSome (Ok count) piece → count ≤ length piece
+pub takes_at_most : (count : ℕ) (piece : List ℕ) → TakesSome {E = IoRefusal} (Ok count) piece → count ≤ length piece
 takes_at_most count [] h = omega arith
 takes_at_most count (byte ∷ rest) h = h.1
 

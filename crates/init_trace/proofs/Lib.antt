@@ -3,6 +3,7 @@ mod Digits
 mod FieldsRead
 mod LinesPlain
 mod ReportRead
+pub mod Runs
 mod Spelling
 mod Splitting
 mod Steps

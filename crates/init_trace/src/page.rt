@@ -2,7 +2,7 @@
 //! line beside.
 
 ghost use Rattle.std.specs.Prelude.{◌≡◌, [], ◌++◌, map};
-ghost use Rattle.init_base.specs.Faults.{Counted, sink_failed};
+ghost use Rattle.init_base.specs.Faults.{Counted, write_failed};
 ghost use Rattle.init_trace.specs.Line.{line_text, lines_text};
 ghost use Rattle.init_trace.specs.Written.{Adds, Writes};
 
@@ -16,7 +16,7 @@ const FULL: usize = 65536;
 /// Writes all of the bytes.
 pub fn send<K: Sink>(alloc: Global, out: &mut K, bytes: &[u8]) -> Result<(), IoRefusal>
     ensures written { Writes (K.taken out.old) (K.taken out.new) result bytes.now }
-    ensures cause { Counted (sink_failed result) (K.fault_count out.old) (K.fault_count out.new) }
+    ensures cause { Counted (write_failed result) (K.fault_count out.old) (K.fault_count out.new) }
 {
     let mut at = 0;
     while at < bytes.len() {
@@ -28,7 +28,7 @@ pub fn send<K: Sink>(alloc: Global, out: &mut K, bytes: &[u8]) -> Result<(), IoR
 /// Writes the page if it is full.
 fn turn<K: Sink>(alloc: Global, out: &mut K, page: &mut Vec<u8>) -> Result<(), IoRefusal>
     ensures added { Adds (K.taken out.old) (K.taken out.new) result page.old.items page.new.items [] }
-    ensures cause { Counted (sink_failed result) (K.fault_count out.old) (K.fault_count out.new) }
+    ensures cause { Counted (write_failed result) (K.fault_count out.old) (K.fault_count out.new) }
 {
     if page.len() < FULL {
         return Ok(());
@@ -47,7 +47,7 @@ pub fn add_line<K: Sink, L: Line>(
 ) -> Result<(), IoRefusal>
     ensures added { Adds (K.taken out.old) (K.taken out.new) result page.old.items page.new.items
         (line_text (L.fields item.now)) }
-    ensures cause { Counted (sink_failed result) (K.fault_count out.old) (K.fault_count out.new) }
+    ensures cause { Counted (write_failed result) (K.fault_count out.old) (K.fault_count out.new) }
 {
     item.add(page)?;
     turn(alloc, out, page)
@@ -62,7 +62,7 @@ pub fn add_lines<K: Sink, L: Line>(
 ) -> Result<(), IoRefusal>
     ensures added { Adds (K.taken out.old) (K.taken out.new) result page.old.items page.new.items
         (lines_text (map L.fields items.now)) }
-    ensures cause { Counted (sink_failed result) (K.fault_count out.old) (K.fault_count out.new) }
+    ensures cause { Counted (write_failed result) (K.fault_count out.old) (K.fault_count out.new) }
 {
     for item in items {
         add_line(alloc, out, page, item)?;

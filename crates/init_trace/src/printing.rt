@@ -2,7 +2,7 @@
 
 ghost use Rattle.std.specs.Prelude.{◌≡◌, ◌∷◌, map};
 ghost use Rattle.std.specs.List.{flat_map};
-ghost use Rattle.init_base.specs.Faults.{Counted, sink_failed};
+ghost use Rattle.init_base.specs.Faults.{Counted, write_failed};
 ghost use Rattle.init_trace.specs.Fields.{diagnostic_fields};
 ghost use Rattle.init_trace.specs.Line.{lines_text};
 ghost use Rattle.init_trace.specs.Report.{DiagnosticsText, TextOf, client_lines, clients_lines, entry_lines, title_fields};
@@ -18,7 +18,7 @@ use std::alloc::Global;
 /// answer is `Failed`, and is as it was where it is anything else.
 pub fn print<K: Sink>(alloc: Global, report: &Report, out: &mut K) -> Result<(), IoRefusal>
     ensures written { Writes (K.taken out.old) (K.taken out.new) result (TextOf report.now) }
-    ensures cause { Counted (sink_failed result) (K.fault_count out.old) (K.fault_count out.new) }
+    ensures cause { Counted (write_failed result) (K.fault_count out.old) (K.fault_count out.new) }
 {
     let mut page = Vec::new(alloc);
     add_report(alloc, out, &mut page, report)?;
@@ -33,7 +33,7 @@ pub fn print_diagnostics<K: Sink>(
 ) -> Result<(), IoRefusal>
     ensures written { Writes (K.taken out.old) (K.taken out.new) result
         (DiagnosticsText diagnostics.now) }
-    ensures cause { Counted (sink_failed result) (K.fault_count out.old) (K.fault_count out.new) }
+    ensures cause { Counted (write_failed result) (K.fault_count out.old) (K.fault_count out.new) }
 {
     let mut page = Vec::new(alloc);
     add_alone(alloc, out, &mut page, diagnostics.items())?;
@@ -48,7 +48,7 @@ fn add_alone<K: Sink>(
 ) -> Result<(), IoRefusal>
     ensures added { Adds (K.taken out.old) (K.taken out.new) result page.old.items page.new.items
         (DiagnosticsText diagnostics.now) }
-    ensures cause { Counted (sink_failed result) (K.fault_count out.old) (K.fault_count out.new) }
+    ensures cause { Counted (write_failed result) (K.fault_count out.old) (K.fault_count out.new) }
 {
     add_diagnostics(alloc, out, page, diagnostics)?;
     add_line(alloc, out, page, &End)
@@ -62,7 +62,7 @@ fn add_report<K: Sink>(
 ) -> Result<(), IoRefusal>
     ensures added { Adds (K.taken out.old) (K.taken out.new) result page.old.items page.new.items
         (TextOf report.now) }
-    ensures cause { Counted (sink_failed result) (K.fault_count out.old) (K.fault_count out.new) }
+    ensures cause { Counted (write_failed result) (K.fault_count out.old) (K.fault_count out.new) }
 {
     add_diagnostics(alloc, out, page, report.diagnostics.items())?;
     add_entries(alloc, out, page, report.history.items())?;
@@ -79,7 +79,7 @@ fn add_diagnostics<K: Sink>(
 ) -> Result<(), IoRefusal>
     ensures added { Adds (K.taken out.old) (K.taken out.new) result page.old.items page.new.items
         (lines_text (title_fields ∷ map diagnostic_fields diagnostics.now)) }
-    ensures cause { Counted (sink_failed result) (K.fault_count out.old) (K.fault_count out.new) }
+    ensures cause { Counted (write_failed result) (K.fault_count out.old) (K.fault_count out.new) }
 {
     add_line(alloc, out, page, &Title)?;
     add_lines(alloc, out, page, diagnostics)
@@ -93,7 +93,7 @@ fn add_entries<K: Sink>(
 ) -> Result<(), IoRefusal>
     ensures added { Adds (K.taken out.old) (K.taken out.new) result page.old.items page.new.items
         (lines_text (flat_map entry_lines entries.now)) }
-    ensures cause { Counted (sink_failed result) (K.fault_count out.old) (K.fault_count out.new) }
+    ensures cause { Counted (write_failed result) (K.fault_count out.old) (K.fault_count out.new) }
 {
     for entry in entries {
         add_entry(alloc, out, page, entry)?;
@@ -110,7 +110,7 @@ fn add_entry<K: Sink>(
 ) -> Result<(), IoRefusal>
     ensures added { Adds (K.taken out.old) (K.taken out.new) result page.old.items page.new.items
         (lines_text (entry_lines entry.now)) }
-    ensures cause { Counted (sink_failed result) (K.fault_count out.old) (K.fault_count out.new) }
+    ensures cause { Counted (write_failed result) (K.fault_count out.old) (K.fault_count out.new) }
 {
     add_line(alloc, out, page, &entry.input)?;
     add_lines(alloc, out, page, entry.outputs.items())
@@ -125,7 +125,7 @@ fn add_parts<K: Sink>(
 ) -> Result<(), IoRefusal>
     ensures added { Adds (K.taken out.old) (K.taken out.new) result page.old.items page.new.items
         (lines_text (clients_lines 1 parts.now)) }
-    ensures cause { Counted (sink_failed result) (K.fault_count out.old) (K.fault_count out.new) }
+    ensures cause { Counted (write_failed result) (K.fault_count out.old) (K.fault_count out.new) }
 {
     for (index, part) in parts.iter().enumerate() {
         add_part(alloc, out, page, index as u64 + 1, part)?;
@@ -143,7 +143,7 @@ fn add_part<K: Sink>(
 ) -> Result<(), IoRefusal>
     ensures added { Adds (K.taken out.old) (K.taken out.new) result page.old.items page.new.items
         (lines_text (client_lines id part.now)) }
-    ensures cause { Counted (sink_failed result) (K.fault_count out.old) (K.fault_count out.new) }
+    ensures cause { Counted (write_failed result) (K.fault_count out.old) (K.fault_count out.new) }
 {
     add_client(page, id, part)?;
     add_lines(alloc, out, page, part.readings.items())

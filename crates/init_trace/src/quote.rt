@@ -1,8 +1,8 @@
 //! The spelling of texts and numbers, as `specs/Quoted.antt` has it. Each function adds at the end of a page.
 
-ghost use Rattle.std.specs.Prelude.{◌≡◌, ◌++◌, ◌∷◌, [], ◌<◌, OnOk, false};
+ghost use Rattle.std.specs.Prelude.{◌≡◌, ◌++◌, ◌∷◌, [], ◌<◌, ◌≤◌, IfOk, OnOk, false, length, drop};
 ghost use Rattle.std.specs.Fmt.{decimal, digit_glyph};
-ghost use Rattle.std.specs.List.{flat_map};
+ghost use Rattle.std.specs.List.{flat_map, prefix_len};
 ghost use Rattle.init_trace.specs.Quoted.{hex16, hex_byte as hex_byte_lem, is_plain as is_plain_lem, quoted as quoted_lem, quoted_byte as quoted_byte_lem};
 
 use init_base::NoMemory;
@@ -37,10 +37,36 @@ pub fn quoted(page: &mut Vec<u8>, bytes: &[u8]) -> Result<(), NoMemory>
 fn quoted_bytes(page: &mut Vec<u8>, bytes: &[u8]) -> Result<(), NoMemory>
     ensures { OnOk result (page.new.items ≡ page.old.items ++ flat_map quoted_byte_lem bytes.now) }
 {
-    for byte in bytes {
-        quoted_byte(page, *byte)?;
+    let mut at = 0;
+    while at < bytes.len() {
+        at += quoted_run(page, &bytes[at..])?;
     }
     Ok(())
+}
+
+/// Adds the run of plain bytes at the front, as they are, and then the byte that ends it. Answers how many bytes these are.
+#[tactic(auto, using(crate::proofs::Runs::run_left, crate::proofs::Runs::byte_left))]
+fn quoted_run(page: &mut Vec<u8>, bytes: &[u8]) -> Result<usize, NoMemory>
+    requires { 0 < length bytes.now }
+    ensures left { IfOk result (λ count. page.new.items ++ flat_map quoted_byte_lem (drop count bytes.now) ≡ page.old.items ++ flat_map quoted_byte_lem bytes.now) }
+    ensures some { IfOk result (λ count. 0 < count) }
+    ensures within { IfOk result (λ count. count ≤ length bytes.now) }
+{
+    let run = plain_len(bytes);
+    put(page, &bytes[..run])?;
+    if run == bytes.len() {
+        return Ok(run);
+    }
+    quoted_byte(page, bytes[run])?;
+    Ok(run + 1)
+}
+
+/// How many plain bytes stand at the front.
+fn plain_len(bytes: &[u8]) -> usize
+    ensures count { result ≡ prefix_len is_plain_lem bytes.now }
+    ensures within { result ≤ length bytes.now }
+{
+    bytes.iter().take_while(|byte| is_plain(**byte)).count()
 }
 
 fn quoted_byte(page: &mut Vec<u8>, byte: u8) -> Result<(), NoMemory>

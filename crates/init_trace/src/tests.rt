@@ -1,5 +1,4 @@
 use super::*;
-use crate::quote::quoted;
 use init_base::{ClientId, IoRefusal, List, MemSink, Millis, NoMemory, Pid, SteadySink, Text};
 use init_machine::{
     Cause, ClientPart, DiagKind, Diagnostic, Entry, FsRefusal, How, InertWord, Input, Output,
@@ -12,7 +11,7 @@ use std::test::*;
 fn text(alloc: Global, bytes: &[u8]) -> Text {
     match Text::of(alloc, bytes) {
         Ok(text) => text,
-        Err(_) => Text::empty(alloc),
+        Err(_) => Text::empty(),
     }
 }
 
@@ -26,42 +25,6 @@ fn report(alloc: Global, history: List<Entry>) -> Report {
         history,
         clients: List::new(alloc),
     }
-}
-
-#[test]
-fn empty_root_idles(rt: HostRuntime) -> Result<(), Fail> {
-    let alloc = rt.alloc();
-    let outputs = [
-        Output::Event {
-            name: text(alloc, b"early-init"),
-        },
-        Output::Event {
-            name: text(alloc, b"init"),
-        },
-        Output::Event {
-            name: text(alloc, b"late-init"),
-        },
-        Output::AllProperties,
-        Output::Idle,
-    ];
-    let outputs = list(alloc, outputs)?;
-    let entries = [
-        Entry {
-            input: Input::Boot,
-            outputs: List::new(alloc),
-        },
-        Entry {
-            input: Input::Next,
-            outputs,
-        },
-    ];
-    let history = list(alloc, entries)?;
-    let mut out = SteadySink::new(alloc);
-    assert!(rt; print(alloc, &report(alloc, history), &mut out).is_ok());
-    let expected =
-        b"initsim 1\nboot\nnext\n event early-init\n event init\n event late-init\n all-properties\n idle\nend\n";
-    assert!(rt; out.taken() == expected.as_slice());
-    Ok(())
 }
 
 fn events(alloc: Global) -> Result<List<Output>, NoMemory> {
@@ -334,37 +297,10 @@ fn every_line(rt: HostRuntime) -> Result<(), Fail> {
     let mut out = SteadySink::new(alloc);
     assert!(rt; print(alloc, &report, &mut out).is_ok());
     assert!(rt; out.taken() == expected.as_slice());
+    let mut lone = SteadySink::new(alloc);
+    assert!(rt; print_diagnostics(alloc, &report.diagnostics, &mut lone).is_ok());
+    assert!(rt; lone.taken() == b"initsim 1\ndiag /a.rc 1 Loop\nend\n".as_slice());
     text_determines_report();
-    Ok(())
-}
-
-#[test]
-fn diagnostics_alone(rt: HostRuntime) -> Result<(), Fail> {
-    let alloc = rt.alloc();
-    let all = diagnostics(alloc)?;
-    let mut out = SteadySink::new(alloc);
-    assert!(rt; print_diagnostics(alloc, &all, &mut out).is_ok());
-    assert!(rt; out.taken() == b"initsim 1\ndiag /a.rc 1 Loop\nend\n".as_slice());
-    Ok(())
-}
-
-#[test]
-fn quoted_forms(rt: HostRuntime) -> Result<(), Fail> {
-    let alloc = rt.alloc();
-    for (bytes, form) in [
-        (b"".as_slice(), b"%".as_slice()),
-        (b"%", b"%25"),
-        (b" ", b"%20"),
-        (b"\x7f", b"%7F"),
-        (b"\xff", b"%FF"),
-        (b"\n", b"%0A"),
-        (b"!~a/", b"!~a/"),
-        (b"\x00\x1f\x80", b"%00%1F%80"),
-    ] {
-        let mut page = Vec::new(alloc);
-        quoted(&mut page, bytes)?;
-        assert!(rt; page.as_slice() == form);
-    }
     Ok(())
 }
 
@@ -372,7 +308,7 @@ fn quoted_forms(rt: HostRuntime) -> Result<(), Fail> {
 fn long_outputs(alloc: Global) -> Result<List<Output>, NoMemory> {
     let mut outputs = List::new(alloc);
     for _ in 0..3 {
-        let path = Text::from_vec(vec![in alloc; b'a'; 65536]?);
+        let path = Text::from_vec(vec![in alloc; b'a'; 65536]?)?;
         outputs.push(Output::Tree { path })?;
     }
     Ok(outputs)

@@ -2,7 +2,7 @@
 use Rattle.std.proofs.Common.{◌≡◌, ℕ, Bool, true, false, not, ◌&&◌, List, [], ◌∷◌, ◌++◌, map, filter, drop, cond, Option, Some, None, refl, ap}
 use Rattle.std.specs.Prelude.{IsTrue}
 use Rattle.std.specs.List.{flat_map, list_all}
-use Rattle.init_machine.specs.Built.{is_built_action, is_built_command, IsBuiltConfig}
+use Rattle.init_core.specs.Stage.Built.{is_built_action, is_built_command, IsBuiltConfig}
 use Rattle.init_machine.specs.declared.action.Action.{Action}
 use Rattle.rc_parse.specs.Kept.{kept}
 use Rattle.rc_parse.specs.Sections.{has_command}

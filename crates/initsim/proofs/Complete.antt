@@ -12,7 +12,7 @@ use Rattle.initsim.specs.Run.{IsRunnable}
 use Rattle.initsim.specs.Top.{CanBeRun, IsDoneUnlessRisen}
 use Rattle.initsim.specs.Unbuilt.{unbuilt_line}
 use Rattle.initsim.specs.declared.prepare.Job.{Job}
-use Rattle.initsim.specs.declared.status.Limit.{Limit}
+use Rattle.init_machine.specs.declared.limit.Limit.{Limit}
 use Rattle.initsim.specs.declared.stop.Stop.{Stop}
 use Rattle.initsim.specs.declared.stop.Stop.TheVariants as stop
 use Rattle.initsim.proofs.SameRoot.{same_root}

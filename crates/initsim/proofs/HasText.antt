@@ -6,13 +6,13 @@ use Rattle.init_base.specs.Name.{is_legal_name}
 use Rattle.init_base.specs.Value.{value_fault}
 use Rattle.init_base.specs.declared.value.BadValue.{BadValue}
 use Rattle.init_base.specs.declared.value.BadValue.TheVariants.{TooLong, NotUtf8}
-use Rattle.init_machine.specs.Effect.{set_answer, set_property, refusal_of_value, refusal_of_full, first_of_two, trigger_lines, done_by}
-use Rattle.init_machine.specs.History.{LegalFrom, Legal}
-use Rattle.init_machine.specs.Matches.{matches, is_matched}
+use Rattle.init_core.specs.Stage.Effect.{set_answer, set_property, refusal_of_value, refusal_of_full, first_of_two, trigger_lines, done_by}
+use Rattle.init_core.specs.Stage.History.{LegalFrom, Legal}
+use Rattle.init_core.specs.Stage.Matches.{matches, is_matched}
 use Rattle.init_machine.specs.Props.{Props, full_for}
-use Rattle.init_machine.specs.State.{Opening, State, first_state}
-use Rattle.init_machine.specs.Step.{step, boot_from, run_first, run_command, command_at, moved_on}
-use Rattle.init_machine.specs.Taking.{taken_now, events_to_take, event_line, action_line, action_lines, with_taken}
+use Rattle.init_core.specs.Stage.State.{Opening, State, first_state}
+use Rattle.init_core.specs.Stage.Step.{step, boot_from, run_first, run_command, command_at, moved_on}
+use Rattle.init_core.specs.Stage.Taking.{taken_now, events_to_take, event_line, action_line, action_lines, with_taken}
 use Rattle.init_machine.specs.declared.action.Action.{Action}
 use Rattle.init_machine.specs.declared.action.Command.{Command}
 use Rattle.init_machine.specs.declared.action.CommandRef.{CommandRef}

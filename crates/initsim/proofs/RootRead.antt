@@ -10,11 +10,12 @@ use Rattle.rc_tokens.specs.Lines.{Lines}
 use Rattle.rc_tokens.specs.declared.line.TokenRefusal.{TokenRefusal}
 use Rattle.rc_tokens.specs.declared.line.TokenRefusal.TheVariants.{TooLarge}
 use Rattle.rc_tokens.specs.declared.line.Tokens.{Tokens}
+use Rattle.rc_parse.specs.Files.{Reads}
 use Rattle.rc_parse.specs.Sections.{Sections}
 use Rattle.rc_parse.specs.declared.parsed.Parsed.{Parsed}
 use Rattle.initsim.specs.Prepared.{AreSections, ReadsRoot}
-use Rattle.initsim.specs.Root.{root_path, Reads, IsTooLarge}
-use Rattle.initsim.specs.declared.status.Limit.TheVariants.{FileBytes}
+use Rattle.initsim.specs.Root.{root_path, IsTooLarge}
+use Rattle.init_machine.specs.declared.limit.Limit.TheVariants.{FileBytes}
 use Rattle.initsim.specs.declared.stop.Stop.{Stop}
 use Rattle.initsim.specs.declared.stop.Stop.TheVariants as stop
 
@@ -26,7 +27,7 @@ short size tokens result is too_large = grind (arith, is, too_large)
 pub sections_read : (content file : List ℕ) (tokens : Tokens) (parsed : Parsed) (result : Result Tokens TokenRefusal)
     → result ≡ Ok tokens → ((result ≡ Err TooLarge) ↔ (1048576 < length content))
     → Lines content tokens.lines tokens.dropped → file ≡ root_path → Sections file tokens parsed
-    → (length content ≤ 1048576) × Reads content parsed
+    → (length content ≤ 1048576) × Reads root_path content parsed
 sections_read content file tokens parsed result is too_large spelled named sections = (
   short (length content) tokens result is too_large,
   record {

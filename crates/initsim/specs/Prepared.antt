@@ -4,7 +4,8 @@ use Rattle.init_base.specs.Tree.{file_at}
 use Rattle.plain_script.specs.Script.{IsPlainScript, IsUnfitAt}
 use Rattle.plain_script.specs.declared.script.Act.{Act}
 use Rattle.rc_parse.specs.declared.parsed.Parsed.{Parsed}
-use Rattle.initsim.specs.Root.{root_path, config_of, diagnostics_of, Reads, HasRoot, IsTooLarge}
+use Rattle.rc_parse.specs.Files.{Reads}
+use Rattle.initsim.specs.Root.{root_path, config_of, diagnostics_of, HasRoot, IsTooLarge}
 use Rattle.initsim.specs.Run.{IsPlain, IsRunnable, IsUnbuiltAt}
 use Rattle.initsim.specs.Unbuilt.{unbuilt_line}
 use Rattle.initsim.specs.declared.prepare.Job.{Job}
@@ -61,7 +62,7 @@ ReadsScript (Some script) left (Err why) = IsScriptStop script why
 
 -- the sections of a root file's content
 abbrev pub AreSections : List ℕ → Result Parsed Stop → Type 0
-AreSections content (Ok parsed) = (length content ≤ 1048576) × Reads content parsed
+AreSections content (Ok parsed) = (length content ≤ 1048576) × Reads root_path content parsed
 AreSections content (Err stop.ReadFault) = ⊥
 AreSections content (Err stop.NoMemory) = Unit {0}
 AreSections content (Err stop.NoInit) = ⊥

@@ -3,31 +3,22 @@ use Rattle.std.specs.Prelude.{◌≡◌, ℕ, ◌<◌, ◌≤◌, List, [], ◌+
 use Rattle.init_base.specs.Tree.{file_at}
 use Rattle.init_machine.specs.declared.config.Config.{Config}
 use Rattle.init_machine.specs.declared.diagnostic.Diagnostic.{Diagnostic}
-use Rattle.rc_tokens.specs.Lines.{Lines}
-use Rattle.rc_tokens.specs.declared.line.Line.{Line}
 use Rattle.rc_parse.specs.Kept.{kept, agains_behind}
-use Rattle.rc_parse.specs.Sections.{Sections}
+use Rattle.rc_parse.specs.Files.{Reads}
 use Rattle.rc_parse.specs.declared.parsed.Parsed.{Parsed}
-use Rattle.initsim.specs.declared.status.Limit.{Limit}
-use Rattle.initsim.specs.declared.status.Limit.TheVariants as limit
+use Rattle.init_machine.specs.declared.limit.Limit.{Limit}
+use Rattle.init_machine.specs.declared.limit.Limit.TheVariants as limit
 
 -- the path of the root file
 abbrev pub root_path : List ℕ
 root_path = codes "/system/etc/init/hw/init.rc"
-
--- a root file of these bytes has these sections: those of the lines that the bytes spell
-pub record Reads (content : List ℕ) (parsed : Parsed) : Type 0 where
-  pub lines : List Line
-  pub dropped : Option ℕ
-  pub spelled : Lines content lines dropped
-  pub sections : Sections root_path (record { lines = lines; dropped = dropped }) parsed
 
 -- the root file of a tree is within the limit of 1,048,576 bytes, and has these sections
 pub record HasRoot (tree : List (List ℕ × List ℕ)) (parsed : Parsed) : Type 0 where
   pub content : List ℕ
   pub file : file_at tree root_path ≡ Some content
   pub short : length content ≤ 1048576
-  pub reads : Reads content parsed
+  pub reads : Reads root_path content parsed
 
 -- a file is longer than the limit, and this is the limit, and the number that is answered: one byte more
 abbrev pub IsTooLarge : Option (List ℕ) → Limit → ℕ → Type 0

@@ -2,8 +2,9 @@
 use Rattle.std.specs.Prelude.{◌≡◌, ℕ, Bool, true, false, List, [], Option, Some, None, ◌⊎◌}
 use Rattle.std.specs.Io.KnownBytes.{append_known}
 use Rattle.init_base.specs.Tree.{file_at}
-use Rattle.init_machine.specs.History.{inputs_of, Legal}
-use Rattle.init_machine.specs.State.{Opening}
+use Rattle.init_core.specs.Stage.History.{Legal}
+use Rattle.init_machine.specs.History.{inputs_of}
+use Rattle.init_core.specs.Stage.State.{Opening}
 use Rattle.init_machine.specs.declared.config.Config.{Config}
 use Rattle.init_machine.specs.declared.diagnostic.Diagnostic.{Diagnostic}
 use Rattle.init_machine.specs.declared.report.Entry.{Entry}

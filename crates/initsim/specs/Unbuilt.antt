@@ -1,8 +1,8 @@
 -- What of a root file isn't built yet in the machine: a run of it is refused, at the first line of such a kind.
 use Rattle.std.specs.Prelude.{ℕ, Bool, true, false, not, ◌&&◌, if◌then◌else◌, List, [], ◌∷◌, ◌++◌, map, filter, drop, min, Option, Some, None}
 use Rattle.std.specs.List.{flat_map}
-use Rattle.init_machine.specs.Built.{is_built_command}
-use Rattle.init_machine.specs.Matches.{has_no_event, has_no_test}
+use Rattle.init_core.specs.Stage.Built.{is_built_command}
+use Rattle.init_core.specs.Stage.Matches.{has_no_event, has_no_test}
 use Rattle.init_machine.specs.declared.action.Action.{Action}
 use Rattle.init_machine.specs.declared.action.Command.{Command}
 use Rattle.init_machine.specs.declared.word.Word.{Word}

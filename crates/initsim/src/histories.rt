@@ -1,8 +1,9 @@
-//! Short histories of the core over the plain store: their expected texts were worked out by hand from the documented
-//! machine. `R` stands for the root file, `B` for a Boot and `N` for a Next.
+//! Short histories that no script can ask for, of the core over the plain store: their expected texts were worked out by
+//! hand from the documented machine. `R` stands for the root file, `B` for a Boot and `N` for a Next. Those that a script can
+//! ask for are folders of `examples/rows`.
 
 ghost use Rattle.std.specs.Prelude.{◌≡◌, false, IfOk, OnOk};
-ghost use Rattle.init_machine.specs.Built.{IsBuiltConfig};
+ghost use Rattle.init_core.specs.Stage.Built.{IsBuiltConfig};
 
 use crate::prepare::job_of;
 use crate::report::{report_of, take};
@@ -23,55 +24,13 @@ struct Row {
     want: &'static [u8],
 }
 
-const ROWS: [Row; 13] = [
-    Row {
-        name: "empty_root_idles",
-        words: 65_536,
-        root: b"",
-        inputs: b"BN",
-        want: b"boot\nnext\n event early-init\n event init\n event late-init\n all-properties\n idle\n",
-    },
-    Row {
-        name: "trigger_reaches_second_action",
-        words: 65_536,
-        root: b"on late-init\ntrigger boot\non boot\nsetprop a 1\n",
-        inputs: b"BNNNN",
-        want: b"boot\nnext\n event early-init\n event init\n event late-init\n action R 1\n command R 2 trigger boot\n ok\nnext\n event boot\n action R 3\n command R 4 setprop a 1\n put 1 a 1\n ok\nnext\n all-properties\n idle\nnext\n idle\n",
-    },
-    Row {
-        name: "two actions on one event",
-        words: 65_536,
-        root: b"on early-init\nsetprop a 1\nsetprop b 2\non early-init\nsetprop c 3\nsetprop d 4\n",
-        inputs: b"BNNNNN",
-        want: b"boot\nnext\n event early-init\n action R 1\n action R 4\n command R 2 setprop a 1\n put 1 a 1\n ok\nnext\n command R 3 setprop b 2\n put 2 b 2\n ok\nnext\n command R 5 setprop c 3\n put 3 c 3\n ok\nnext\n command R 6 setprop d 4\n put 4 d 4\n ok\nnext\n event init\n event late-init\n all-properties\n idle\n",
-    },
-    Row {
-        name: "an event that nothing matches",
-        words: 65_536,
-        root: b"on early-init\ntrigger nope\n",
-        inputs: b"BNN",
-        want: b"boot\nnext\n event early-init\n action R 1\n command R 2 trigger nope\n ok\nnext\n event init\n event late-init\n event nope\n all-properties\n idle\n",
-    },
-    Row {
-        name: "a trigger of the running event",
-        words: 65_536,
-        root: b"on late-init\ntrigger late-init\nsetprop a 1\n",
-        inputs: b"BNNNNNNNNN",
-        want: b"boot\nnext\n event early-init\n event init\n event late-init\n action R 1\n command R 2 trigger late-init\n ok\nnext\n command R 3 setprop a 1\n put 1 a 1\n ok\nnext\n event late-init\n action R 1\n command R 2 trigger late-init\n ok\nnext\n command R 3 setprop a 1\n put 2 a 1\n ok\nnext\n all-properties\n event late-init\n action R 1\n command R 2 trigger late-init\n ok\nnext\n command R 3 setprop a 1\n put 3 a 1\n ok\nnext\n event late-init\n action R 1\n command R 2 trigger late-init\n ok\nnext\n command R 3 setprop a 1\n put 4 a 1\n ok\nnext\n change a 1\n event late-init\n action R 1\n command R 2 trigger late-init\n ok\n",
-    },
+const ROWS: [Row; 4] = [
     Row {
         name: "later boots, and a next before any",
         words: 65_536,
         root: b"on late-init\ntrigger boot\non boot\nsetprop a 1\n",
         inputs: b"NBBNBNNN",
         want: b"next\n idle\nboot\nboot\n idle\nnext\n event early-init\n event init\n event late-init\n action R 1\n command R 2 trigger boot\n ok\nboot\n idle\nnext\n event boot\n action R 3\n command R 4 setprop a 1\n put 1 a 1\n ok\nnext\n all-properties\n idle\nnext\n idle\n",
-    },
-    Row {
-        name: "changes on in the same next",
-        words: 65_536,
-        root: b"on late-init\ntrigger x\non x\ntrigger y\non y\nsetprop a 1\nsetprop a 1\n",
-        inputs: b"BNNNNNN",
-        want: b"boot\nnext\n event early-init\n event init\n event late-init\n action R 1\n command R 2 trigger x\n ok\nnext\n event x\n action R 3\n command R 4 trigger y\n ok\nnext\n all-properties\n event y\n action R 5\n command R 6 setprop a 1\n put 1 a 1\n ok\nnext\n command R 7 setprop a 1\n put 2 a 1\n ok\nnext\n change a 1\n change a 1\n idle\nnext\n idle\n",
     },
     Row {
         name: "an area of 64 words",
@@ -88,32 +47,11 @@ const ROWS: [Row; 13] = [
         want: b"boot\nnext\n event early-init\n action R 1\n command R 2 setprop a 1\n put 1 a 1\n ok\nnext\n command R 3 setprop cccccccccccccccccccccccccccccccccccccccccccccccccccccccccccccccccccccccccccccccccccccccc 1\n failed Set AreaFull 35 29\nnext\n command R 4 setprop b 1\n put 2 b 1\n ok\nnext\n command R 5 setprop a 2\n put 3 a 2\n ok\n",
     },
     Row {
-        name: "an action without commands isn't kept",
-        words: 65_536,
-        root: b"on early-init\non init\nsetprop a 1\non late-init\n",
-        inputs: b"BNN",
-        want: b"boot\nnext\n event early-init\n event init\n action R 2\n command R 3 setprop a 1\n put 1 a 1\n ok\nnext\n event late-init\n all-properties\n idle\n",
-    },
-    Row {
-        name: "two triggers keep their order",
-        words: 65_536,
-        root: b"on init\ntrigger y\ntrigger x\non x\nsetprop p x\non y\nsetprop p y\n",
-        inputs: b"BNNNNN",
-        want: b"boot\nnext\n event early-init\n event init\n action R 1\n command R 2 trigger y\n ok\nnext\n command R 3 trigger x\n ok\nnext\n event late-init\n event y\n action R 6\n command R 7 setprop p y\n put 1 p y\n ok\nnext\n event x\n action R 4\n command R 5 setprop p x\n put 2 p x\n ok\nnext\n all-properties\n idle\n",
-    },
-    Row {
         name: "no input",
         words: 65_536,
         root: b"on boot\nsetprop a 1\n",
         inputs: b"",
         want: b"",
-    },
-    Row {
-        name: "boot alone",
-        words: 65_536,
-        root: b"on early-init\nsetprop a 1\n",
-        inputs: b"B",
-        want: b"boot\n",
     },
 ];
 
@@ -136,7 +74,7 @@ fn config_of(alloc: Global, root: &[u8]) -> Result<Config, NoMemory>
     let Ok(tokens) = lines(alloc, root) else {
         return Err(NoMemory);
     };
-    match job_of(alloc, List::new(alloc), parse(alloc, &file, &tokens)?) {
+    match job_of(alloc, List::new(alloc), parse(alloc, &file, tokens)?) {
         Ok(job) => Ok(job.config),
         Err(_) => Err(NoMemory),
     }
@@ -167,7 +105,7 @@ fn text_of(alloc: Global, entries: &[u8]) -> Result<Text, NoMemory> {
     let mut text = Vec::from_slice(alloc, b"initsim 1\n")?;
     text.extend_from_slice(entries)?;
     text.extend_from_slice(b"end\n")?;
-    Ok(Text::from_vec(text))
+    Text::from_vec(text)
 }
 
 #[test]
@@ -179,20 +117,5 @@ fn short_histories(rt: HostRuntime) -> Result<(), Fail> {
         let want = text_of(alloc, row.want)?;
         assert_eq!(rt; text.bytes(), want.bytes(), "{name}");
     }
-    Ok(())
-}
-
-/// Past the end of all events each Next is idle.
-#[test]
-fn idles_past_the_end(rt: HostRuntime) -> Result<(), Fail> {
-    let alloc = rt.alloc();
-    let mut inputs = Vec::from_slice(alloc, b"BN")?;
-    let mut entries = Vec::from_slice(alloc, ROWS[0].want)?;
-    for _ in 0..99u32 {
-        inputs.push(b'N')?;
-        entries.extend_from_slice(b"next\n idle\n")?;
-    }
-    let text = report_of_inputs(alloc, b"", 65_536, inputs.as_slice())?;
-    assert_eq!(rt; text.bytes(), text_of(alloc, entries.as_slice())?.bytes());
     Ok(())
 }

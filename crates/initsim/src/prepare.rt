@@ -3,7 +3,7 @@
 ghost use Rattle.std.specs.Prelude.{◌≡◌, IsTrue, IfOk};
 ghost use Rattle.std.specs.List.{list_all};
 ghost use Rattle.init_base.specs.Faults.{Counted};
-ghost use Rattle.init_machine.specs.Built.{IsBuiltConfig};
+ghost use Rattle.init_core.specs.Stage.Built.{IsBuiltConfig};
 ghost use Rattle.rc_parse.specs.Sections.{has_command};
 ghost use Rattle.initsim.specs.Prepared.{has_read_fault, IsActs, IsJob, ReadsScript, Prepares};
 ghost use Rattle.initsim.specs.Causes.{AreCounted};
@@ -11,10 +11,9 @@ ghost use Rattle.initsim.specs.Causes.{AreCounted};
 use crate::root::{Loaded, load, read_root};
 use crate::stop::Stop;
 use crate::unbuilt::unbuilt_line;
-use init_base::{Files, List, Source, Text};
+use init_base::{Files, List, ReadRefusal, Source, Text, read_all};
 use init_machine::{Config, Diagnostic};
 use plain_script::script::{Act, MAX_SCRIPT_BYTES, ScriptRefusal, read};
-use plain_script::source::{SourceRefusal, read_all};
 use rc_parse::Parsed;
 use std::alloc::Global;
 
@@ -33,14 +32,14 @@ fn read_script<S: Source>(alloc: Global, source: &mut S) -> Result<List<Act>, St
 {
     let text = match read_all(alloc, source, MAX_SCRIPT_BYTES) {
         Ok(text) => text,
-        Err(SourceRefusal::Failed) => return Err(Stop::ReadFault),
-        Err(SourceRefusal::TooLong) => {
+        Err(ReadRefusal::Failed) => return Err(Stop::ReadFault),
+        Err(ReadRefusal::TooLarge) => {
             return Err(Stop::Unbuilt {
                 script: true,
                 line: 0,
             });
         }
-        Err(SourceRefusal::NoMemory) => return Err(Stop::NoMemory),
+        Err(ReadRefusal::NoMemory) => return Err(Stop::NoMemory),
     };
     acts_of(alloc, &text)
 }

@@ -2,7 +2,7 @@
 
 ghost use Rattle.std.specs.Prelude.{◌≡◌, ◌++◌, ◌∷◌, [], false, IfOk, OnOk, replicate};
 ghost use Rattle.std.specs.List.{flat_map};
-ghost use Rattle.init_machine.specs.Built.{IsBuiltConfig, IsBuiltInput};
+ghost use Rattle.init_core.specs.Stage.Built.{IsBuiltConfig, IsBuiltInput};
 ghost use Rattle.init_machine.specs.History.{inputs_of};
 ghost use Rattle.init_machine.specs.declared.input.Input.TheVariants.{Next};
 ghost use Rattle.plain_script.specs.Script.{act_inputs};

@@ -1,16 +1,15 @@
 //! The root file: its sections, and what stays of them.
 
-ghost use Rattle.std.specs.Prelude.{◌≡◌, [], false, IsTrue, IfErr, IfOk};
+ghost use Rattle.std.specs.Prelude.{◌≡◌, false, IsTrue, IfErr, IfOk};
 ghost use Rattle.std.specs.List.{list_all};
 ghost use Rattle.init_base.specs.Faults.{Counted};
 ghost use Rattle.rc_parse.specs.Sections.{has_command};
 ghost use Rattle.initsim.specs.Prepared.{AreSections, IsLoadOf, ReadsRoot, has_read_fault, is_unbuilt_stop};
 
-use crate::status::Limit;
 use crate::stop::Stop;
 use init_base::{Files, List, NoMemory, ReadRefusal, Text};
-use init_machine::{Config, Diagnostic};
-use rc_parse::{Parsed, merge, parse};
+use init_machine::{Config, Diagnostic, Limit};
+use rc_parse::{Merger, Parsed, parse};
 use rc_tokens::{TokenRefusal, lines};
 use std::alloc::Global;
 
@@ -43,7 +42,7 @@ fn sections_of(alloc: Global, content: &Text) -> Result<Parsed, Stop>
 {
     let file = Text::of(alloc, ROOT_FILE)?;
     match lines(alloc, content.bytes()) {
-        Ok(tokens) => Ok(parse(alloc, &file, &tokens)?),
+        Ok(tokens) => Ok(parse(alloc, &file, tokens)?),
         Err(TokenRefusal::TooLarge) => Err(TOO_LARGE),
         Err(TokenRefusal::NoMemory) => Err(Stop::NoMemory),
     }
@@ -65,20 +64,6 @@ pub fn read_root<F: Files>(alloc: Global, files: &mut F) -> Result<Parsed, Stop>
     }
 }
 
-/// A configuration of nothing.
-fn empty_config(alloc: Global) -> Config
-    ensures { result ≡ record { actions = []; services = []; pairs = []; saved = []; plans = []; domains = [] } }
-{
-    Config {
-        actions: List::new(alloc),
-        services: List::new(alloc),
-        pairs: List::new(alloc),
-        saved: List::new(alloc),
-        plans: List::new(alloc),
-        domains: List::new(alloc),
-    }
-}
-
 /// What stays of the sections of one file, and all its diagnostics.
 pub fn load(alloc: Global, parsed: Parsed) -> Result<Loaded, NoMemory>
     ensures { IfOk result (IsLoadOf parsed) }
@@ -89,16 +74,16 @@ pub fn load(alloc: Global, parsed: Parsed) -> Result<Loaded, NoMemory>
         imports,
         mut diagnostics,
     } = parsed;
-    let mut config = empty_config(alloc);
     let sections = Parsed {
         actions,
         services,
         imports,
         diagnostics: List::new(alloc),
     };
-    diagnostics.append(merge(alloc, &mut config, sections)?)?;
+    let (merger, agains) = Merger::new(alloc).merge(alloc, sections)?;
+    diagnostics.append(agains)?;
     Ok(Loaded {
-        config,
+        config: merger.into_config(alloc)?,
         diagnostics,
     })
 }

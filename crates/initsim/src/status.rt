@@ -3,12 +3,7 @@
 ghost use Rattle.std.specs.Prelude.{◌≡◌};
 ghost use Rattle.initsim.specs.Status.{code_of};
 
-/// A limit that an input has passed.
-#[derive(Clone, Copy, Debug, PartialEq, Eq)]
-pub enum Limit {
-    /// The bytes of one file: 1,048,576.
-    FileBytes,
-}
+use init_machine::Limit;
 
 /// How a run of the program ended.
 #[derive(Clone, Copy, Debug, PartialEq, Eq)]

@@ -3,8 +3,9 @@
 ghost use Rattle.std.specs.Prelude.{◌≡◌};
 ghost use Rattle.initsim.specs.Prepared.{status_of};
 
-use crate::status::{Limit, Status};
+use crate::status::Status;
 use init_base::NoMemory;
+use init_machine::Limit;
 
 /// Why nothing is run or checked.
 #[derive(Clone, Copy, Debug, PartialEq, Eq)]

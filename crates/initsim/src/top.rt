@@ -2,7 +2,7 @@
 
 ghost use Rattle.std.specs.Prelude.{◌≡◌, ◌↔◌, ℕ, false, Some, None};
 ghost use Rattle.init_base.specs.Faults.{Counted};
-ghost use Rattle.init_machine.specs.Built.{IsBuiltConfig};
+ghost use Rattle.init_core.specs.Stage.Built.{IsBuiltConfig};
 ghost use Rattle.initsim.specs.Causes.{AreCounted};
 ghost use Rattle.initsim.specs.Form.{form_of as form_of_lem};
 ghost use Rattle.initsim.specs.Run.{CheckWhereTold, OutcomeWhereTold, RunWhereTold};

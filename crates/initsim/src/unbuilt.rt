@@ -4,7 +4,7 @@ ghost use Rattle.std.specs.Prelude.{◌≡◌, ◌++◌, drop, filter, map, IfOk
 ghost use Rattle.std.specs.List.{flat_map, list_all};
 ghost use Rattle.init_base.specs.Name.{is_legal_name};
 ghost use Rattle.init_base.specs.Value.{is_legal_value};
-ghost use Rattle.init_machine.specs.Built.{is_built_command as is_built_command_lem, is_built_form, lacks as lacks_lem};
+ghost use Rattle.init_core.specs.Stage.Built.{is_built_command as is_built_command_lem, is_built_form, lacks as lacks_lem};
 ghost use Rattle.initsim.specs.Unbuilt.{action_lines, header_lines, is_on_event_alone as is_on_event_alone_lem, least as least_lem, earlier as earlier_lem, setprop_lines as setprop_lines_lem, setprop_lines_of, unbuilt_commands, unbuilt_line as unbuilt_line_lem, unbuilt_lines as unbuilt_lines_lem};
 
 use init_base::{List, NoMemory, PropName, PropValue, Text};

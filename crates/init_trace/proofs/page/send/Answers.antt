@@ -2,6 +2,7 @@ use Rattle.std.proofs.Common.{◌≤◌, length, drop, arith, length-drop, ◌�
 use Rattle.std.proofs.lemmas.List.{take_rest}
 use Rattle.std.proofs.lemmas.Result.{err_from_is_err_and}
 use Rattle.init_base.specs.Outside.{TakesSome}
+use Rattle.init_base.specs.declared.outside.refusal.IoRefusal.{IoRefusal}
 use Rattle.init_trace.proofs.Adding.{stopped, went_on, takes_at_most}
 use Rattle.init_trace.proofs.page.send.Goals as goal
 
@@ -14,7 +15,7 @@ pub loop-at-preserved : goal.loop-at-preserved
 loop-at-preserved g c =
     let piece = take_rest c.args.bytes.now c.loop-at.at in
     let most : c.in_ok-at.field-0 ≤ length (drop c.loop-at.at c.args.bytes.now) =
-    takes_at_most _ _ (subst (TakesSome (Ok c.in_ok-at.field-0)) piece c.in_ok-at.ensures.bound) in
+    takes_at_most _ _ (subst (TakesSome {E = IoRefusal} (Ok c.in_ok-at.field-0)) piece c.in_ok-at.ensures.bound) in
     record {
       within = omega (arith, most, length-drop c.loop-at.at c.args.bytes.now);
       taken = went_on _ _ _ _ _ _ _ piece c.loop-at.invariant.taken c.in_ok-at.ensures.taken;

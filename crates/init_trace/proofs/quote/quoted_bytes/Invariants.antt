@@ -1,10 +1,14 @@
-use Rattle.std.proofs.Common.{◌≡◌, ◌++◌, drop}
+use Rattle.std.proofs.Common.{◌≡◌, ◌++◌, ◌-◌, ◌≤◌, drop, length}
 use Rattle.std.specs.List.{flat_map}
 use Rattle.init_trace.specs.Quoted.{quoted_byte}
 use Rattle.init_trace.proofs.quote.quoted_bytes.Given as goal
 
 -- what is left decides
-abbrev pub invariant-loop-byte : goal.invariant-loop-byte
-invariant-loop-byte l =
-    l.page.items ++ flat_map quoted_byte (drop l.byte-index l.bytes)
-    ≡ l.initial.page.items ++ flat_map quoted_byte l.bytes
+abbrev pub invariant-loop-at : goal.invariant-loop-at
+invariant-loop-at l = record {
+  left : l.page.items ++ flat_map quoted_byte (drop l.at l.bytes) ≡ l.initial.page.items ++ flat_map quoted_byte l.bytes;
+  within : l.at ≤ length l.bytes;
+}
+
+abbrev pub decreases-loop-at : goal.decreases-loop-at
+decreases-loop-at l = length l.bytes - l.at

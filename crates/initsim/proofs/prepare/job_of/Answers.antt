@@ -1,5 +1,5 @@
 use Rattle.std.proofs.Common.{sym, subst, ◌∙◌}
-use Rattle.init_machine.specs.Built.{IsBuiltConfig}
+use Rattle.init_core.specs.Stage.Built.{IsBuiltConfig}
 use Rattle.initsim.proofs.AllBuilt.{all_built}
 use Rattle.initsim.proofs.Complete.{none_of}
 use Rattle.initsim.proofs.prepare.job_of.Goals as goal
