@@ -3,3 +3,4 @@ pub mod Moves
 pub mod Reading
 pub mod OneReader
 pub mod Agains
+pub mod Told

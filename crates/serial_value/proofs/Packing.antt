@@ -3,7 +3,7 @@ use Rattle.std.proofs.Common.{◌≡◌, ℕ, zero, suc, ◌+◌, ◌*◌, ◌<�
 use Rattle.std.specs.Int.{w64, from_le_bytes, to_le_bytes}
 use Rattle.std.proofs.lemmas.Nat.{le_bytes_8}
 use Rattle.std.proofs.lemmas.List.{get_or-drop}
-use Rattle.serial_value.specs.Words.{value_word}
+use Rattle.serial_value.specs.Words.{text_word}
 
 -- eight bytes, with 0 past the end
 abbrev eight : List ℕ → List ℕ
@@ -21,8 +21,8 @@ word_of_eight xs ys same =
     eight_same xs ∙ (ap (from_le_bytes w64) eights ∙ sym (eight_same ys))
 
 -- the word that was put together from a value's bytes
-pub word_from : (value bytes : List ℕ) (k : ℕ) → ((i : ℕ) → i < 8 → get_or bytes i 0 ≡ get_or value (8 * k + i) 0) → from_le_bytes w64 bytes ≡ value_word value k
-unfolding value_word
+pub word_from : (value bytes : List ℕ) (k : ℕ) → ((i : ℕ) → i < 8 → get_or bytes i 0 ≡ get_or value (8 * k + i) 0) → from_le_bytes w64 bytes ≡ text_word value k
+unfolding text_word
 word_from value bytes k same = word_of_eight bytes (drop (8 * k) value) (λ i small. same i small ∙ sym (get_or-drop (8 * k) value i 0))
 
 eight_at : (bs : List ℕ) (j : ℕ) → j < 8 → get_or (eight bs) j 0 ≡ get_or bs j 0
@@ -48,9 +48,9 @@ eight_within bs within (suc (suc (suc (suc (suc (suc (suc zero))))))) = within 7
 eight_within bs within (suc (suc (suc (suc (suc (suc (suc (suc j)))))))) = omega arith
 
 -- byte j of a value's word k
-pub byte_of : (value : List ℕ) (word k j : ℕ) → ((i : ℕ) → get_or value i 0 < 256) → word ≡ value_word value k → j < 8
+pub byte_of : (value : List ℕ) (word k j : ℕ) → ((i : ℕ) → get_or value i 0 < 256) → word ≡ text_word value k → j < 8
     → get_or (to_le_bytes w64 word) j 0 ≡ get_or value (8 * k + j) 0
-unfolding value_word
+unfolding text_word
 byte_of value word k j within is small =
     let bs = drop (8 * k) value in
     let inside : (i : ℕ) → get_or bs i 0 < 256 = λ i. rw (get_or-drop (8 * k) value i 0) (within (8 * k + i)) in

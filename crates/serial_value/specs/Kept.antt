@@ -1,10 +1,12 @@
--- Why each step at the table of one cell keeps its rule. These are the proofs of laws of an impl, which may cite no
--- others: the definitions that contracts cite stand beside this folder.
+-- Why each step keeps its rule. These are the proofs of laws of an impl, which may cite no others: the definitions that
+-- contracts cite stand beside this folder. First what serves any table with cells; from `OneFrame` on the table of one cell.
 pub mod Serials
 pub mod Places
-pub mod History
+pub mod Sets
 pub mod CellWords
-pub mod Readers
+pub mod Worlds
+pub mod Lists
+pub mod Reads
 pub mod OneFrame
 pub mod OneBackup
 pub mod OneDirty
@@ -14,3 +16,4 @@ pub mod OnePresent
 pub mod OneFirst
 pub mod OneCopied
 pub mod OneLast
+pub mod OneLists

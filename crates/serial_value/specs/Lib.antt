@@ -1,9 +1,8 @@
-pub mod Serial
 pub mod Words
-pub mod Sets
-pub mod Facts
 pub mod Cell
 pub mod Steps
+pub mod World
+pub mod History
 pub mod One
 pub mod Stops
 pub mod Kept

@@ -1,7 +1,7 @@
-//! The serial of a cell. Its layout is `specs/Serial.antt`.
+//! The serial of a cell. Its layout is `specs/Serial.antt` of `init_machine`.
 
 ghost use Rattle.std.specs.Prelude.{◌≡◌, ◌<◌, ◌≤◌, ◌^◌, false};
-ghost use Rattle.serial_value.specs.Serial.{clean_serial, length_in, number_in, is_dirty};
+ghost use Rattle.init_machine.specs.Serial.{clean_serial, top_in, number_in, is_dirty};
 
 /// The place value of a serial's top byte.
 const LENGTH_UNIT: u64 = 1 << 56;
@@ -12,14 +12,14 @@ pub fn serial(len: u8, number: u64) -> u64
     requires len { len ≤ 91 }
     requires number { number < 2 ^ 55 }
     ensures layout { result ≡ clean_serial len number }
-    ensures parts { (length_in result ≡ len) × (number_in result ≡ number) × (is_dirty result ≡ false) }
+    ensures parts { (top_in result ≡ len) × (number_in result ≡ number) × (is_dirty result ≡ false) }
 {
     len as u64 * LENGTH_UNIT + number * 2
 }
 
 /// The length, the number and whether it is dirty, of a serial.
 pub fn parts(word: u64) -> (u8, u64, bool)
-    ensures { result ≡ (length_in word, number_in word, is_dirty word) }
+    ensures { result ≡ (top_in word, number_in word, is_dirty word) }
 {
     (
         (word / LENGTH_UNIT) as u8,

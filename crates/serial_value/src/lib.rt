@@ -3,9 +3,11 @@
 //! A cell is a serial and twelve value words, as in bionic's property area. A reader loads the serial, the words, and the
 //! serial again: where both are one, it has the whole value of the set that the serial numbers. `write_cell` and
 //! `read_cell` are proved for every rule that meets `CellRule`, and `OneCell` is such a rule. The definitions stand in
-//! `specs/`; docs/AREA.md says in plain words why no reader sees a torn value.
+//! `specs/`, and those of sets, serials and what readers are told in `init_machine`; docs/AREA.md says in plain words why no
+//! reader sees a torn value.
 #![tactic(auto)]
 
+mod history;
 mod layout;
 mod one;
 mod read;
@@ -17,10 +19,11 @@ mod view;
 mod words;
 mod write;
 
+pub use history::reader_history;
 pub use layout::{parts, serial};
-pub use one::{OneCell, OneSeat, OneTable, OneView, one_cell, one_history, one_reader};
+pub use one::{OneCell, OneSeat, OneTable, OneView, one_cell, one_reader};
 pub use read::{CellAnswer, read_cell};
 pub use rule::{Asked, CellRule};
-pub use view::{Bytes, CellView, Copying, Fact, Making, Set};
+pub use view::{Bytes, CellView, Copying, Making, Set};
 pub use words::word_of;
 pub use write::write_cell;

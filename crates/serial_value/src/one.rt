@@ -1,26 +1,27 @@
 //! A table of one cell, whose one name is `a`. It shows that a rule can meet the laws of `CellRule`.
 
 ghost use Rattle.std.specs.Prelude.{◌≡◌, ◌<◌, ◌≤◌, ◌+◌, [], length, IfOk, IsOkAnd};
-ghost use Rattle.serial_value.specs.Sets.{IsValue};
+ghost use Rattle.serial_value.specs.Words.{IsValue};
 ghost use Rattle.serial_value.specs.Cell.{IsWriter};
 ghost use Rattle.serial_value.specs.Steps.{IsSameSeat};
-ghost use Rattle.serial_value.specs.One.{begins, new_reader, HasFirst, SomeHistory};
+ghost use Rattle.serial_value.specs.One.{begins, new_reader, HasFirst};
 
 use crate::layout::serial;
 use crate::rule::CellRule;
-use crate::view::{CellView, Fact};
+use crate::view::{CellView, Set};
 use crate::words::word_of;
-use atomic_table::{Play, Seat, Split, Table, TableRule};
+use atomic_table::{Seat, Split, Table, TableRule};
 use init_base::{NoMemory, PropValue, Text};
+use init_machine::ClientItem;
 use std::alloc::Global;
 use std::collections::LinkedList;
 
-/// What a seat at a table of one cell knows: its part of the cell, how many sets there were when the seat began, and the
-/// facts that it has learned since. No value of it is made.
+/// What a seat at a table of one cell knows: its part of the cell, the sets that there were when the seat began, and what it
+/// was told since. No value of it is made.
 pub struct OneView {
     pub cell: CellView,
-    pub began: u64,
-    pub facts: LinkedList<Fact>,
+    pub began: LinkedList<Set>,
+    pub list: LinkedList<ClientItem>,
 }
 
 /// The rule of that table. It is told the value of the first set.
@@ -44,12 +45,15 @@ impl CellRule<OneView, Text> for OneCell {
     ghost use Rattle.serial_value.specs.Kept.OneFirst.{one_first};
     ghost use Rattle.serial_value.specs.Kept.OneCopied.{one_copied};
     ghost use Rattle.serial_value.specs.Kept.OneLast.{one_last};
+    ghost use Rattle.serial_value.specs.Kept.OneLists.{one_writer, one_lists};
 
     ghost cell = { λ v. v.cell };
 
     ghost with_cell = { with_one_cell };
 
-    ghost facts = { λ v. v.facts };
+    ghost began = { λ v. v.began };
+
+    ghost list = { λ v. v.list };
 
     ghost noted = { noted_one };
 
@@ -65,15 +69,21 @@ impl CellRule<OneView, Text> for OneCell {
 
     ghost with_with = { λ v c d. refl };
 
-    ghost facts_with = { λ v c. refl };
+    ghost list_with = { λ v c. (refl, refl) };
 
-    ghost cell_noted = { λ v f. refl };
+    ghost cell_noted = { λ v r. refl };
 
-    ghost facts_noted = { λ v f. refl };
+    ghost list_noted = { λ v r. (refl, refl) };
 
     ghost linked_with = { λ v c name place linked. linked };
 
+    ghost linked_noted = { λ v r name place linked. linked };
+
     ghost settled_with = { λ v name value place done settled. settled };
+
+    ghost writer_there = { one_writer };
+
+    ghost lists_stand = { one_lists };
 
     ghost backup_word = { one_backup };
 
@@ -139,24 +149,4 @@ pub fn one_cell(alloc: Global, value: PropValue<'_>) -> Result<(OneTable, OneSea
     let text = Text::of(alloc, value.bytes)?;
     let words = first_words(value.bytes);
     Ok(Table::of_words(alloc, &words, &text)?)
-}
-
-/// A load that tells what a reader has learned.
-struct Told;
-
-impl Play<(), OneView> for Told {
-    ghost use Rattle.std.specs.Prelude.{◌≡◌};
-    ghost use Rattle.serial_value.specs.One.{SomeHistory};
-
-    ghost then = { λ st m n after. (after ≡ m) × SomeHistory m.0.cell m.0.began m.0.facts };
-}
-
-/// What a reader has learned holds of one history: its facts are true and in order, and it met at most two writes for each
-/// set since it began. It is one load of the area serial, and changes nothing.
-pub fn one_history(table: &OneTable, seat: &mut OneSeat)
-    requires table { (seat.old.table_id ≡ table.now.shared.table_id) × (0 < table.now.shared.table_id.words) }
-    ensures seat { IsSameSeat seat.old seat.new × (seat.new.me ≡ seat.old.me) }
-    ensures facts { SomeHistory seat.old.me.0.cell seat.old.me.0.began seat.old.me.0.facts }
-{
-    table.shared.load::<Told>(seat, 0);
 }

@@ -57,7 +57,7 @@ pub(crate) fn copy_words<V, K, R: CellRule<V, K>, Q: Asked>(
 
 /// What the serials say: the value, which is whole, or that a write came between.
 pub(crate) fn close(first: u64, last: u64, words: &[u64; 12], out: &mut [u8; 91]) -> CellAnswer
-    ensures { Closes first last words.now result out.new }
+    ensures { Closes first last words.now result out.old out.new }
 {
     if first != last {
         return CellAnswer::Again {
@@ -82,7 +82,7 @@ fn read_as<V, K, R: CellRule<V, K>, Q: Asked>(
     requires place { HasCell table.now.shared.table_id at }
     requires linked { R.Linked seat.old.me.0 Q.name Q.place }
     ensures seat { IsSameSeat seat.old seat.new × (seat.new.me.1 ≡ seat.old.me.1) }
-    ensures answer { Answers R.with_cell R.noted (R.cell seat.old.me.0) seat.old.me.0 Q.name result out.new seat.new.me.0 }
+    ensures answer { Answers R.with_cell R.noted (R.cell seat.old.me.0) seat.old.me.0 Q.name result out.old out.new seat.new.me.0 }
 {
     let first = first_serial::<V, K, R, Q>(table, seat, at);
     let words = copy_words::<V, K, R, Q>(table, seat, words_place(at, first));
@@ -92,7 +92,8 @@ fn read_as<V, K, R: CellRule<V, K>, Q: Asked>(
 
 /// One attempt to read the cell of a name. It loads the serial, the twelve words (of the value, or of the backup where the
 /// serial is dirty) and the serial again, takes no lock and waits for nothing. `Found` exactly where both serials are one,
-/// and then `out` begins with the value; else `Again` with both. On a reader's seat it notes the one fact that it tells.
+/// and then `out` begins with the value; else `Again` with both, and `out` is as before. On a reader's seat it notes the one
+/// reading that it tells.
 pub fn read_cell<V, K, R: CellRule<V, K>>(
     table: &Table<(), V, K, R, Global>,
     seat: &mut Seat<(), V>,
@@ -104,7 +105,8 @@ pub fn read_cell<V, K, R: CellRule<V, K>>(
     requires place { HasCell table.now.shared.table_id at }
     requires linked { R.Linked seat.old.me.0 name.bytes.now at }
     ensures seat { IsSameSeat seat.old seat.new × (seat.new.me.1 ≡ seat.old.me.1) }
-    ensures answer { Answers R.with_cell R.noted (R.cell seat.old.me.0) seat.old.me.0 name.entry.bytes.now result out.new seat.new.me.0 }
+    ensures answer { Answers R.with_cell R.noted (R.cell seat.old.me.0) seat.old.me.0 name.entry.bytes.now result out.old out.new seat.new.me.0 }
+    ensures linked { R.Linked seat.new.me.0 name.entry.bytes.now at }
 {
     read_as::<V, K, R, Brand>(table, seat, at, name.bytes, out)
 }

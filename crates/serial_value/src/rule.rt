@@ -1,14 +1,19 @@
 //! What a rule over a table owes so that cells may stand in it: one law for each kind of step.
 
 ghost use Rattle.std.specs.Prelude.{◌≡◌, ◌≢◌, ◌<◌, ◌≤◌, ◌+◌, ◌^◌, ◌++◌, ◌∷◌, [], ℕ, List, length, None};
-ghost use Rattle.atomic_table.specs.Table.{Allows, Me};
+ghost use mathlib.Core.Option.{some};
+ghost use lib.ListN.{get_elem?};
+ghost use Rattle.atomic_table.specs.Table.{State, Allows, Me};
+ghost use Rattle.init_machine.specs.Serial.{top_byte, clean_serial as clean_serial_of, dirty_serial as dirty_serial_of};
+ghost use Rattle.init_machine.specs.Sets.{Set};
+ghost use Rattle.init_machine.specs.declared.client.ClientItem.{ClientItem};
+ghost use Rattle.init_machine.specs.declared.client.ClientItem.TheVariants.{Told};
+ghost use Rattle.init_machine.specs.declared.report.Reading.{Reading};
 ghost use Rattle.serial_value.specs.declared.view.CellView.{CellView};
 ghost use Rattle.serial_value.specs.declared.view.CellView.TheVariants.{Writer};
-ghost use Rattle.serial_value.specs.declared.view.Fact.{Fact};
-ghost use Rattle.serial_value.specs.Serial.{clean_serial as clean_serial_of, dirty_serial as dirty_serial_of};
-ghost use Rattle.serial_value.specs.Words.{value_word as word_of_value};
-ghost use Rattle.serial_value.specs.Sets.{IsValue};
-ghost use Rattle.serial_value.specs.Cell.{sets_of, updating, accepted, IsUpdating, IsPresentSerial, IsPresentWord};
+ghost use Rattle.serial_value.specs.Words.{body_word, IsValue};
+ghost use Rattle.serial_value.specs.Cell.{sets_of, making_of, IsWriter, ReaderStands};
+ghost use Rattle.serial_value.specs.Cell.{updating, accepted, IsUpdating, IsPresentSerial, IsPresentWord};
 ghost use Rattle.serial_value.specs.Cell.{Begins, LiesAt, Copies, IsCopied, Ends};
 
 use atomic_table::TableRule;
@@ -43,10 +48,13 @@ pub trait CellRule<V, K>: TableRule<(), V, K> {
 
     ghost with_cell: { V → CellView → V };
 
-    /// The facts of a reader's client, and the view with one more.
-    ghost facts: { V → List Fact };
+    /// The sets that there were when a reader's client began, and the client's list.
+    ghost began: { V → List Set };
 
-    ghost noted: { V → Fact → V };
+    ghost list: { V → List ClientItem };
+
+    /// The view whose list has one more reading.
+    ghost noted: { V → Reading → V };
 
     /// The name's cell is linked at this place, as the seat knows.
     ghost Linked: { V → List ℕ → ℕ → Type 0 };
@@ -63,18 +71,30 @@ pub trait CellRule<V, K>: TableRule<(), V, K> {
 
     ghost with_with: { (v : V) (c d : CellView) → with_cell (with_cell v c) d ≡ with_cell v d };
 
-    ghost facts_with: { (v : V) (c : CellView) → facts (with_cell v c) ≡ facts v };
+    ghost list_with: { (v : V) (c : CellView) → (list (with_cell v c) ≡ list v) × (began (with_cell v c) ≡ began v) };
 
-    ghost cell_noted: { (v : V) (f : Fact) → cell (noted v f) ≡ cell v };
+    ghost cell_noted: { (v : V) (r : Reading) → cell (noted v r) ≡ cell v };
 
-    ghost facts_noted: { (v : V) (f : Fact) → facts (noted v f) ≡ facts v ++ f ∷ [] };
+    ghost list_noted: { (v : V) (r : Reading) → (list (noted v r) ≡ list v ++ Told r ∷ []) × (began (noted v r) ≡ began v) };
 
     ghost linked_with: { (v : V) (c : CellView) (name : List ℕ) (place : ℕ) →
         Linked v name place → Linked (with_cell v c) name place };
 
+    ghost linked_noted: { (v : V) (r : Reading) (name : List ℕ) (place : ℕ) →
+        Linked v name place → Linked (noted v r) name place };
+
     /// An update that is under way doesn't unsettle the writer.
     ghost settled_with: { (v : V) (name value : List ℕ) (place done : ℕ) →
         Settled v → Settled (with_cell v (updating (sets_of (cell v)) name value place done)) };
+
+    /// Some seat is the writer's.
+    ghost writer_there: { (key : K) (s : State Unit V) → Self.holds key s →
+        (writer : ℕ) × (w : V) × (get_elem? s.views writer ≡ some w) × IsWriter (cell w) };
+
+    /// What readers were told is true of the writer's sets, and in order.
+    ghost lists_stand: { (key : K) (s : State Unit V) (writer seat : ℕ) (w v : V) →
+        Self.holds key s → get_elem? s.views writer ≡ some w → IsWriter (cell w) → get_elem? s.views seat ≡ some v →
+        ReaderStands (sets_of (cell w)) (making_of (cell w)) (cell v) (began v) (list v) };
 
     /// The backup gets word k of the old value.
     ghost backup_word: { (key : K) (slots id : ℕ) (m : Me Unit V) (name value : List ℕ) (place k word : ℕ) →
@@ -93,7 +113,7 @@ pub trait CellRule<V, K>: TableRule<(), V, K> {
     /// The cell gets word k of the new value.
     ghost value_word: { (key : K) (slots id : ℕ) (m : Me Unit V) (name value : List ℕ) (place k : ℕ) →
         Settled m.0 → Linked m.0 name place → IsUpdating (cell m.0) name value place (13 + k) → k < 12 →
-        Allows (Self.holds key) slots id m (place + 1 + k) (λ _. word_of_value value k)
+        Allows (Self.holds key) slots id m (place + 1 + k) (λ _. body_word value k)
         (λ _ after. after ≡ (with_cell m.0 (updating (sets_of (cell m.0)) name value place (13 + k + 1)), m.1)) };
 
     /// The cell gets the clean serial of the new value, with which the set is accepted.
@@ -101,7 +121,7 @@ pub trait CellRule<V, K>: TableRule<(), V, K> {
         Settled m.0 → Linked m.0 name place → IsUpdating (cell m.0) name value place 25 →
         length (sets_of (cell m.0)) + 1 < 2 ^ 55 →
         Allows (Self.holds key) slots id m place
-        (λ _. clean_serial_of (length value) (length (sets_of (cell m.0)) + 1))
+        (λ _. clean_serial_of (top_byte value) (length (sets_of (cell m.0)) + 1))
         (λ _ after. after ≡ (with_cell m.0 (accepted (cell m.0) name value), m.1)) };
 
     /// A read loads the serial.

@@ -1,9 +1,8 @@
 //! The steps at a cell. Each is one load or one store of one word, for every rule that meets `CellRule`.
 
 ghost use Rattle.std.specs.Prelude.{◌≡◌, ◌<◌, ◌≤◌, ◌+◌, ◌^◌, length};
-ghost use Rattle.serial_value.specs.Serial.{clean_serial as clean_serial_of, dirty_serial as dirty_serial_of};
-ghost use Rattle.serial_value.specs.Words.{value_word as word_of_value};
-ghost use Rattle.serial_value.specs.Sets.{IsValue};
+ghost use Rattle.init_machine.specs.Serial.{top_byte, clean_serial as clean_serial_of, dirty_serial as dirty_serial_of};
+ghost use Rattle.serial_value.specs.Words.{body_word, IsValue};
 ghost use Rattle.serial_value.specs.Cell.{sets_of, updating, accepted, IsUpdating, IsPresentSerial, IsPresentWord};
 ghost use Rattle.serial_value.specs.Cell.{Begins, LiesAt, Copies, IsCopied, Ends};
 ghost use Rattle.serial_value.specs.Steps.{IsSameSeat, HasCell};
@@ -109,7 +108,7 @@ pub fn value_word<V, K, R: CellRule<V, K>, Q: Asked>(
     requires place { HasCell table.now.shared.table_id at × (at ≡ Q.place) }
     requires writer { R.Settled seat.old.me.0 × R.Linked seat.old.me.0 Q.name Q.place }
     requires update { IsUpdating (R.cell seat.old.me.0) Q.name Q.value Q.place (13 + k) × (k < 12) × (Q.index ≡ 13 + k + 1) }
-    requires word { word ≡ word_of_value Q.value k }
+    requires word { word ≡ body_word Q.value k }
     ensures seat { IsSameSeat seat.old seat.new }
     ensures view { seat.new.me
         ≡ (R.with_cell seat.old.me.0 (updating (sets_of (R.cell seat.old.me.0)) Q.name Q.value Q.place Q.index), seat.old.me.1) }
@@ -130,7 +129,7 @@ pub fn clean_serial<V, K, R: CellRule<V, K>, Q: Asked>(
     requires place { HasCell table.now.shared.table_id at × (at ≡ Q.place) }
     requires writer { R.Settled seat.old.me.0 × R.Linked seat.old.me.0 Q.name Q.place }
     requires update { IsUpdating (R.cell seat.old.me.0) Q.name Q.value Q.place 25 × (length (sets_of (R.cell seat.old.me.0)) + 1 < 2 ^ 55) }
-    requires word { word ≡ clean_serial_of (length Q.value) (length (sets_of (R.cell seat.old.me.0)) + 1) }
+    requires word { word ≡ clean_serial_of (top_byte Q.value) (length (sets_of (R.cell seat.old.me.0)) + 1) }
     ensures seat { IsSameSeat seat.old seat.new }
     ensures view { seat.new.me
         ≡ (R.with_cell seat.old.me.0 (accepted (R.cell seat.old.me.0) Q.name Q.value), seat.old.me.1) }

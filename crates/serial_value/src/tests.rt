@@ -1,12 +1,12 @@
 ghost use Rattle.std.specs.Prelude.{◌≡◌, ◌<◌, ◌≤◌, ◌+◌, [], ◌∷◌, length, codes};
-ghost use Rattle.serial_value.specs.Sets.{set_of};
-ghost use Rattle.serial_value.specs.Cell.{IsWriter, updating};
+ghost use Rattle.serial_value.specs.Cell.{IsReader, updating};
 ghost use Rattle.serial_value.specs.Steps.{IsSameSeat};
-ghost use Rattle.serial_value.specs.One.{the_name, the_place, Linked};
-ghost use Rattle.serial_value.specs.Stops.{at_stop, IsReader};
+ghost use Rattle.serial_value.specs.One.{the_name, the_place};
+ghost use Rattle.serial_value.specs.Stops.{at_stop};
 
+use crate::history::reader_history;
 use crate::layout::{parts, serial};
-use crate::one::{OneCell, OneSeat, OneTable, OneView, one_cell, one_history, one_reader};
+use crate::one::{OneCell, OneSeat, OneTable, OneView, one_cell, one_reader};
 use crate::read::{CellAnswer, close, copy_words, read_cell, words_place};
 use crate::rule::Asked;
 use crate::steps::{
@@ -25,7 +25,7 @@ const CELL: usize = 16;
 fn store<Q: Asked>(table: &OneTable, writer: &mut OneSeat, done: usize, old: &[u8], new: &[u8])
     requires asked { new.now ≡ Q.value }
     requires table { (writer.old.table_id ≡ table.now.shared.table_id) × (table.now.shared.table_id.words ≡ 29) }
-    requires stop { (done < 26) × (writer.old.me.0.cell ≡ updating (set_of the_name old.now ∷ []) the_name new.now the_place done) }
+    requires stop { (done < 26) × (writer.old.me.0.cell ≡ updating ((the_name, old.now) ∷ []) the_name new.now the_place done) }
     requires short { (length old.now ≤ 91) × (length new.now ≤ 91) }
     ensures seat { IsSameSeat writer.old writer.new }
     ensures stop { writer.new.me.0.cell ≡ at_stop old.now new.now (done + 1) }
@@ -164,7 +164,7 @@ fn cell_at_every_stop(rt: HostRuntime) -> Result<(), Fail> {
         store::<Brand>(&table, &mut writer, done, b"old", b"newer");
     }
     reads_at_stop::<Brand>(&rt, &table, &mut reader, &mut writer, 26);
-    one_history(&table, &mut reader);
+    reader_history(&table, &mut reader);
     Ok(())
 }
 

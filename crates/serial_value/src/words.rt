@@ -1,21 +1,20 @@
-//! A value's bytes in words. The layout is `specs/Words.antt`.
+//! Bytes in words. The layout is `specs/Words.antt`.
 
 ghost use Rattle.std.specs.Prelude.{◌≡◌, ◌<◌, ◌≤◌, ◌+◌, ◌*◌, ◌⊎◌, ℕ, List, length, slice_index};
 ghost use Rattle.std.specs.Int.{w64, to_le_bytes};
-ghost use Rattle.serial_value.specs.Words.{value_word, HasWords};
-ghost use Rattle.serial_value.specs.Sets.{IsValue};
+ghost use Rattle.serial_value.specs.Words.{text_word, IsValue, HasBody};
 
-/// Word `k` of a value.
-pub fn word_of(value: &[u8], k: usize) -> u64
-    requires k { k < 12 }
-    requires short { length value.now ≤ 91 }
-    ensures { result ≡ value_word value.now k }
+/// Word `k` of a text, as a value or a part of a name.
+pub fn word_of(text: &[u8], k: usize) -> u64
+    requires k { k < 32 }
+    requires short { length text.now ≤ 255 }
+    ensures { result ≡ text_word text.now k }
 {
     let start = 8 * k;
     let mut bytes = [0u8; 8];
     for j in 0..8 {
-        if start + j < value.len() {
-            bytes[j] = value[start + j];
+        if start + j < text.len() {
+            bytes[j] = text[start + j];
         }
     }
     u64::from_le_bytes(bytes)
@@ -23,7 +22,7 @@ pub fn word_of(value: &[u8], k: usize) -> u64
 
 /// Writes the bytes of the words of a value. A byte past its end is 0.
 pub(crate) fn unpack(words: &[u64; 12], out: &mut [u8; 91])
-    ensures { (value : List ℕ) → IsValue value → HasWords words.now 12 value
+    ensures { (value : List ℕ) → IsValue value → HasBody words.now value
         → (i : ℕ) → i < 91 → slice_index out.new i ≡ slice_index value i }
 {
     for k in 0..11 {

@@ -2,7 +2,7 @@
 
 ghost use Rattle.std.specs.Prelude.{◌≡◌, ◌<◌, ◌≤◌, ◌+◌, ◌^◌, None, length};
 ghost use Rattle.serial_value.specs.declared.view.CellView.TheVariants.{Writer};
-ghost use Rattle.serial_value.specs.Sets.{IsValue};
+ghost use Rattle.serial_value.specs.Words.{IsValue};
 ghost use Rattle.serial_value.specs.Cell.{sets_of, updating, accepted, IsUpdating, AreOldWords};
 ghost use Rattle.serial_value.specs.Steps.{IsSameSeat, HasCell};
 

@@ -3,21 +3,21 @@ use Rattle.std.proofs.Common.{◌≡◌, ◌≢◌, ℕ, zero, suc, ◌<◌, ◌
 use mathlib.Core.Option.{some}
 use lib.ListN.{get_elem?}
 use lib.Seq.{set-get_or}
+use Rattle.std.proofs.lemmas.List.{append-nil}
 use Rattle.atomic_table.specs.Table.{State, keeps, stepped}
 use Rattle.atomic_table.proofs.Lists.{at_set}
-use Rattle.serial_value.specs.declared.view.Set.{Set}
-use Rattle.serial_value.specs.declared.view.Fact.{Fact}
+use Rattle.init_machine.specs.Sets.{Set, LastSet}
+use Rattle.init_machine.specs.declared.client.ClientItem.{ClientItem}
 use Rattle.serial_value.specs.declared.view.Making.{Making}
-use Rattle.serial_value.specs.declared.view.Copying.{Copying}
 use Rattle.serial_value.specs.declared.view.CellView.{CellView}
-use Rattle.serial_value.specs.declared.view.CellView.TheVariants.{Writer}
+use Rattle.serial_value.specs.declared.view.CellView.TheVariants.{Writer, Reader}
 use Rattle.serial_value.specs.declared.one.OneView.{OneView}
-use Rattle.serial_value.specs.Sets.{IsValue, LastSet}
-use Rattle.serial_value.specs.Cell.{sets_of, update, IsUpdating}
-use Rattle.serial_value.specs.One.{the_name, the_place, OneHolds, CellHolds, ReaderHolds, ViewHolds, MayMake, done_of, new_value, name_of, with_cell}
-use Rattle.std.proofs.lemmas.List.{append-nil}
-use Rattle.serial_value.specs.Kept.History.{Follows}
-use Rattle.serial_value.specs.Kept.Readers.{reader_waits, other_view}
+use Rattle.serial_value.specs.Words.{IsValue}
+use Rattle.serial_value.specs.Cell.{sets_of, name_of, update, IsUpdating}
+use Rattle.serial_value.specs.World.{Moved, Later}
+use Rattle.serial_value.specs.World.Moved.{stays}
+use Rattle.serial_value.specs.One.{the_name, the_place, OneHolds, CellHolds, ViewHolds, MayMake, done_of, new_value, serial_on, world_of, with_cell}
+use Rattle.serial_value.specs.Kept.Worlds.{reader_later}
 
 abbrev pub St : Type 0
 St = State (Unit {0}) OneView
@@ -30,7 +30,7 @@ Carried = List (ℕ × Unit {0})
 
 -- a step of a reader: no word changes, and its new view holds
 pub reads : (s : St) (h : OneHolds s) (i id : ℕ) (cs : Carried) (w : OneView)
-    → ViewHolds (serial_in s) h.writer h.sets h.making id w.cell w.began w.facts
+    → ViewHolds (serial_in s) h.writer h.sets h.making id w.cell w.began w.list
     → OneHolds (stepped s i (get_or s.words i 0) id cs w keeps)
 reads s h i id cs w mine =
     subst (λ (ws : List ℕ). OneHolds record { words = ws; homes = s.homes; views = set s.views id w }) (sym (set-get_or s.words i 0)) record {
@@ -45,8 +45,9 @@ reads s h i id cs w mine =
       last = h.last;
       made = h.made;
       cell = h.cell;
+      there = let l = length-set s.views id w in let t = h.there in omega arith;
       each = λ seat v e. ⊎_elim
-          (λ (t : (seat ≡ id) × (w ≡ v)). subst (λ (x : ℕ × OneView). ViewHolds (serial_in s) h.writer h.sets h.making x.0 x.1.cell x.1.began x.1.facts) (λ j. (sym t.0 j, t.1 j)) mine)
+          (λ (t : (seat ≡ id) × (w ≡ v)). subst (λ (x : ℕ × OneView). ViewHolds (serial_in s) h.writer h.sets h.making x.0 x.1.cell x.1.began x.1.list) (λ j. (sym t.0 j, t.1 j)) mine)
           (λ (t : (seat ≢ id) × (get_elem? s.views seat ≡ some v)). h.each seat v t.1)
           (at_set s.views id seat w v e);
     }
@@ -58,18 +59,24 @@ pub record After (s : St) (i n : ℕ) : Type 0 where
   pub number : ℕ
   pub value : List ℕ
   pub few : length sets < 2 ^ 55
-  pub named : (i : ℕ) (set : Set) → get_elem? sets i ≡ some set → (set.name ≡ the_name) × IsValue set.value
+  pub named : (i : ℕ) (set : Set) → get_elem? sets i ≡ some set → (set.0 ≡ the_name) × IsValue set.1
   pub last : LastSet sets (length sets) the_name number value
   pub made : MayMake making
   pub cell : CellHolds (set s.words i n) the_place number value (new_value making) (done_of making)
 
--- a store of the writer: the words and the sets hold, and readers' views still do
+-- another seat's view at a later moment
+other_view : (word word' writer : ℕ) (sets sets' : List Set) (making making' : Option Making) (seat : ℕ) (cell : CellView) (began : List Set) (list : List ClientItem)
+    → seat ≢ writer → Later (world_of word sets making) (world_of word' sets' making')
+    → ViewHolds word writer sets making seat cell began list → ViewHolds word' writer sets' making' seat cell began list
+other_view word word' writer sets sets' making making' seat (Writer s m) began list other later h = absurd (other h.0)
+other_view word word' writer sets sets' making making' seat (Reader number copying) began list other later h =
+    (other, reader_later (world_of word sets making) (world_of word' sets' making') later number copying began list h.1)
+
+-- a store of the writer: the words and the sets hold, and the moment that it leads to is a later one
 pub writes : (s : St) (h : OneHolds s) (i n id : ℕ) (cs : Carried) (v : OneView) (a : After s i n)
-    → id ≡ h.writer
-    → ((number : ℕ) (copying : Option Copying) (began : ℕ) (facts : List Fact) → ReaderHolds (serial_in s) h.sets (name_of h.making) number copying began facts
-    → ReaderHolds (get_or (set s.words i n) the_place 0) a.sets (name_of a.making) number copying began facts)
+    → id ≡ h.writer → Later (world_of (serial_in s) h.sets h.making) (world_of (get_or (set s.words i n) the_place 0) a.sets a.making)
     → OneHolds (stepped s i n id cs (with_cell v (Writer a.sets a.making)) keeps)
-writes s h i n id cs v a mine readers = let w = with_cell v (Writer a.sets a.making) in let word = get_or (set s.words i n) the_place 0 in record {
+writes s h i n id cs v a mine later = let w = with_cell v (Writer a.sets a.making) in let word = get_or (set s.words i n) the_place 0 in record {
   writer = h.writer;
   sets = a.sets;
   making = a.making;
@@ -81,10 +88,11 @@ writes s h i n id cs v a mine readers = let w = with_cell v (Writer a.sets a.mak
   last = a.last;
   made = a.made;
   cell = a.cell;
+  there = let l = length-set s.views id w in let t = h.there in omega arith;
   each = λ seat u e. ⊎_elim
-      (λ (t : (seat ≡ id) × (w ≡ u)). subst (λ (x : OneView). ViewHolds word h.writer a.sets a.making seat x.cell x.began x.facts) t.1 (t.0 ∙ mine, refl, refl))
-      (λ (t : (seat ≢ id) × (get_elem? s.views seat ≡ some u)). other_view (serial_in s) word h.writer h.sets a.sets h.making a.making seat u.cell u.began u.facts
-      (λ is. t.0 (is ∙ sym mine)) (λ number copying. readers number copying u.began u.facts) (h.each seat u t.1))
+      (λ (t : (seat ≡ id) × (w ≡ u)). subst (λ (x : OneView). ViewHolds word h.writer a.sets a.making seat x.cell x.began x.list) t.1 (t.0 ∙ mine, refl, refl))
+      (λ (t : (seat ≢ id) × (get_elem? s.views seat ≡ some u)). other_view (serial_in s) word h.writer h.sets a.sets h.making a.making seat u.cell u.began u.list
+      (λ is. t.0 (is ∙ sym mine)) later (h.each seat u t.1))
       (at_set s.views id seat w u e);
 }
 
@@ -97,7 +105,7 @@ pub record Mine (s : St) (h : OneHolds s) (id : ℕ) (v : OneView) (name value :
 pub mine : (s : St) (h : OneHolds s) (id : ℕ) (v : OneView) (name value : List ℕ) (place done : ℕ) → get_elem? s.views id ≡ some v
     → IsUpdating v.cell name value place done → Mine s h id v name value place done
 mine s h id v name value place done here is =
-    let known = subst (λ (c : CellView). ViewHolds (serial_in s) h.writer h.sets h.making id c v.began v.facts) is (h.each id v here) in
+    let known = subst (λ (c : CellView). ViewHolds (serial_in s) h.writer h.sets h.making id c v.began v.list) is (h.each id v here) in
     record { writes = known.0; sets_are = known.1; making_is = known.2 }
 
 pub done-update : (name value : List ℕ) (place done : ℕ) → done_of (update name value place done) ≡ done
@@ -120,22 +128,27 @@ pub made-update : (name value : List ℕ) (place done : ℕ) → name ≡ the_na
 made-update name value place zero n p v d = tt
 made-update name value place (suc done) n p v d = (n, p, v, d)
 
--- an update begins or goes on
-pub goes_on : (sets : List Set) (making making' : Option (List ℕ)) → ((q : List ℕ) → making ≡ Some q → making' ≡ Some q) → Follows sets making sets making'
-goes_on sets making making' step = record {
+-- a moment with the same sets, at which an update begins or goes on
+pub goes_on : (word word' : ℕ) (sets : List Set) (making making' : Option Making)
+    → ((q : List ℕ) → name_of making ≡ Some q → name_of making' ≡ Some q)
+    → ((name : List ℕ) → Moved (world_of word sets making) (world_of word' sets making') name)
+    → Later (world_of word sets making) (world_of word' sets making')
+goes_on word word' sets making making' step moves = record {
   more = [];
   grown = sym (append-nil sets);
   kept = λ q low within is. inr (step q is);
+  moves = moves;
 }
 
 -- a store that leaves the serial and the sets
-pub readers_wait : (s : St) (h : OneHolds s) (i n : ℕ) (making' : Option Making) → the_place ≢ i
+pub waits : (s : St) (h : OneHolds s) (i n : ℕ) (making' : Option Making) → the_place ≢ i
     → ((q : List ℕ) → name_of h.making ≡ Some q → name_of making' ≡ Some q)
-    → (number : ℕ) (copying : Option Copying) (began : ℕ) (facts : List Fact) → ReaderHolds (serial_in s) h.sets (name_of h.making) number copying began facts
-    → ReaderHolds (get_or (set s.words i n) the_place 0) h.sets (name_of making') number copying began facts
-readers_wait s h i n making' other step number copying began facts r =
-    subst (λ (word : ℕ). ReaderHolds word h.sets (name_of making') number copying began facts) (sym (get_or-set_other s.words i the_place n 0 other))
-    (reader_waits (serial_in s) h.sets (name_of h.making) (name_of making') number copying began facts (goes_on h.sets (name_of h.making) (name_of making') step) r)
+    → Later (world_of (serial_in s) h.sets h.making) (world_of (get_or (set s.words i n) the_place 0) h.sets making')
+waits s h i n making' other step =
+    goes_on (serial_in s) (get_or (set s.words i n) the_place 0) h.sets h.making making' step
+    (λ name. stays
+    (ap (λ (word : ℕ). serial_on word name) (get_or-set_other s.words i the_place n 0 other))
+    (λ k value above below e. omega arith))
 
 -- the cell as the writer knows it
 pub cell_known : (s : St) (h : OneHolds s) (id : ℕ) (v : OneView) (name value : List ℕ) (place done : ℕ) → Mine s h id v name value place done

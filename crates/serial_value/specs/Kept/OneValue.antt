@@ -1,23 +1,23 @@
 -- A value word keeps the rule of the one cell.
 use Rattle.std.proofs.Common.{◌≡◌, ℕ, ◌+◌, ◌<◌, ◌≤◌, List, length, set, sym, refl, ap, ◌∙◌, subst, arith}
 use Rattle.atomic_table.specs.Table.{Me, Allows, keeps, stepped}
-use Rattle.serial_value.specs.declared.view.Set.{Set}
+use Rattle.init_machine.specs.Sets.{Set}
 use Rattle.serial_value.specs.declared.view.CellView.TheVariants.{Writer}
 use Rattle.serial_value.specs.declared.one.OneView.{OneView}
-use Rattle.serial_value.specs.Words.{value_word}
-use Rattle.serial_value.specs.Cell.{sets_of, update, updating, IsUpdating}
-use Rattle.serial_value.specs.One.{the_place, OneHolds, CellHolds, name_of, with_cell, Linked}
-use Rattle.serial_value.specs.Kept.OneFrame.{After, writes, mine, readers_wait, cell_known, legal_known, done-update, new-update, name-update_later, made-update}
+use Rattle.serial_value.specs.Words.{body_word}
+use Rattle.serial_value.specs.Cell.{sets_of, name_of, update, updating, IsUpdating}
+use Rattle.serial_value.specs.One.{the_place, OneHolds, CellHolds, with_cell, Linked}
+use Rattle.serial_value.specs.Kept.OneFrame.{After, writes, mine, waits, cell_known, legal_known, done-update, new-update, name-update_later, made-update}
 use Rattle.serial_value.specs.Kept.CellWords.{cell_value}
 
 pub one_value : (key : List ℕ) (slots id : ℕ) (m : Me (Unit {0}) OneView) (name value : List ℕ) (place k : ℕ)
     → Unit {0} → Linked m.0 name place → IsUpdating m.0.cell name value place (13 + k) → k < 12
-    → Allows OneHolds slots id m (place + 1 + k) (λ _. value_word value k) (λ _ after. after ≡ (with_cell m.0 (updating (sets_of m.0.cell) name value place (13 + k + 1)), m.1))
+    → Allows OneHolds slots id m (place + 1 + k) (λ _. body_word value k) (λ _ after. after ≡ (with_cell m.0 (updating (sets_of m.0.cell) name value place (13 + k + 1)), m.1))
 one_value key slots id m name value place k settled linked is small s h size here fits =
     let done : ℕ = 13 + k in
     let known = mine s h id m.0 name value place done here is in
     let next = update name value place (done + 1) in
-    let word = value_word value k in
+    let word = body_word value k in
     let inside : the_place + 13 ≤ length s.words = let wide = h.wide in omega arith in
     let before : CellHolds s.words the_place h.number h.value value done =
     subst (λ (new : List ℕ). CellHolds s.words the_place h.number h.value new done) (new-update name value place done (omega arith)) (cell_known s h id m.0 name value place done known) in
@@ -40,6 +40,6 @@ one_value key slots id m name value place k settled linked is small s h size her
       tt,
       subst (λ (x : List Set × ℕ). OneHolds (stepped s (x.1 + 1 + k) word id m.1 (with_cell m.0 (Writer x.0 next)) keeps)) (λ i. (sym known.sets_are i, sym linked.1 i))
           (writes s h (the_place + 1 + k) word id m.1 m.0 after known.writes
-          (readers_wait s h (the_place + 1 + k) word next (λ e. omega arith) (λ q e. name-update_later name value place done (done + 1) q (omega arith) (ap name_of known.making_is ∙ e)))),
+          (waits s h (the_place + 1 + k) word next (λ e. omega arith) (λ q e. name-update_later name value place done (done + 1) q (omega arith) (ap name_of known.making_is ∙ e)))),
       refl,
     )

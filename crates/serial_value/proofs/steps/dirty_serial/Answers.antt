@@ -1,6 +1,6 @@
 use Rattle.std.proofs.Common.{◌≡◌, ℕ, sym, subst, arith}
 use Rattle.atomic_table.specs.Table.{Allows}
-use Rattle.serial_value.specs.Serial.{dirty_serial as dirty_serial_of}
+use Rattle.init_machine.specs.Serial.{dirty_serial as dirty_serial_of}
 use Rattle.serial_value.specs.Cell.{sets_of, updating}
 use Rattle.serial_value.proofs.steps.dirty_serial.Goals as goal
 

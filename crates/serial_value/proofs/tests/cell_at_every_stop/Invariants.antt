@@ -1,7 +1,8 @@
 use Rattle.std.proofs.Common.{◌≡◌}
 use Rattle.std.specs.Prelude.{codes}
 use Rattle.serial_value.specs.One.{the_name, the_place}
-use Rattle.serial_value.specs.Stops.{at_stop, IsReader}
+use Rattle.serial_value.specs.Cell.{IsReader}
+use Rattle.serial_value.specs.Stops.{at_stop}
 use Rattle.serial_value.proofs.tests.cell_at_every_stop.Given as goal
 
 abbrev pub ghosts-reads_at_stop : goal.ghosts-reads_at_stop

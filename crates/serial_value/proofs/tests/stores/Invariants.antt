@@ -1,4 +1,4 @@
-use Rattle.std.proofs.Common.{◌≡◌, ◌≤◌}
+use Rattle.std.proofs.Common.{◌≡◌}
 use Rattle.serial_value.specs.Stops.{at_stop}
 use Rattle.serial_value.proofs.tests.stores.Given as goal
 

@@ -3,4 +3,4 @@ use Rattle.serial_value.proofs.Packing.{word_from}
 use Rattle.serial_value.proofs.words.word_of.Goals as goal
 
 pub returns : goal.returns
-returns c = c.from_le_bytes.ensures ∙ word_from c.args.value.now c.loop-j.bytes c.args.k (λ i small. c.loop-j.invariant.done i (omega arith))
+returns c = c.from_le_bytes.ensures ∙ word_from c.args.text.now c.loop-j.bytes c.args.k (λ i small. c.loop-j.invariant.done i (omega arith))

@@ -5,6 +5,6 @@ abbrev pub invariant-loop-j : goal.invariant-loop-j
 invariant-loop-j l =
     record {
       wide : length l.bytes ≡ 8;
-      done : (i : ℕ) → i < l.j → get_or l.bytes i 0 ≡ get_or l.value (l.start + i) 0;
+      done : (i : ℕ) → i < l.j → get_or l.bytes i 0 ≡ get_or l.text (l.start + i) 0;
       left : (i : ℕ) → l.j ≤ i → get_or l.bytes i 0 ≡ 0;
     }
