@@ -1,0 +1,13 @@
+pub mod Orders
+pub mod Growth
+pub mod Shares
+pub mod NodeWords
+pub mod Names
+pub mod Marks
+pub mod Lies
+pub mod Apart
+pub mod Extending
+pub mod Frames
+pub mod Walks
+pub mod Cells
+pub mod Tries
