@@ -1,0 +1,12 @@
+pub mod LineWords
+pub mod Numerals
+pub mod Orders
+pub mod Builds
+pub mod TextLines
+pub mod Gatherings
+pub mod Misfits
+pub mod Readings
+pub mod OneReading
+pub mod Spellings
+pub mod InputParts
+pub mod Conditions

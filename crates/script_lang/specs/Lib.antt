@@ -1,0 +1,10 @@
+pub mod Lines
+pub mod Statements
+pub mod Script
+pub mod Refusal
+pub mod Inputs
+pub mod Reading
+pub mod Gathering
+pub mod Ordering
+pub mod Building
+pub mod Laws

@@ -1,0 +1,30 @@
+//! Scripts: what the machine is opened with, and what is asked of it, act by act.
+//!
+//! `read` answers a script exactly where the bytes are the text of one, as `IsScript` of `specs/Script.antt` says, and
+//! else the limit that they pass or the first bad line. `specs/Inputs.antt` has the inputs of a script, in the order of
+//! its lines and actor by actor.
+#![tactic(auto)]
+
+mod build;
+mod fault;
+mod gather;
+mod laws;
+mod number;
+mod order;
+mod reader;
+mod reading;
+mod refusal;
+mod script;
+mod statement;
+mod words;
+
+pub use laws::{
+    each_text_has_one_reading, inputs_are_those_of_the_parts, scripts_meet_conditions,
+    statements_are_written_in_one_way,
+};
+pub use reader::read;
+pub use refusal::ScriptRefusal;
+pub use script::{Act, Ask, Client, Script};
+
+#[cfg(test)]
+mod tests;
