@@ -1,0 +1,18 @@
+//! The rules of properties: expansion in a text, the pairs of build files, and the types of values.
+//!
+//! `expand` answers exactly `expand` of `init_machine`'s `specs/Expand.antt` over the map of any store, and `check_type`
+//! exactly `is_typed` of its `specs/Typed.antt`.
+#![tactic(auto)]
+
+mod expansion;
+mod number;
+mod piece;
+#[cfg(test)]
+mod tests;
+mod types;
+mod value;
+
+pub use expansion::{ExpandRefusal, expand};
+pub use number::decimal;
+pub use types::check_type;
+pub use value::look_up;
