@@ -1,0 +1,13 @@
+use Rattle.std.proofs.Common.{arith}
+use Rattle.std.proofs.lemmas.Result.{err_from_is_err_and}
+use Rattle.prop_contexts.proofs.LookUps.{allow_refused}
+use Rattle.prop_contexts.proofs.policy.Policy.read.Goals as goal
+
+pub overflow_add-result : goal.overflow_add-result
+overflow_add-result c = omega (arith, c.in_ok-lines.ensures.read.few, c.requires.contexts)
+
+pub returns-in_err-allows-clause-refused : goal.returns-in_err-allows-clause-refused
+returns-in_err-allows-clause-refused c =
+    let p = err_from_is_err_and c.from_residual-in_err-allows.result c.from_residual-in_err-allows.ensures.1 in
+    rw (p.1, p.2)
+    (allow_refused c.args.contexts.now c.args.allow.now c.in_ok-lines.field-0 c.in-Some.default _ c.in_ok-lines.ensures.read c.in-Some.is c.in_err-allows.ensures.refused)

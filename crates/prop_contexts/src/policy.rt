@@ -1,0 +1,90 @@
+//! The policy that two texts spell, and the look-ups in it.
+
+ghost use Rattle.std.specs.Prelude.{◌≡◌, ◌≤◌, IfOk, IfErr, length};
+ghost use Rattle.init_machine.specs.Policy.{context_of, is_allowed};
+ghost use Rattle.prop_contexts.specs.Grammar.{IsPolicy, IsRefused};
+
+use crate::allows::read_allows;
+use crate::contexts::{Contexts, read_contexts};
+use crate::names::{Names, longest_prefix};
+use crate::refusal::PolicyRefusal;
+use init_base::{List, PropName};
+use init_machine::{AllowLine, Context, PolicyView};
+use std::alloc::Global;
+use std::marker::Model;
+
+/// The policy of property sets.
+#[derive(Drop)]
+pub struct Policy {
+    default: Context,
+    exact: Names,
+    prefixes: Names,
+    allows: List<AllowLine>,
+}
+
+impl Model for Policy {
+    ghost use Rattle.init_machine.specs.Policy.{PolicyLines};
+    ghost use Rattle.prop_contexts.specs.Given.{lines_in};
+
+    ghost Value = { PolicyLines };
+
+    ghost view = { λ p. record { default = p.default; exact = lines_in p.exact; prefixes = lines_in p.prefixes; allows = p.allows } };
+}
+
+impl PolicyView for Policy {
+    ghost lines = { λ policy. policy };
+}
+
+impl Policy {
+    /// The policy of a contexts text and an allow text. The contexts are judged first; the first bad line decides.
+    pub fn read(alloc: Global, contexts: &[u8], allow: &[u8]) -> Result<Policy, PolicyRefusal>
+        requires contexts { length contexts.now ≤ 1048576 }
+        requires allow { length allow.now ≤ 1048576 }
+        ensures policy { IfOk result (IsPolicy contexts.now allow.now) }
+        ensures refused { IfErr result (IsRefused contexts.now allow.now) }
+    {
+        let Contexts {
+            lines,
+            default,
+            exact,
+            prefixes,
+        } = read_contexts(alloc, contexts)?;
+        let Some(default) = default else {
+            return Err(PolicyRefusal::NoDefault { line: lines + 1 });
+        };
+        let allows = read_allows(alloc, allow)?;
+        Ok(Policy {
+            default,
+            exact,
+            prefixes,
+            allows,
+        })
+    }
+
+    /// The context of a property: that of the exact line for its name, else of the longest prefix line for it, else of
+    /// the line `*`. It takes no memory.
+    #[tactic(auto, unfolding(init_machine::specs::Policy::context_of))]
+    pub fn context_of(&self, name: PropName<'_>) -> &Context
+        ensures { result.now ≡ context_of self.now name.entry.bytes.now }
+    {
+        let name = name.bytes();
+        if let Some(context) = self.exact.get(name) {
+            return context;
+        }
+        match longest_prefix(&self.prefixes, name) {
+            Some(context) => context,
+            None => &self.default,
+        }
+    }
+
+    /// Whether the allow text has this domain with this label. It takes no memory.
+    #[tactic(auto, unfolding(init_machine::specs::Policy::is_allowed))]
+    pub fn allows(&self, domain: &[u8], label: &[u8]) -> bool
+        ensures { result ≡ is_allowed self.now domain.now label.now }
+    {
+        self.allows
+            .items()
+            .iter()
+            .any(|line| line.domain.is(domain) && line.label.is(label))
+    }
+}
