@@ -1,0 +1,5 @@
+pub mod ByName
+pub mod Index
+pub mod Pending
+pub mod Queue
+pub mod Triggers

@@ -1,0 +1,144 @@
+//! Whether an event triggers an action, with the properties as the store has them.
+
+ghost use Rattle.std.specs.Prelude.{◌≡◌, ◌≤◌, take, length, IsTrue, true};
+ghost use Rattle.std.specs.List.{list_any, list_all};
+ghost use Rattle.init_base.specs.Name.{is_legal_name};
+ghost use Rattle.init_machine.specs.Matches.{matches, has_event, has_no_event, holds_now as holds_now_lem, holds_at_change, holds_for, tests, or_empty};
+ghost use Rattle.action_queue.specs.Queue.{value_in, has_legal_name};
+
+use init_base::{List, PropName, Text};
+use init_machine::{Action, Event, Pair, PropStore, PropTest};
+
+/// Whether the event triggers the action now.
+#[tactic(auto, unfolding(init_machine::specs::Matches::matches))]
+pub fn is_triggered<S: PropStore>(store: &mut S, event: &Event, action: &Action) -> bool
+    requires { IsTrue (list_all has_legal_name action.now.props) }
+    ensures answer { result ≡ matches (value_in (S.meaning store.old)) event.now action.now }
+    ensures same { S.meaning store.new ≡ S.meaning store.old }
+    ensures told { S.told store.new ≡ S.told store.old }
+    ensures spare { S.spare store.new ≡ S.spare store.old }
+    ensures beside { S.Beside store.old store.new }
+{
+    match event {
+        Event::Named(name) => is_named(&action.event, name) && all_hold_now(store, &action.props),
+        Event::Change(pair) => {
+            action.event.is_none()
+                && is_tested(pair, &action.props)
+                && all_hold_at(store, pair, &action.props)
+        }
+        Event::AllProperties => action.event.is_none() && all_hold_now(store, &action.props),
+        Event::Mark => false,
+    }
+}
+
+fn is_named(event: &Option<Text>, name: &Text) -> bool
+    ensures { result ≡ has_event event.now name.now }
+{
+    match event {
+        Some(event) => event.is(name.bytes()),
+        None => false,
+    }
+}
+
+/// Whether one of the tests is of the changed property.
+fn is_tested(pair: &Pair, props: &List<PropTest>) -> bool
+    ensures { result ≡ list_any (tests pair.now.name) props.now }
+{
+    props
+        .items()
+        .iter()
+        .any(|test| test.name.is(pair.name.bytes()))
+}
+
+fn all_hold_now<S: PropStore>(store: &mut S, props: &List<PropTest>) -> bool
+    requires { IsTrue (list_all has_legal_name props.now) }
+    ensures answer { result ≡ list_all (holds_now_lem (value_in (S.meaning store.old))) props.now }
+    ensures same { S.meaning store.new ≡ S.meaning store.old }
+    ensures told { S.told store.new ≡ S.told store.old }
+    ensures spare { S.spare store.new ≡ S.spare store.old }
+    ensures beside { S.Beside store.old store.new }
+{
+    for test in props.items() {
+        if !holds_now(store, test) {
+            return false;
+        }
+    }
+    true
+}
+
+fn all_hold_at<S: PropStore>(store: &mut S, pair: &Pair, props: &List<PropTest>) -> bool
+    requires { IsTrue (list_all has_legal_name props.now) }
+    ensures answer { result ≡ list_all (holds_at_change (value_in (S.meaning store.old)) pair.now.name pair.now.value) props.now }
+    ensures same { S.meaning store.new ≡ S.meaning store.old }
+    ensures told { S.told store.new ≡ S.told store.old }
+    ensures spare { S.spare store.new ≡ S.spare store.old }
+    ensures beside { S.Beside store.old store.new }
+{
+    for test in props.items() {
+        if !holds_at(store, pair, test) {
+            return false;
+        }
+    }
+    true
+}
+
+/// The changed property is tested by its new value, and another one by what it is now.
+fn holds_at<S: PropStore>(store: &mut S, pair: &Pair, test: &PropTest) -> bool
+    requires { IsTrue (has_legal_name test.now) }
+    ensures answer { result ≡ holds_at_change (value_in (S.meaning store.old)) pair.now.name pair.now.value test.now }
+    ensures same { S.meaning store.new ≡ S.meaning store.old }
+    ensures told { S.told store.new ≡ S.told store.old }
+    ensures spare { S.spare store.new ≡ S.spare store.old }
+    ensures beside { S.Beside store.old store.new }
+{
+    if !test.name.is(pair.name.bytes()) {
+        return holds_now(store, test);
+    }
+    holds_for_value(pair, test)
+}
+
+fn holds_for_value(pair: &Pair, test: &PropTest) -> bool
+    ensures { result ≡ holds_for pair.now.value test.now.value }
+{
+    match &test.value {
+        Some(value) => pair.value.is(value.bytes()),
+        None => true,
+    }
+}
+
+#[tactic(auto, using(crate::proofs::Values::has_bytes))]
+fn holds_now<S: PropStore>(store: &mut S, test: &PropTest) -> bool
+    requires { IsTrue (has_legal_name test.now) }
+    ensures answer { result ≡ holds_now_lem (value_in (S.meaning store.old)) test.now }
+    ensures same { S.meaning store.new ≡ S.meaning store.old }
+    ensures told { S.told store.new ≡ S.told store.old }
+    ensures spare { S.spare store.new ≡ S.spare store.old }
+    ensures beside { S.Beside store.old store.new }
+{
+    let mut buffer = [0; 91];
+    let len = read(store, test.name.bytes(), &mut buffer);
+    match &test.value {
+        Some(value) => &buffer[..len] == value.bytes(),
+        None => len > 0,
+    }
+}
+
+/// Puts the value that a property has now, none where it is absent, at the front of the buffer. Answers its length.
+fn read<S: PropStore>(store: &mut S, name: &[u8], buffer: &mut [u8; 91]) -> usize
+    requires { IsTrue (is_legal_name name.now) }
+    ensures value { take result buffer.new ≡ or_empty (value_in (S.meaning store.old) name.now) }
+    ensures len { result ≡ length (or_empty (value_in (S.meaning store.old) name.now)) }
+    ensures bound { result ≤ 91 }
+    ensures same { S.meaning store.new ≡ S.meaning store.old }
+    ensures told { S.told store.new ≡ S.told store.old }
+    ensures spare { S.spare store.new ≡ S.spare store.old }
+    ensures beside { S.Beside store.old store.new }
+{
+    let Some(name) = PropName::of(name) else {
+        unreachable!()
+    };
+    match store.get(name, buffer) {
+        Some((len, _)) => len,
+        None => 0,
+    }
+}
