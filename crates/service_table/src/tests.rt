@@ -1,0 +1,56 @@
+//! What ample memory gives.
+
+ghost use Rattle.std.specs.Prelude.{◌≡◌, IfOk};
+
+use crate::Table;
+use init_base::{List, Millis, Pid, Text};
+use init_machine::{Move, Op, ServiceDef};
+use std::alloc::Global;
+use std::test::Fail;
+
+fn texts(alloc: Global, text: &[u8]) -> Result<List<Text>, Fail> {
+    let mut texts = List::new(alloc);
+    texts.push(Text::of(alloc, text)?)?;
+    Ok(texts)
+}
+
+fn service(alloc: Global, name: &[u8], class: &[u8], disabled: bool) -> Result<ServiceDef, Fail>
+    ensures { IfOk result (λ def. def.name ≡ name.now) }
+{
+    Ok(ServiceDef {
+        name: Text::of(alloc, name)?,
+        path: Text::of(alloc, b"/bin/x")?,
+        args: List::new(alloc),
+        file: Text::of(alloc, b"/init.rc")?,
+        line: 1,
+        classes: texts(alloc, class)?,
+        disabled,
+        oneshot: false,
+        overrides: false,
+        critical: None,
+        period: Millis(5000),
+        timeout: None,
+        onrestart: List::new(alloc),
+        kept: List::new(alloc),
+    })
+}
+
+#[test]
+fn calls_succeed(rt: HostRuntime) -> Result<(), Fail> {
+    let alloc = rt.alloc();
+    let mut defs = List::new(alloc);
+    defs.push(service(alloc, b"a", b"core", false)?)?;
+    defs.push(service(alloc, b"b", b"main", true)?)?;
+    defs.push(service(alloc, b"c", b"core", false)?)?;
+    let mut table = Table::new(alloc, defs)?;
+    assert_eq!(rt; table.count(), 3);
+    assert_eq!(rt; table.find(b"c"), Some(2));
+    assert_eq!(rt; table.find(b"d"), None);
+    let core = table.of_class(alloc, b"core")?;
+    assert!(rt; core.items() == [0, 2].as_slice());
+    assert!(rt; table.apply(0, Op::Start) == Move::Spawn);
+    assert!(rt; table.apply(1, Op::ClassStart) == Move::Nothing);
+    assert!(rt; table.marks(1).wanted);
+    assert!(rt; table.def(2).name.is(b"c"));
+    Ok(())
+}

@@ -1,0 +1,70 @@
+//! Texts in order, each with its place: the place of a text is found in time of the text's length.
+#![tactic(auto)]
+
+ghost use Rattle.std.specs.Prelude.{◌≡◌, [], ◌∷◌, ◌++◌, length, position, if◌then◌else◌, Some, OnOk, OnErr, IfOk};
+ghost use Rattle.std.specs.Str.{bytes_eq};
+ghost use Rattle.text_index.specs.Texts.{with_text};
+
+use indexmap::IndexSet;
+use init_base::NoMemory;
+use std::alloc::Global;
+use std::marker::Model;
+
+/// Texts that differ, in the order in which they were added. It keeps the allocator that its constructor was given.
+#[derive(Drop)]
+pub struct TextIndex {
+    texts: IndexSet<Vec<u8>>,
+}
+
+impl Model for TextIndex {
+    ghost use Rattle.std.specs.Prelude.{ℕ, List, map};
+
+    ghost Value = { List (List ℕ) };
+
+    ghost view = { λ index. map (λ text. text.items) index.texts.keys };
+}
+
+impl TextIndex {
+    /// An index of no texts. It takes no memory.
+    pub fn new(alloc: Global) -> TextIndex
+        ensures { result ≡ [] }
+    {
+        TextIndex {
+            texts: IndexSet::new(alloc),
+        }
+    }
+
+    /// The number of texts.
+    pub fn len(&self) -> usize
+        ensures { result ≡ length self.now }
+    {
+        self.texts.len()
+    }
+
+    /// The place of a text. None exactly where it isn't there.
+    #[tactic(auto, using(crate::proofs::Places::position_of_map))]
+    pub fn place(&self, text: &[u8]) -> Option<usize>
+        ensures { result ≡ position (bytes_eq text.now) self.now }
+    {
+        self.texts.get_index_of(text)
+    }
+
+    /// Adds a text at the end, unless it is there, and answers its place.
+    #[tactic(auto, using(crate::proofs::Places::held_stays))]
+    pub fn add(&mut self, text: &[u8]) -> Result<usize, NoMemory>
+        ensures texts { OnOk result (self.new ≡ with_text self.old text.now) }
+        ensures place { IfOk result (λ place. position (bytes_eq text.now) self.new ≡ Some place) }
+        ensures err { OnErr result (self.new ≡ self.old) }
+    {
+        if let Some(place) = self.place(text) {
+            return Ok(place);
+        }
+        let alloc = *self.texts.allocator();
+        let place = self.texts.len();
+        self.texts.insert(Vec::from_slice(alloc, text)?)?;
+        Ok(place)
+    }
+}
+
+#[cfg(test)]
+mod tests;
