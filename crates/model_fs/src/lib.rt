@@ -1,0 +1,16 @@
+//! The file tree of a modelled device (AOSP, init's README, "Commands"; the modes and the refusals are this project's
+//! profile).
+//!
+//! `Tree` is its places in the order of their making. Its calls are `tree_refusal` and `tree_after` of `init_machine`.
+#![tactic(auto)]
+
+mod changing;
+mod entry;
+mod judging;
+mod node;
+mod path;
+#[cfg(test)]
+mod tests;
+mod tree;
+
+pub use tree::Tree;

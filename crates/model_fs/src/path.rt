@@ -1,0 +1,106 @@
+//! Texts of paths, by their parts: what stands between slashes, where empty parts are dropped.
+
+ghost use Rattle.std.specs.Prelude.{◌≡◌, ◌≢◌, ◌-◌, ◌<◌, ◌≤◌, ◌++◌, ◌∷◌, [], true, length, take, drop, slice_index, MatchOption};
+ghost use Rattle.std.specs.List.{list_any, list_all};
+ghost use Rattle.init_machine.specs.FileTree.{parts_of, is_path as is_path_lem, is_dots as is_dots_lem, same_path, is_below as is_below_lem, is_root as is_root_lem, begins_with_slash as begins_with_slash_lem};
+ghost use Rattle.model_fs.specs.Paths.{is_no_slash};
+
+/// Whether the text is that of a path.
+pub fn is_path(text: &[u8]) -> bool
+    ensures { result ≡ is_path_lem text.now }
+{
+    begins_with_slash(text) && text.len() <= 4096 && !text.contains(&0) && !has_dots(text)
+}
+
+fn begins_with_slash(text: &[u8]) -> bool
+    ensures { result ≡ begins_with_slash_lem text.now }
+{
+    match text {
+        [first, ..] => *first == b'/',
+        [] => false,
+    }
+}
+
+/// Whether a part is `.` or `..`.
+fn has_dots(text: &[u8]) -> bool
+    ensures { result ≡ list_any is_dots_lem (parts_of text.now) }
+{
+    match split_last(text) {
+        Some((front, part)) => has_dots(front) || is_dots(part),
+        None => false,
+    }
+}
+
+fn is_dots(part: &[u8]) -> bool
+    ensures { result ≡ is_dots_lem part.now }
+{
+    part == b".".as_slice() || part == b"..".as_slice()
+}
+
+/// Whether the text has no part.
+pub fn is_root(text: &[u8]) -> bool
+    ensures { result ≡ is_root_lem (parts_of text.now) }
+{
+    split_last(text).is_none()
+}
+
+/// Whether two texts have the same parts.
+pub fn is_same(text: &[u8], other: &[u8]) -> bool
+    ensures { result ≡ same_path (parts_of text.now) (parts_of other.now) }
+{
+    let Some((front, part)) = split_last(text) else {
+        return is_root(other);
+    };
+    let Some((other_front, other_part)) = split_last(other) else {
+        return false;
+    };
+    part == other_part && is_same(front, other_front)
+}
+
+/// Whether the other text begins with the parts of this one, and has more.
+pub fn is_below(text: &[u8], other: &[u8]) -> bool
+    ensures { result ≡ is_below_lem (parts_of text.now) (parts_of other.now) }
+{
+    match split_last(other) {
+        Some((front, _)) => is_same(text, front) || is_below(text, front),
+        None => false,
+    }
+}
+
+/// A text with the parts before the last one, and the last one. None exactly where there is no part.
+pub fn split_last(text: &[u8]) -> Option<(&[u8], &[u8])>
+    ensures { MatchOption result (parts_of text.now ≡ []) (λ cut. (parts_of text.now ≡ parts_of cut.0.now ++ cut.1.now ∷ []) × (length cut.0.now < length text.now)) }
+{
+    let text = &text[..trimmed_len(text)];
+    if text.is_empty() {
+        return None;
+    }
+    let start = last_start(text);
+    Some((&text[..start], &text[start..]))
+}
+
+/// The length without the slashes at the end.
+fn trimmed_len(text: &[u8]) -> usize
+    ensures bound { result ≤ length text.now }
+    ensures same { parts_of (take result text.now) ≡ parts_of text.now }
+    ensures last { 0 < result → slice_index text.now (result - 1) ≢ 47 }
+{
+    let mut len = text.len();
+    while len > 0 && text[len - 1] == b'/' {
+        len -= 1;
+    }
+    len
+}
+
+/// Where what stands behind the last slash begins.
+fn last_start(text: &[u8]) -> usize
+    ensures bound { result ≤ length text.now }
+    ensures part { list_all is_no_slash (drop result text.now) ≡ true }
+    ensures slash { 0 < result → slice_index text.now (result - 1) ≡ 47 }
+{
+    let mut start = text.len();
+    while start > 0 && text[start - 1] != b'/' {
+        start -= 1;
+    }
+    start
+}
