@@ -1,22 +1,17 @@
-"""Nanoseconds of processor time for one call, from two counts of calls, proved beside plain in turns; the median of nine."""
+"""Nanoseconds of processor time for one call, from two counts of calls, proved beside plain in turns; the median of nine. Each
+program has to write the number of the calls that found, or wrote, a whole value, which is that of all."""
 import os
 import statistics
-import subprocess
 import sys
+
+sys.path.insert(0, os.path.dirname(os.path.dirname(os.path.abspath(__file__))))
+from calls import seconds_of_one
 
 FEW, MANY = 1_000_000, 11_000_000
 
 
-def seconds(program, kind, count):
-    child = subprocess.Popen([program, kind, str(count)], stdout=subprocess.DEVNULL)
-    _, status, usage = os.wait4(child.pid, 0)
-    child.returncode = status
-    assert status == 0
-    return usage.ru_utime + usage.ru_stime
-
-
 def nanoseconds(program, kind):
-    return (seconds(program, kind, MANY) - seconds(program, kind, FEW)) / (MANY - FEW) * 1e9
+    return seconds_of_one([program, kind], FEW, MANY, lambda count: b"%d\n" % count) * 1e9
 
 
 def main():

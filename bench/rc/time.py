@@ -1,31 +1,38 @@
 """Milliseconds of processor time for one reading of a text of 1 MiB, in each shape, proved beside plain in turns; the median of
-nine."""
+nine. Both readers have to write the number of lines that the shape has, and the parser that of its diagnostics."""
 import os
 import statistics
-import subprocess
 import sys
 
+sys.path.insert(0, os.path.dirname(os.path.dirname(os.path.abspath(__file__))))
+from calls import seconds_of_one
+
 FEW, MANY = 2, 12
-SHAPES = ("token", "tokens", "line", "lines", "quotes", "commands")
+# The lines and the diagnostics of each shape. A line outside a section is a diagnostic; the text of `line` ends within quotes,
+# so that its one line is left out, with a diagnostic.
+SHAPES = {
+    "token": (1, 1),
+    "tokens": (1, 1),
+    "line": (0, 1),
+    "lines": (524_288, 524_288),
+    "quotes": (1, 1),
+    "commands": (37_450, 0),
+}
 
 
-def seconds(program, mode, shape, count):
-    child = subprocess.Popen([program, mode, shape, str(count)], stdout=subprocess.DEVNULL)
-    _, status, usage = os.wait4(child.pid, 0)
-    child.returncode = status
-    assert status == 0
-    return usage.ru_utime + usage.ru_stime
-
-
-def milliseconds(program, mode, shape):
-    return (seconds(program, mode, shape, MANY) - seconds(program, mode, shape, FEW)) / (MANY - FEW) * 1e3
+def milliseconds(program, mode, shape, found):
+    return seconds_of_one([program, mode, shape], FEW, MANY, lambda _: b"%d\n" % found) * 1e3
 
 
 def main():
     proved, plain = sys.argv[1:]
-    for shape in SHAPES:
+    for shape, (lines, diagnostics) in SHAPES.items():
         rounds = [
-            (milliseconds(proved, "read", shape), milliseconds(plain, "read", shape), milliseconds(proved, "parse", shape))
+            (
+                milliseconds(proved, "read", shape, lines),
+                milliseconds(plain, "read", shape, lines),
+                milliseconds(proved, "parse", shape, diagnostics),
+            )
             for _ in range(9)
         ]
         read, other, parse = (statistics.median(times) for times in zip(*rounds))
