@@ -1,20 +1,15 @@
 -- Sets of clients: the policy, the area, and the persistent store.
-use Rattle.std.specs.Prelude.{◌≡◌, ℕ, ◌+◌, true, false, List, [], ◌∷◌, ◌++◌, Option, Some, None, codes}
-use Rattle.init_base.specs.Name.{is_legal_name}
-use Rattle.init_base.specs.Value.{value_fault}
-use Rattle.init_base.specs.declared.value.BadValue.TheVariants.{TooLong, NotUtf8}
+use Rattle.std.specs.Prelude.{◌≡◌, ℕ, true, false, List, [], ◌∷◌, ◌++◌, codes}
 use Rattle.init_machine.specs.Policy.{PolicyLines, context_of}
-use Rattle.init_machine.specs.State.{Opening, State, first_state}
+use Rattle.init_machine.specs.State.{Opening}
 use Rattle.init_machine.specs.History.{after}
 use Rattle.init_machine.specs.Typed.{is_typed}
-use Rattle.init_machine.specs.declared.config.Pair.{Pair}
 use Rattle.init_machine.specs.declared.input.Input.{Input}
 use Rattle.init_machine.specs.declared.input.Input.TheVariants as input
 use Rattle.init_machine.specs.declared.output.Output.{Output}
 use Rattle.init_machine.specs.declared.output.Output.TheVariants as output
 use Rattle.init_machine.specs.declared.output.SetRefusal.{SetRefusal}
 use Rattle.init_machine.specs.declared.output.SetRefusal.TheVariants as refusal
-use Rattle.init_machine.specs.declared.policy.Context.{Context}
 use Rattle.init_machine.specs.declared.type_kind.TypeKind.TheVariants as kind
 use Rattle.init_machine.specs.declared.word.Word.TheVariants as word
 use Rattle.machine_examples.specs.Run.{opening_of, outputs_of, with_store, with_policy}

@@ -6,10 +6,9 @@ use Rattle.init_machine.specs.declared.output.Output.{Output}
 use Rattle.init_machine.specs.declared.output.Output.TheVariants as output
 use Rattle.init_machine.specs.declared.output.SetRefusal.TheVariants as refusal
 use Rattle.init_machine.specs.declared.service.Critical.{Critical}
-use Rattle.init_machine.specs.declared.service.ServiceDef.{ServiceDef}
 use Rattle.init_machine.specs.declared.word.Word.TheVariants as word
 use Rattle.machine_examples.specs.Run.{opening_of, outputs_of, service, plan}
-use Rattle.machine_examples.specs.Trace.{on, command, runs, begins, put, state, spawn, reap, ok, next, sets}
+use Rattle.machine_examples.specs.Trace.{on, command, runs, begins, state, spawn, reap, ok, next, sets}
 
 abbrev c : List ℕ
 c = codes "c"

@@ -1,5 +1,5 @@
 -- What the end of a process brings about.
-use Rattle.std.specs.Prelude.{◌≡◌, ℕ, ◌+◌, true, false, List, [], ◌∷◌, ◌++◌, Option, Some, None, codes}
+use Rattle.std.specs.Prelude.{◌≡◌, ℕ, ◌+◌, true, false, List, [], ◌∷◌, ◌++◌, Some, codes}
 use Rattle.init_machine.specs.Kernel.{first_kernel, has_pid, with_process}
 use Rattle.init_machine.specs.State.{Opening}
 use Rattle.init_machine.specs.declared.action.Command.{Command}

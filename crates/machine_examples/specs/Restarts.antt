@@ -3,11 +3,10 @@ use Rattle.std.specs.Prelude.{◌≡◌, ℕ, true, List, [], ◌∷◌, ◌++�
 use Rattle.init_machine.specs.State.{Opening}
 use Rattle.init_machine.specs.declared.action.Command.{Command}
 use Rattle.init_machine.specs.declared.input.Input.TheVariants as input
-use Rattle.init_machine.specs.declared.output.Output.{Output}
 use Rattle.init_machine.specs.declared.service.ServiceDef.{ServiceDef}
 use Rattle.init_machine.specs.declared.word.Word.TheVariants as word
 use Rattle.machine_examples.specs.Run.{opening_of, outputs_of, service, plan}
-use Rattle.machine_examples.specs.Trace.{on, command, runs, begins, put, state, spawn, kill, reap, reap_killed, ok, next}
+use Rattle.machine_examples.specs.Trace.{on, command, runs, begins, state, spawn, kill, reap, reap_killed, ok, next}
 
 -- a process that ended by its plan at 1,200 ms, and had begun at 1,000 ms, is restarted at 6,000 ms
 abbrev pub RestartCountsFromStart : Type 0

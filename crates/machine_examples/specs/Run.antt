@@ -1,8 +1,7 @@
 -- How the examples are written: a machine over one root file, and the outputs of its inputs.
-use Rattle.std.specs.Prelude.{ℕ, Bool, false, List, [], ◌∷◌, codes, Option, None, Some}
+use Rattle.std.specs.Prelude.{ℕ, false, List, [], ◌∷◌, codes, None}
 use Rattle.std.specs.Str.{is_utf8, chars}
 use lib.Utf8.{encode}
-use Rattle.init_base.specs.declared.units.Millis.{Millis}
 use Rattle.init_machine.specs.Effect.{perform, effect}
 use Rattle.init_machine.specs.Expand.{expand}
 use Rattle.init_machine.specs.FileTree.{tree_refusal, tree_after}

@@ -1,14 +1,12 @@
 -- Words for the lines of a trace, as they are printed, and for the lines of an rc file.
-use Rattle.std.specs.Prelude.{ℕ, Bool, true, false, List, [], ◌∷◌, ◌++◌, codes, Option, None, Some}
+use Rattle.std.specs.Prelude.{ℕ, List, [], ◌∷◌, ◌++◌, codes, None, Some}
 use Rattle.init_machine.specs.declared.action.Action.{Action}
 use Rattle.init_machine.specs.declared.action.Command.{Command}
 use Rattle.init_machine.specs.declared.input.Input.{Input}
 use Rattle.init_machine.specs.declared.input.Input.TheVariants as input
-use Rattle.init_machine.specs.declared.output.Cause.{Cause}
 use Rattle.init_machine.specs.declared.output.How.TheVariants as how
 use Rattle.init_machine.specs.declared.output.Output.{Output}
 use Rattle.init_machine.specs.declared.output.Output.TheVariants as output
-use Rattle.init_machine.specs.declared.output.SetRefusal.{SetRefusal}
 use Rattle.init_machine.specs.declared.word.Word.{Word}
 
 -- the root file

@@ -1,12 +1,10 @@
 -- Events, property triggers and expansion.
-use Rattle.std.specs.Prelude.{◌≡◌, ℕ, ◌+◌, List, [], ◌∷◌, ◌++◌, Option, Some, None, Result, Ok, Err, codes, if◌then◌else◌}
+use Rattle.std.specs.Prelude.{◌≡◌, ℕ, List, [], ◌∷◌, Option, Some, None, Ok, Err, codes, if◌then◌else◌}
 use Rattle.std.specs.Str.{bytes_eq}
 use Rattle.init_machine.specs.Expand.{expand}
 use Rattle.init_machine.specs.State.{Opening}
 use Rattle.init_machine.specs.declared.action.Action.{Action}
 use Rattle.init_machine.specs.declared.action.Command.{Command}
-use Rattle.init_machine.specs.declared.config.Pair.{Pair}
-use Rattle.init_machine.specs.declared.input.Input.{Input}
 use Rattle.init_machine.specs.declared.input.Input.TheVariants as input
 use Rattle.init_machine.specs.declared.output.Cause.TheVariants as cause
 use Rattle.init_machine.specs.declared.output.Output.{Output}

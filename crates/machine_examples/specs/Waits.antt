@@ -1,12 +1,10 @@
 -- Commands that wait.
-use Rattle.std.specs.Prelude.{◌≡◌, ℕ, true, List, [], ◌∷◌, ◌++◌, Option, Some, None, codes}
+use Rattle.std.specs.Prelude.{◌≡◌, ℕ, true, List, [], ◌∷◌, ◌++◌, codes}
 use Rattle.init_machine.specs.State.{Opening}
 use Rattle.init_machine.specs.declared.action.Command.{Command}
 use Rattle.init_machine.specs.declared.input.Input.TheVariants as input
 use Rattle.init_machine.specs.declared.output.Cause.TheVariants as cause
-use Rattle.init_machine.specs.declared.output.Output.{Output}
 use Rattle.init_machine.specs.declared.output.Output.TheVariants as output
-use Rattle.init_machine.specs.declared.service.ServiceDef.{ServiceDef}
 use Rattle.init_machine.specs.declared.word.Word.TheVariants as word
 use Rattle.machine_examples.specs.Run.{opening_of, outputs_of, service, plan}
 use Rattle.machine_examples.specs.Trace.{on, command, runs, begins, put, state, spawn, reap, ok, next, sets}

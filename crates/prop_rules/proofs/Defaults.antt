@@ -1,5 +1,5 @@
 -- The first `:-` of a text.
-use Rattle.std.proofs.Common.{◌≡◌, ◌↔◌, ℕ, zero, suc, ◌+◌, ◌<◌, ◌≤◌, Bool, true, false, IsTrue, Option, Some, None, IsSome, List, [], ◌∷◌, nat_eq, length, codes, take, drop, refl, ap, ◌∙◌, arith}
+use Rattle.std.proofs.Common.{◌≡◌, ◌↔◌, ℕ, zero, suc, ◌<◌, Bool, true, false, IsTrue, Option, Some, None, IsSome, List, [], ◌∷◌, nat_eq, length, codes, take, drop, refl, ◌∙◌, arith}
 use Rattle.std.specs.List.{starts_with}
 use Rattle.std.proofs.lemmas.Bool.{cond-true, cond-false}
 use Rattle.init_base.specs.Name.{is_legal_name}

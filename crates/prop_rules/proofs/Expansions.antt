@@ -1,9 +1,9 @@
 -- A text that is expanded piece by piece: what is left decides.
-use Rattle.std.proofs.Common.{◌≡◌, ℕ, zero, suc, ◌+◌, ◌-◌, ◌<◌, ◌≤◌, List, [], ◌∷◌, ◌++◌, length, drop, slice_index, Bool, true, false, not, ◌&&◌, if◌then◌else◌, ◌==◌, position, Option, Some, None, Result, Ok, Err, refl, sym, ap, ◌∙◌, append_assoc, arith}
+use Rattle.std.proofs.Common.{◌≡◌, ℕ, zero, suc, ◌+◌, ◌-◌, ◌<◌, ◌≤◌, List, [], ◌∷◌, ◌++◌, length, drop, slice_index, true, false, not, ◌&&◌, if◌then◌else◌, ◌==◌, position, Option, Some, None, Result, Ok, Err, refl, sym, ap, ◌∙◌, append_assoc, arith}
 use Rattle.std.specs.List.{list_all}
 use Rattle.std.proofs.Math.Seq.{drop-cons}
 use Rattle.std.proofs.lemmas.List.{drop-drop}
-use Rattle.init_machine.specs.Expand.{Piece, Placed, Plain, Bad, Written, up_to, behind_brace, behind_dollar, joined, pieces_from, values_of, piece_value, first_piece}
+use Rattle.init_machine.specs.Expand.{Plain, Bad, Written, up_to, behind_brace, behind_dollar, joined, pieces_from, values_of, piece_value, first_piece}
 use Rattle.init_machine.specs.Props.{Props, value_in}
 use Rattle.init_machine.specs.declared.output.Cause.{Cause}
 use Rattle.prop_rules.specs.Answers.{IsRefusal}

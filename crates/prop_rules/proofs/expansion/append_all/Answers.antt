@@ -1,4 +1,4 @@
-use Rattle.std.proofs.Common.{◌≡◌, ◌+◌, ◌∙◌, Ok, drop, slice_index, arith, rules}
+use Rattle.std.proofs.Common.{◌+◌, ◌∙◌, Ok, drop, slice_index, rules}
 use Rattle.init_machine.specs.Expand.{joined, values_of, pieces_of}
 use Rattle.init_machine.specs.Props.{value_in}
 use Rattle.prop_rules.proofs.Expansions.{left_after, fails_at, first_some}

@@ -1,6 +1,5 @@
-use Rattle.std.proofs.Common.{◌≡◌, length, take, arith, sym, ◌∙◌, ap, false}
+use Rattle.std.proofs.Common.{◌≡◌, take, sym, ◌∙◌, ap, false}
 use Rattle.init_base.specs.Name.{is_legal_name}
-use Rattle.init_machine.specs.Expand.{default_place}
 use Rattle.prop_rules.proofs.Defaults.{not_braced, not_tested}
 use Rattle.prop_rules.proofs.piece.braced.Goals as goal
 
