@@ -1,7 +1,7 @@
 -- Expansion of properties in a text (AOSP, init's README, "Android Init Language", and init's own reader for `$$` and `:-`;
 -- the failures are this project's profile). A text is a row of pieces: `$$`, `${NAME}`, `${NAME:-OTHER}`, and any byte but `$`;
 -- a `$` that begins none of them is a bad piece. (36 is `$`, 123 `{`, 125 `}`.)
-use Rattle.std.specs.Prelude.{ℕ, zero, suc, ◌+◌, ◌-◌, Bool, ◌==◌, nat_eq, nat_lt, List, [], ◌∷◌, ◌++◌, length, codes, take, drop, position, Option, Some, None, Result, Ok, Err, if◌then◌else◌}
+use Rattle.std.specs.Prelude.{ℕ, zero, suc, ◌+◌, ◌-◌, ◌==◌, nat_eq, nat_lt, List, [], ◌∷◌, ◌++◌, length, codes, take, drop, position, Option, Some, None, Result, Ok, Err, if◌then◌else◌}
 use Rattle.std.specs.List.{starts_with}
 use Rattle.init_base.specs.Name.{is_legal_name}
 use Rattle.init_machine.specs.declared.output.Cause.{Cause}

@@ -1,7 +1,7 @@
 -- The modelled file tree, and what its calls do (AOSP, init's README, "Commands"; the modes and the refusals are this
 -- project's profile). No link is followed. (47 is the slash, 46 the dot.)
-use Rattle.std.specs.Prelude.{ℕ, Bool, true, false, not, ◌&&◌, ◌||◌, ◌==◌, nat_lt, nat_le, List, [], ◌∷◌, ◌++◌, length, map, filter, bit_and, Option, Some, None, if◌then◌else◌}
-use Rattle.std.specs.List.{find, fold, list_any, list_all, slice_split}
+use Rattle.std.specs.Prelude.{ℕ, Bool, true, false, not, ◌&&◌, ◌||◌, ◌==◌, nat_lt, nat_le, List, [], ◌∷◌, length, map, filter, bit_and, Option, Some, None, if◌then◌else◌}
+use Rattle.std.specs.List.{find, fold, list_any, slice_split}
 use Rattle.std.specs.Str.{bytes_eq}
 use Rattle.init_machine.specs.Choices.{first_of, only_if}
 use Rattle.init_machine.specs.declared.node.Node.{Node}

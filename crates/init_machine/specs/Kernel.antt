@@ -1,9 +1,7 @@
 -- The modelled kernel: processes and the clock (this project's profile).
-use Rattle.std.specs.Prelude.{ℕ, ◌+◌, Bool, true, false, not, ◌&&◌, ◌||◌, ◌==◌, nat_le, nat_lt, List, [], ◌∷◌, ◌++◌, map, filter, Option, Some, None, if◌then◌else◌}
+use Rattle.std.specs.Prelude.{ℕ, ◌+◌, Bool, true, false, not, ◌||◌, ◌==◌, nat_le, List, [], ◌∷◌, ◌++◌, map, filter, Option, Some, None, if◌then◌else◌}
 use Rattle.std.specs.List.{find}
 use Rattle.std.specs.Str.{bytes_eq}
-use Rattle.init_base.specs.declared.units.Millis.{Millis}
-use Rattle.init_base.specs.declared.units.Pid.{Pid}
 use Rattle.init_machine.specs.declared.config.Plan.{Plan}
 use Rattle.init_machine.specs.declared.output.How.{How}
 use Rattle.init_machine.specs.declared.output.How.TheVariants.{Exit, Killed}

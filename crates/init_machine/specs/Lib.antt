@@ -6,6 +6,7 @@ pub mod Effect
 pub mod Expand
 pub mod Facts
 pub mod FileTree
+pub mod HasText
 pub mod History
 pub mod Kept
 pub mod Kernel

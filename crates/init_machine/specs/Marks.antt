@@ -1,7 +1,6 @@
 -- What becomes of a service's marks, and what is to be done then (the table of service marks is this project's profile
 -- of AOSP's README, "Services", "Options" and "Commands").
-use Rattle.std.specs.Prelude.{ℕ, Bool, true, false, not, ◌&&◌, ◌||◌, Option, Some, None, if◌then◌else◌}
-use Rattle.init_base.specs.declared.units.Millis.{Millis}
+use Rattle.std.specs.Prelude.{Bool, true, false, not, ◌&&◌, ◌||◌, Option, Some, None, if◌then◌else◌}
 use Rattle.init_base.specs.declared.units.Pid.{Pid}
 use Rattle.init_machine.specs.declared.service.Marks.{Marks}
 use Rattle.init_machine.specs.declared.service.Move.{Move}

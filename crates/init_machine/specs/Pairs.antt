@@ -1,6 +1,5 @@
 -- Pairs of a name and a value: the environment, and the saved properties.
 use Rattle.std.specs.Prelude.{ℕ, Bool, true, false, ◌&&◌, ◌||◌, ◌==◌, not, nat_lt, List, [], ◌∷◌, filter, if◌then◌else◌}
-use Rattle.std.specs.List.{list_any}
 use Rattle.std.specs.Str.{bytes_eq}
 use Rattle.init_machine.specs.declared.config.Pair.{Pair}
 

@@ -1,18 +1,15 @@
 -- What the end of a process brings about: restarts, the commands of `onrestart`, critical services, and the end of a wait
 -- (AOSP, init's README, "Services", and "Options" for `critical` and `onrestart`; the counting of critical exits is this project's profile).
-use Rattle.std.specs.Prelude.{ℕ, ◌+◌, Bool, true, false, not, ◌&&◌, ◌||◌, ◌==◌, nat_lt, List, [], ◌∷◌, codes, slice_set, slice_index_or, Option, Some, None, if◌then◌else◌}
-use Rattle.std.specs.List.{list_any}
+use Rattle.std.specs.Prelude.{ℕ, ◌+◌, Bool, true, false, not, ◌||◌, ◌==◌, nat_lt, List, [], ◌∷◌, codes, slice_set, slice_index_or, Option, Some, None, if◌then◌else◌}
 use Rattle.std.specs.Str.{bytes_eq}
-use Rattle.init_base.specs.declared.units.Pid.{Pid}
 use Rattle.init_machine.specs.Changes.{Change, change, behind, nothing, and_then, each}
 use Rattle.init_machine.specs.Effect.{effect}
 use Rattle.init_machine.specs.Matches.{or_empty}
-use Rattle.init_machine.specs.Marks.{Answer, service_step}
+use Rattle.init_machine.specs.Marks.{service_step}
 use Rattle.init_machine.specs.Services.{Operated, operated, operate, marks_at, with_marks, service_at, place_of, pid_of, tell}
 use Rattle.init_machine.specs.Setting.{released_lines, still_waits}
 use Rattle.init_machine.specs.State.{State, Rules, Exits, no_exits, value_now}
 use Rattle.init_machine.specs.declared.output.How.{How}
-use Rattle.init_machine.specs.declared.output.Output.{Output}
 use Rattle.init_machine.specs.declared.output.Output.TheVariants as output
 use Rattle.init_machine.specs.declared.waiting.Waiting.{Waiting}
 use Rattle.init_machine.specs.declared.waiting.Waiting.TheVariants.{Child, Prop, File}

@@ -1,12 +1,12 @@
 -- What is done to a service: its marks, its process, and the property that tells its state (AOSP, init's README,
 -- "Services" and "Properties"; the table of marks is this project's profile).
-use Rattle.std.specs.Prelude.{ℕ, ◌+◌, Bool, true, false, not, ◌&&◌, nat_lt, List, [], ◌∷◌, ◌++◌, codes, slice_get, slice_set, slice_index_or, position, Option, Some, None, if◌then◌else◌}
+use Rattle.std.specs.Prelude.{ℕ, Bool, true, false, List, [], ◌∷◌, ◌++◌, codes, slice_get, slice_set, slice_index_or, position, Option, Some, None, if◌then◌else◌}
 use Rattle.std.specs.List.{enumerate_from, list_any, filter_map}
 use Rattle.std.specs.Str.{bytes_eq}
 use Rattle.init_base.specs.declared.units.Pid.{Pid}
-use Rattle.init_machine.specs.Changes.{Change, change, behind, nothing, and_then, each}
+use Rattle.init_machine.specs.Changes.{Change, behind, nothing, each}
 use Rattle.init_machine.specs.Kernel.{Kernel, has_pid, with_process, with_kill}
-use Rattle.init_machine.specs.Marks.{Answer, first_marks, service_step}
+use Rattle.init_machine.specs.Marks.{first_marks, service_step}
 use Rattle.init_machine.specs.Setting.{Judged, judged, set_answer, set_property, told_refusal, is_control, control_op}
 use Rattle.init_machine.specs.State.{State, Rules}
 use Rattle.init_machine.specs.declared.output.Output.{Output}

@@ -1,20 +1,19 @@
 -- Sets of properties: whether a set is accepted, and what it does (AOSP, system properties; the order of the refusals is
 -- this project's profile).
-use Rattle.std.specs.Prelude.{ℕ, ◌+◌, Bool, true, false, not, ◌&&◌, List, [], ◌∷◌, ◌++◌, codes, nat_eq, Option, Some, None, is_none, if◌then◌else◌}
+use Rattle.std.specs.Prelude.{ℕ, ◌+◌, Bool, false, not, ◌&&◌, List, [], ◌∷◌, ◌++◌, codes, nat_eq, Option, Some, None, is_none, if◌then◌else◌}
 use Rattle.std.specs.List.{list_any, starts_with}
 use Rattle.std.specs.Str.{bytes_eq}
 use Rattle.init_base.specs.Name.{is_legal_name}
 use Rattle.init_base.specs.Value.{value_fault}
 use Rattle.init_base.specs.declared.value.BadValue.{BadValue}
 use Rattle.init_base.specs.declared.value.BadValue.TheVariants.{TooLong, NotUtf8}
-use Rattle.init_machine.specs.Changes.{Change, change, behind, nothing}
+use Rattle.init_machine.specs.Changes.{Change, change, nothing}
 use Rattle.init_machine.specs.Choices.{first_of, only_if}
 use Rattle.init_machine.specs.Pairs.{pair, with_saved}
 use Rattle.init_machine.specs.Policy.{PolicyLines, context_of, is_allowed}
 use Rattle.init_machine.specs.Props.{Props, Property, with_set, full_for, lookup_in}
 use Rattle.init_machine.specs.State.{State, Rules}
 use Rattle.init_machine.specs.Typed.{is_typed}
-use Rattle.init_machine.specs.declared.config.Pair.{Pair}
 use Rattle.init_machine.specs.declared.event.Event.{Event}
 use Rattle.init_machine.specs.declared.event.Event.TheVariants as event
 use Rattle.init_machine.specs.declared.output.Output.{Output}

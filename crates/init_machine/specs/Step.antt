@@ -1,6 +1,6 @@
 -- What an input does: the new state and the outputs (AOSP, init's README, "Trigger Sequence", for a boot; one command an
 -- input, and the inputs of a modelled kernel and of clients, are this project's profile).
-use Rattle.std.specs.Prelude.{ℕ, ◌+◌, ◌-◌, Bool, true, false, not, ◌&&◌, ◌||◌, nat_lt, nat_le, List, [], ◌∷◌, ◌++◌, codes, slice_get, slice_index_or, is_some, Option, Some, None, if◌then◌else◌}
+use Rattle.std.specs.Prelude.{ℕ, ◌+◌, ◌-◌, Bool, true, false, ◌&&◌, ◌||◌, nat_lt, nat_le, List, [], ◌∷◌, ◌++◌, codes, slice_index_or, is_some, Option, Some, None, if◌then◌else◌}
 use Rattle.std.specs.List.{enumerate_from, filter_map}
 use Rattle.std.specs.Str.{bytes_eq}
 use Rattle.init_base.specs.declared.units.Millis.{Millis}
@@ -13,7 +13,7 @@ use Rattle.init_machine.specs.Matches.{matches, or_empty}
 use Rattle.init_machine.specs.Pairs.{last_pairs}
 use Rattle.init_machine.specs.Reaping.{reap}
 use Rattle.init_machine.specs.Services.{operate_each, marks_at, set_by}
-use Rattle.init_machine.specs.Setting.{Judged, is_control, told_refusal}
+use Rattle.init_machine.specs.Setting.{is_control, told_refusal}
 use Rattle.init_machine.specs.Policy.{PolicyLines}
 use Rattle.init_machine.specs.State.{State, Rules, rules_of, value_now}
 use Rattle.init_machine.specs.Taking.{Taken, taken_now}
@@ -36,7 +36,6 @@ use Rattle.init_machine.specs.declared.waiting.Waiting.TheVariants as waiting
 use Rattle.init_machine.specs.declared.service.Marks.{Marks}
 use Rattle.init_machine.specs.declared.service.Op.TheVariants as op
 use Rattle.init_machine.specs.declared.service.ServiceDef.{ServiceDef}
-use Rattle.init_machine.specs.declared.task.TreeCall.{TreeCall}
 use Rattle.init_machine.specs.declared.task.TreeCall.TheVariants as call
 
 -- Most inputs ask first whether the machine is over.

@@ -1,11 +1,9 @@
 -- What commands ask for, by their words and their expanded arguments (AOSP, init's README, "Commands"; the forms of
 -- modes and times are this project's profile).
-use Rattle.std.specs.Prelude.{ℕ, ◌+◌, ◌-◌, ◌*◌, Bool, true, false, ◌&&◌, ◌==◌, nat_le, List, [], ◌∷◌, ◌++◌, length, take, drop, codes, Option, Some, None, if◌then◌else◌}
+use Rattle.std.specs.Prelude.{ℕ, ◌+◌, ◌-◌, ◌*◌, Bool, true, false, ◌&&◌, ◌==◌, nat_le, List, [], ◌∷◌, ◌++◌, length, take, drop, codes, if◌then◌else◌}
 use Rattle.std.specs.List.{after_first, before_first, fold, list_all, list_any}
 use Rattle.std.specs.Str.{bytes_eq}
-use Rattle.init_base.specs.declared.units.Millis.{Millis}
 use Rattle.init_machine.specs.Typed.{is_decimal, number_of}
-use Rattle.init_machine.specs.declared.service.Op.{Op}
 use Rattle.init_machine.specs.declared.service.Op.TheVariants as op
 use Rattle.init_machine.specs.declared.task.Task.{Task}
 use Rattle.init_machine.specs.declared.task.Task.TheVariants as task

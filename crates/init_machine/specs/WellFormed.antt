@@ -10,7 +10,6 @@ use Rattle.init_machine.specs.Pairs.{is_before}
 use Rattle.init_machine.specs.Setting.{is_persistent}
 use Rattle.init_machine.specs.declared.action.Action.{Action}
 use Rattle.init_machine.specs.declared.action.Command.{Command}
-use Rattle.init_machine.specs.declared.action.PropTest.{PropTest}
 use Rattle.init_machine.specs.declared.config.Config.{Config}
 use Rattle.init_machine.specs.declared.config.Pair.{Pair}
 use Rattle.init_machine.specs.declared.config.Plan.{Plan}

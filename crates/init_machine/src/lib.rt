@@ -17,6 +17,7 @@ mod laws;
 mod limit;
 mod list_store;
 mod node;
+mod number;
 mod output;
 mod policy;
 mod report;
@@ -41,6 +42,7 @@ pub use laws::{
 pub use limit::Limit;
 pub use list_store::ListStore;
 pub use node::Node;
+pub use number::decimal;
 pub use output::{Cause, FsRefusal, How, Output, SetRefusal};
 pub use policy::{AllowLine, Context, PolicyView};
 pub use report::{ClientPart, Entry, Reading, Report};

@@ -3,7 +3,6 @@ pub mod Firsts
 pub mod Fronts
 pub mod Joins
 pub mod NameSets
-pub mod Numbers
 pub mod OneName
 pub mod Placed
 pub mod SameFile

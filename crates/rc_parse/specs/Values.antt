@@ -1,11 +1,12 @@
 -- The values of a service's options: times, and what `critical` is given (AOSP, init's README, "Services"; the limits are
 -- this project's profile).
-use Rattle.std.specs.Prelude.{ℕ, ◌+◌, ◌-◌, ◌*◌, Bool, ◌&&◌, ◌||◌, ◌==◌, nat_eq, nat_le, nat_lt, if◌then◌else◌, List, [], ◌∷◌, length, codes, drop, take, Option, Some, None, Result, Ok, Err}
-use Rattle.std.specs.List.{fold, list_all, list_any, flat_map, starts_with, ends_with}
+use Rattle.std.specs.Prelude.{ℕ, ◌-◌, ◌*◌, Bool, ◌&&◌, ◌||◌, ◌==◌, nat_eq, nat_le, nat_lt, if◌then◌else◌, List, [], ◌∷◌, length, codes, drop, take, Option, Some, None, Result, Ok, Err}
+use Rattle.std.specs.List.{list_any, flat_map, starts_with, ends_with}
 use Rattle.std.specs.Option.{option_and_then, unwrap_or}
 use Rattle.std.specs.Str.{bytes_eq}
 use Rattle.init_base.specs.Name.{is_legal_name}
 use Rattle.init_base.specs.declared.units.Millis.{Millis}
+use Rattle.init_machine.specs.Typed.{is_decimal, number_of}
 use Rattle.init_machine.specs.declared.diagnostic.DiagKind.{DiagKind}
 use Rattle.init_machine.specs.declared.diagnostic.DiagKind.TheVariants.{BadOption}
 use Rattle.init_machine.specs.declared.service.Critical.{Critical}
@@ -15,17 +16,9 @@ use Rattle.rc_parse.specs.declared.critical.WindowLength.{WindowLength}
 use Rattle.rc_parse.specs.declared.critical.WindowLength.TheVariants as minute
 use Rattle.rc_parse.specs.declared.critical.CriticalPart.TheVariants.{Window, Target}
 
-abbrev pub is_digit : ℕ → Bool
-is_digit b = nat_le 48 b && nat_le b 57
-
--- what decimal digits mean
-abbrev pub number_of : List ℕ → ℕ
-number_of digits = fold (λ number b. number * 10 + (b - 48)) 0 digits
-
 -- one to seven decimal digits, of at most 1,000,000
 abbrev pub is_number : List ℕ → Bool
-is_number text =
-    nat_le 1 (length text) && nat_le (length text) 7 && list_all is_digit text && nat_le (number_of text) 1000000
+is_number text = is_decimal 7 text && nat_le (number_of text) 1000000
 
 -- a number of at least this one
 abbrev pub number_from : ℕ → List ℕ → Option ℕ

@@ -1,6 +1,3 @@
-use Rattle.std.proofs.Common.{◌≡◌, ◌++◌, [], ◌∷◌, IsTrue, ap, sym, ◌∙◌, subst}
-use Rattle.std.specs.List.{flat_map, list_all}
-use Rattle.init_base.specs.Quoted.{is_byte, quoted_byte}
 use Rattle.init_base.proofs.QForms.{isnt_nil, no_text, one_more, more_bytes}
 use Rattle.init_base.proofs.q_form.spelled.Goals as goal
 

@@ -1,7 +1,7 @@
 use Rattle.std.proofs.Common.{◌≡◌, ◌+◌, ◌-◌, ◌*◌, ◌<◌, ◌^◌, IsTrue, drop}
 use Rattle.std.specs.List.{fold, list_all}
-use Rattle.rc_parse.specs.Values.{is_digit, number_of}
-use Rattle.rc_parse.proofs.number.number.Given as goal
+use Rattle.init_machine.specs.Typed.{is_digit, number_of}
+use Rattle.init_machine.proofs.number.number.Given as goal
 
 -- what is left decides, and so many digits give a number below that power of ten
 abbrev pub invariant-loop-digit : goal.invariant-loop-digit
