@@ -1,0 +1,21 @@
+-- Which pairs can be printed as the text of a persistent store, and which outputs store a property.
+use Rattle.std.specs.Prelude.{Bool, true, false, ◌&&◌, List}
+use Rattle.std.specs.List.{list_any}
+use Rattle.init_base.specs.Name.{is_legal_name}
+use Rattle.init_base.specs.Value.{is_legal_value}
+use Rattle.init_machine.specs.Setting.{is_persistent}
+use Rattle.init_machine.specs.declared.config.Pair.{Pair}
+use Rattle.init_machine.specs.declared.output.Output.{Output}
+use Rattle.init_machine.specs.declared.output.Output.TheVariants as output
+
+-- the name is legal and begins with `persist.`, and the value is legal
+abbrev pub can_be_printed : Pair → Bool
+can_be_printed p = is_legal_name p.name && is_persistent p.name && is_legal_value p.value
+
+abbrev pub is_stored : Output → Bool
+is_stored (output.Stored name) = true
+is_stored _ = false
+
+-- a property is stored
+abbrev pub has_stored : List Output → Bool
+has_stored outputs = list_any is_stored outputs
