@@ -1,2 +1,2 @@
-pub mod Restarts
+pub mod Exits
 pub mod Times

@@ -1,7 +1,12 @@
 -- Times by place.
 use Rattle.std.specs.Prelude.{◌≡◌, ℕ, Bool, false, ◌==◌, nat_le, List, Option, Some, None, slice_index_or, if◌then◌else◌}
 use Rattle.std.specs.List.{enumerate_from, filter_map}
+use Rattle.std.specs.Option.{option_map}
 use Rattle.agenda.specs.Moments.{is_held}
+use Rattle.init_base.specs.declared.units.Millis.{Millis}
+
+abbrev pub number_of : Option Millis → Option ℕ
+number_of time = option_map (λ time. time.0) time
 
 -- whether this is the time that is kept
 abbrev pub is_kept : ℕ → Option ℕ → Bool

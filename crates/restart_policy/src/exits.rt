@@ -1,30 +1,82 @@
-//! The counted exits of a critical service.
+//! The counted exits of critical services.
+
+use init_base::{Millis, NoMemory};
+use std::alloc::Global;
+use std::marker::Model;
+
+/// The counted exits of each service, by place.
+#[derive(Drop)]
+pub struct ExitCounts {
+    counts: Vec<Counted>,
+}
+
+impl Model for ExitCounts {
+    ghost use Rattle.std.specs.Prelude.{List, map};
+    ghost use Rattle.init_machine.specs.State.{Exits};
+
+    ghost Value = { List Exits };
+
+    ghost use Rattle.restart_policy.specs.Exits.{counted_of};
+
+    ghost view = { λ exits. map counted_of exits.counts.items };
+}
+
+impl ExitCounts {
+    ghost use Rattle.std.specs.Prelude.{◌≡◌, ◌<◌, IfOk, OnOk, OnErr, length, replicate, slice_set};
+    ghost use Rattle.init_machine.specs.State.{no_exits};
+    ghost use Rattle.restart_policy.specs.Exits.{exits_behind, is_fatal};
+
+    /// No exit of each of so many services.
+    pub fn new(alloc: Global, count: usize) -> Result<ExitCounts, NoMemory>
+        ensures { IfOk result (λ exits. exits ≡ replicate count no_exits) }
+    {
+        Ok(ExitCounts {
+            counts: none_each(alloc, count)?,
+        })
+    }
+
+    /// Counts an exit of the critical service at a place, whose window is so long, and answers whether it was one too
+    /// many. A count that no `u64` holds is `NoMemory`.
+    pub fn count(
+        &mut self,
+        at: usize,
+        window: Millis,
+        booted: bool,
+        now: Millis,
+    ) -> Result<bool, NoMemory>
+        requires { at < length self.old }
+        ensures ok { OnOk result (self.new ≡ slice_set self.old at (exits_behind self.old at window.0 booted now.0)) }
+        ensures fatal { IfOk result (λ fatal. fatal ≡ is_fatal (exits_behind self.old at window.0 booted now.0)) }
+        ensures err { OnErr result (self.new ≡ self.old) }
+    {
+        let exits = self.counts[at].one_more(window, booted, now)?;
+        self.counts[at] = exits;
+        Ok(exits.is_fatal())
+    }
+}
 
 ghost use Rattle.std.specs.Prelude.{◌≡◌, IfOk, map, replicate};
 ghost use Rattle.init_machine.specs.Reaping.{counted};
 ghost use Rattle.init_machine.specs.State.{no_exits};
-ghost use Rattle.restart_policy.specs.Restarts.{counted_of, exits_by, is_fatal};
-
-use init_base::NoMemory;
-use std::alloc::Global;
+ghost use Rattle.restart_policy.specs.Exits.{counted_of, is_fatal};
 
 /// How many exits were counted, and since when.
 #[derive(Clone, Copy)]
-pub(crate) struct Counted {
-    pub(crate) count: u64,
-    pub(crate) since: u64,
+struct Counted {
+    count: u64,
+    since: u64,
 }
 
 impl Counted {
     /// One exit more: while boot isn't completed, or within the window, the count rises; else a new window begins.
-    fn one_more(self, window: u64, booted: bool, now: u64) -> Result<Counted, NoMemory>
-        ensures { IfOk result (λ exits. counted_of exits ≡ counted booted now window (counted_of self)) }
+    fn one_more(self, window: Millis, booted: bool, now: Millis) -> Result<Counted, NoMemory>
+        ensures { IfOk result (λ exits. counted_of exits ≡ counted booted now.0 window.0 (counted_of self)) }
     {
-        let is_within = now < self.since || now - self.since < window;
+        let is_within = now.0 < self.since || now.0 - self.since < window.0;
         if booted && !is_within {
             return Ok(Counted {
                 count: 1,
-                since: now,
+                since: now.0,
             });
         }
         match self.count.checked_add(1) {
@@ -33,35 +85,16 @@ impl Counted {
         }
     }
 
-    /// The exits behind one more, which is counted where there is a window. A count that has no room left in memory is
-    /// `NoMemory`.
-    pub(crate) fn behind(
-        self,
-        window: Option<u64>,
-        booted: bool,
-        now: u64,
-    ) -> Result<Counted, NoMemory>
-        ensures { IfOk result (λ exits. counted_of exits ≡ exits_by window booted now (counted_of self)) }
+    /// Whether the machine reboots after these exits: the fifth one is one too many.
+    fn is_fatal(self) -> bool
+        ensures { result ≡ is_fatal (counted_of self) }
     {
-        match window {
-            Some(window) => self.one_more(window, booted, now),
-            None => Ok(self),
-        }
-    }
-
-    /// Whether the machine reboots after these exits.
-    pub(crate) fn is_fatal(self, window: Option<u64>) -> bool
-        ensures { result ≡ is_fatal window (counted_of self) }
-    {
-        match window {
-            Some(_) => self.count > 4,
-            None => false,
-        }
+        self.count > 4
     }
 }
 
 /// No exit of each of so many services.
-pub(crate) fn none_each(alloc: Global, count: usize) -> Result<Vec<Counted>, NoMemory>
+fn none_each(alloc: Global, count: usize) -> Result<Vec<Counted>, NoMemory>
     ensures { IfOk result (λ exits. map counted_of exits.items ≡ replicate count no_exits) }
 {
     let mut exits = Vec::with_capacity(alloc, count)?;

@@ -1,15 +1,16 @@
-//! The table of services: their definitions in declared order, their marks, and what an operation does to them.
+//! The table of services: their definitions in declared order, their marks, and what an operation does to marks.
 //!
-//! `Table::apply` is `service_step` of `init_machine` at one place, and leaves each other place as it was. `laws` says in
-//! words what becomes of a service that is stopped, reset, restarted or oneshot when its process ends.
+//! `step` is `service_step` of `init_machine`, and `laws` says in words what becomes of a service that is stopped, reset,
+//! restarted or oneshot when its process ends. `Table::put` changes one place, and leaves each other one as it was.
 #![tactic(auto)]
 
 mod class;
 mod fresh;
 pub mod laws;
-mod step;
+mod operation;
 mod table;
 
+pub use operation::step;
 pub use table::Table;
 
 #[cfg(test)]

@@ -2,9 +2,8 @@
 
 use crate::class::places_of;
 use crate::fresh::{first_marks, index_names};
-use crate::step::step;
 use init_base::{List, NoMemory};
-use init_machine::{Marks, Move, Op, ServiceDef};
+use init_machine::{Marks, ServiceDef};
 use std::alloc::Global;
 use std::marker::Model;
 use text_index::TextIndex;
@@ -33,7 +32,7 @@ impl Model for Table {
 impl Table {
     ghost use Rattle.std.specs.Prelude.{◌≡◌, ◌<◌, IsTrue, IfOk, Some, length, slice_get};
     ghost use Rattle.init_machine.specs.WellFormed.{are_distinct};
-    ghost use Rattle.service_table.specs.Table.{first_table, names_of, place_named, places_of_class, move_of, with_op};
+    ghost use Rattle.service_table.specs.Table.{first_table, names_of, place_named, places_of_class, with_marks};
 
     /// The table of services that were just declared: the marks are those of the options.
     pub fn new(alloc: Global, defs: List<ServiceDef>) -> Result<Table, NoMemory>
@@ -83,12 +82,11 @@ impl Table {
         &self.defs.items()[at]
     }
 
-    /// Does an operation to the service at a place, and answers what follows from it.
-    pub fn apply(&mut self, at: usize, op: Op) -> Move
+    /// Puts marks in place of those of the service at a place.
+    pub fn put(&mut self, at: usize, marks: Marks)
         requires { at < length self.old.defs }
-        ensures table { self.new ≡ with_op self.old at op }
-        ensures todo { result ≡ move_of self.old at op }
+        ensures { self.new ≡ with_marks self.old at marks }
     {
-        step(&mut self.marks[at], op)
+        self.marks[at] = marks;
     }
 }

@@ -2,8 +2,8 @@
 
 ghost use Rattle.std.specs.Prelude.{◌≡◌, IfOk};
 
-use crate::Table;
-use init_base::{List, Millis, Pid, Text};
+use crate::{Table, step};
+use init_base::{List, Millis, Text};
 use init_machine::{Move, Op, ServiceDef};
 use std::alloc::Global;
 use std::test::Fail;
@@ -48,9 +48,11 @@ fn calls_succeed(rt: HostRuntime) -> Result<(), Fail> {
     assert_eq!(rt; table.find(b"d"), None);
     let core = table.of_class(alloc, b"core")?;
     assert!(rt; core.items() == [0, 2].as_slice());
-    assert!(rt; table.apply(0, Op::Start) == Move::Spawn);
-    assert!(rt; table.apply(1, Op::ClassStart) == Move::Nothing);
+    let mut marks = table.marks(1);
+    assert!(rt; step(&mut marks, Op::ClassStart) == Move::Nothing);
+    table.put(1, marks);
     assert!(rt; table.marks(1).wanted);
+    assert!(rt; step(&mut marks, Op::Enable) == Move::Spawn);
     assert!(rt; table.def(2).name.is(b"c"));
     Ok(())
 }

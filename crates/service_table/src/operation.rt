@@ -10,7 +10,7 @@ use init_machine::{Marks, Move, Op};
 
 /// What an operation does to the marks, and what follows.
 #[tactic(auto, unfolding(init_machine::specs::Marks::service_step))]
-pub(crate) fn step(marks: &mut Marks, op: Op) -> Move
+pub fn step(marks: &mut Marks, op: Op) -> Move
     ensures marks { marks.new ≡ (service_step op marks.old).marks }
     ensures todo { result ≡ (service_step op marks.old).todo }
 {
