@@ -1,0 +1,10 @@
+pub mod Digits
+pub mod Doing
+pub mod Effects
+pub mod Expansions
+pub mod Illegal
+pub mod Options
+pub mod Places
+pub mod Savings
+pub mod Seconds
+pub mod Variables

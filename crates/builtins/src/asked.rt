@@ -1,0 +1,112 @@
+//! Commands whose arguments are expanded.
+
+ghost use Rattle.std.specs.Prelude.{◌≡◌, IfOk};
+ghost use Rattle.init_machine.specs.Effect.{expand_all as expand_all_lem};
+ghost use Rattle.init_machine.specs.Expand.{expand as expand_lem};
+ghost use Rattle.init_machine.specs.Props.{value_in};
+ghost use Rattle.builtins.specs.Asked.{asked_by};
+
+use crate::task::task_of;
+use init_base::{List, NoMemory, Text};
+use init_machine::{Cause, Command, PropStore, Task};
+use prop_rules::{ExpandRefusal, expand};
+use std::alloc::Global;
+
+/// A command as its line shows it, with the arguments expanded, or as written where they could not be; and what it asks
+/// for, or why they could not be.
+#[derive(Drop)]
+pub struct Asked {
+    pub command: Command,
+    pub task: Result<Task, Cause>,
+}
+
+/// An argument, expanded.
+fn expand_one<S: PropStore>(
+    alloc: Global,
+    store: &mut S,
+    arg: &Text,
+) -> Result<Result<Text, Cause>, NoMemory>
+    ensures expanded { IfOk result (λ expanded. expanded ≡ expand_lem (value_in (S.meaning store.old)) arg.now) }
+    ensures same { S.meaning store.new ≡ S.meaning store.old }
+    ensures told { S.told store.new ≡ S.told store.old }
+    ensures spare { S.spare store.new ≡ S.spare store.old }
+    ensures beside { S.Beside store.old store.new }
+{
+    match expand(alloc, arg, store) {
+        Ok(text) => Ok(Ok(text)),
+        Err(ExpandRefusal::BadForm { place }) => {
+            let place = place as u64;
+            Ok(Err(Cause::BadForm { place }))
+        }
+        Err(ExpandRefusal::Absent { name }) => Ok(Err(Cause::Absent { name })),
+        Err(ExpandRefusal::TooLong) => Ok(Err(Cause::TooLong)),
+        Err(ExpandRefusal::NoMemory) => Err(NoMemory),
+    }
+}
+
+/// All arguments, expanded from the left. The first that fails decides.
+fn expand_all<S: PropStore>(
+    alloc: Global,
+    store: &mut S,
+    args: &List<Text>,
+) -> Result<Result<List<Text>, Cause>, NoMemory>
+    ensures expanded { IfOk result (λ expanded. expanded ≡ expand_all_lem (value_in (S.meaning store.old)) args.now) }
+    ensures same { S.meaning store.new ≡ S.meaning store.old }
+    ensures told { S.told store.new ≡ S.told store.old }
+    ensures spare { S.spare store.new ≡ S.spare store.old }
+    ensures beside { S.Beside store.old store.new }
+{
+    let mut expanded = List::with_capacity(alloc, args.len())?;
+    for arg in args.items() {
+        match expand_one(alloc, store, arg)? {
+            Ok(text) => expanded.push(text)?,
+            Err(why) => return Ok(Err(why)),
+        }
+    }
+    Ok(Ok(expanded))
+}
+
+/// Another list of the same texts.
+fn copy_of(alloc: Global, texts: &List<Text>) -> Result<List<Text>, NoMemory>
+    ensures { IfOk result (λ copy. copy ≡ texts.now) }
+{
+    let mut copy = List::with_capacity(alloc, texts.len())?;
+    for text in texts.items() {
+        copy.push(text.share()?)?;
+    }
+    Ok(copy)
+}
+
+/// The command with other arguments.
+fn with_args(command: &Command, args: List<Text>) -> Result<Command, NoMemory>
+    ensures { IfOk result (λ shown. shown ≡ record command.now { args = args }) }
+{
+    Ok(Command {
+        file: command.file.share()?,
+        line: command.line,
+        word: command.word,
+        args,
+    })
+}
+
+/// Expands a command's arguments, from the left; the first that fails decides.
+pub fn ask<S: PropStore>(alloc: Global, store: &mut S, command: &Command) -> Result<Asked, NoMemory>
+    ensures asked { IfOk result (λ asked. asked ≡ asked_by command.now (S.meaning store.old)) }
+    ensures same { S.meaning store.new ≡ S.meaning store.old }
+    ensures told { S.told store.new ≡ S.told store.old }
+    ensures spare { S.spare store.new ≡ S.spare store.old }
+    ensures beside { S.Beside store.old store.new }
+{
+    match expand_all(alloc, store, &command.args)? {
+        Ok(args) => {
+            let task = Ok(task_of(command.word, args.items())?);
+            let command = with_args(command, args)?;
+            Ok(Asked { command, task })
+        }
+        Err(why) => {
+            let command = with_args(command, copy_of(alloc, &command.args)?)?;
+            let task = Err(why);
+            Ok(Asked { command, task })
+        }
+    }
+}

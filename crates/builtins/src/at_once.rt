@@ -1,0 +1,90 @@
+//! Commands that are done at once: sets of properties, events, the environment, and those without effect.
+
+ghost use Rattle.std.specs.Prelude.{◌≡◌, ◌++◌, ◌∷◌, [], IfOk, OnOk, None};
+ghost use Rattle.std.specs.List.{position};
+ghost use Rattle.std.specs.Str.{bytes_eq};
+ghost use Rattle.init_machine.specs.Changes.{change, nothing};
+ghost use Rattle.init_machine.specs.Effect.{by_answer, export as export_lem};
+ghost use Rattle.init_machine.specs.Pairs.{with_variable};
+ghost use Rattle.init_machine.specs.Services.{set_by as set_by_lem};
+ghost use Rattle.machine_parts.specs.Parts.{Does, rules_of, state_of};
+
+use init_base::{List, NoMemory, Text};
+use init_machine::{Cause, Done, Event, Output, Pair, PropStore};
+use machine_parts::{Parts, set_by};
+use std::alloc::Global;
+
+/// Init's own set of a property, of any name.
+pub fn set_property<S: PropStore>(
+    alloc: Global,
+    parts: &mut Parts<S>,
+    name: &Text,
+    value: &Text,
+) -> Result<Done, NoMemory>
+    ensures ending { IfOk result (λ ending. ending ≡ (by_answer (set_by_lem (rules_of parts.old) None name.now value.now (state_of S.meaning parts.old))).ending) }
+    ensures did { OnOk result (Does S.meaning S.told parts.old parts.new (by_answer (set_by_lem (rules_of parts.old) None name.now value.now (state_of S.meaning parts.old))).did) }
+    ensures beside { S.Beside parts.old.store parts.new.store }
+{
+    match set_by(alloc, parts, None, name, value)? {
+        None => Ok(Done::Ok),
+        Some(refusal) => Ok(Done::Failed(Cause::Set { refusal })),
+    }
+}
+
+/// Queues an event.
+pub fn trigger<S: PropStore>(parts: &mut Parts<S>, event: Text) -> Result<Done, NoMemory>
+    ensures ending { IfOk result (λ ending. ending ≡ Done.Ok) }
+    ensures did { let s = state_of S.meaning parts.old in OnOk result (Does S.meaning S.told parts.old parts.new (nothing (record s { events = s.events ++ Event.Named event ∷ [] }))) }
+    ensures beside { S.Beside parts.old.store parts.new.store }
+{
+    parts.queue.event(Event::Named(event))?;
+    Ok(Done::Ok)
+}
+
+/// The place of the first pair of a name.
+fn place_of(pairs: &List<Pair>, name: &Text) -> Option<usize>
+    ensures { result ≡ position (λ p. bytes_eq p.name name.now) pairs.now }
+{
+    pairs
+        .items()
+        .iter()
+        .position(|pair| pair.name.is(name.bytes()))
+}
+
+/// The value of a name is replaced, or the pair joins the end.
+fn set_variable(environment: &mut List<Pair>, name: &Text, value: &Text) -> Result<(), NoMemory>
+    ensures { OnOk result (environment.new ≡ with_variable environment.old name.now value.now) }
+{
+    let pair = Pair {
+        name: name.share()?,
+        value: value.share()?,
+    };
+    match place_of(environment, name) {
+        Some(at) => {
+            environment.set(at, pair);
+            Ok(())
+        }
+        None => environment.push(pair),
+    }
+}
+
+/// Gives a variable of the environment a value.
+pub fn export<S: PropStore>(parts: &mut Parts<S>, name: Text, value: Text) -> Result<Done, NoMemory>
+    ensures ending { IfOk result (λ ending. ending ≡ Done.Ok) }
+    ensures did { OnOk result (Does S.meaning S.told parts.old parts.new (export_lem name value (state_of S.meaning parts.old))) }
+    ensures beside { S.Beside parts.old.store parts.new.store }
+{
+    set_variable(&mut parts.environment, &name, &value)?;
+    parts.outputs.push(Output::Env { name, value })?;
+    Ok(Done::Ok)
+}
+
+/// A command without effect is noted.
+pub fn note<S: PropStore>(parts: &mut Parts<S>) -> Result<Done, NoMemory>
+    ensures ending { IfOk result (λ ending. ending ≡ Done.Ok) }
+    ensures did { OnOk result (Does S.meaning S.told parts.old parts.new (change (state_of S.meaning parts.old) (Output.Noted ∷ []))) }
+    ensures beside { S.Beside parts.old.store parts.new.store }
+{
+    parts.outputs.push(Output::Noted)?;
+    Ok(Done::Ok)
+}

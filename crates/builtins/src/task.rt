@@ -1,0 +1,217 @@
+//! Tasks: what words ask for with their arguments (AOSP, init's README, "Commands").
+
+ghost use Rattle.std.specs.Prelude.{◌≡◌, IfOk, codes};
+ghost use Rattle.init_machine.specs.Tasks.{by_mode, first as first_lem, make_directory as make_directory_lem, optional as optional_lem, run_once, second as second_lem, task_of as task_of_lem, trigger as trigger_lem, wait_for as wait_for_lem};
+
+use crate::arguments::{first, optional, program, second};
+use crate::forms::{mode, seconds};
+use init_base::{Millis, NoMemory, Text};
+use init_machine::{Op, Task, TreeCall, Word};
+
+/// How long a file is waited for.
+const WAIT: Millis = Millis(5000);
+
+/// The mode of a directory.
+const DIRECTORY_MODE: u16 = 0o755;
+
+const ONLY_ENABLED: &[u8] = b"--only-enabled";
+
+const ONLY_IF_RUNNING: &[u8] = b"--only-if-running";
+
+/// What a command asks for.
+#[tactic(auto, unfolding(init_machine::specs::Tasks::task_of))]
+pub fn task_of(word: Word, args: &[Text]) -> Result<Task, NoMemory>
+    ensures { IfOk result (λ task. task ≡ task_of_lem word args.now) }
+{
+    match word {
+        Word::ClassStart => on_class(Op::ClassStart, args),
+        Word::ClassStop => on_class(Op::Stop, args),
+        Word::ClassReset => on_class(Op::Reset, args),
+        Word::ClassRestart => restart_class(args),
+        Word::Start => on_service(Op::Start, args),
+        Word::Stop => on_service(Op::Stop, args),
+        Word::Enable => on_service(Op::Enable, args),
+        Word::Restart => restart_service(args),
+        Word::ExecStart => exec_start(args),
+        Word::Exec => exec(args),
+        Word::Setprop => set_property(args),
+        Word::Trigger => trigger(args),
+        Word::WaitForProp => wait_for_property(args),
+        Word::Wait => wait_for(args),
+        Word::LoadPersistProps => Ok(Task::LoadSaved),
+        Word::Export => export(args),
+        Word::Write => write(args),
+        Word::Copy => copy(args),
+        Word::Rm => remove(args),
+        Word::Rmdir => remove_directory(args),
+        Word::Symlink => link(args),
+        Word::Chmod => change_mode(args),
+        Word::Mkdir => make_directory(args),
+        Word::Inert(_) => Ok(Task::Note),
+    }
+}
+
+fn on_class(op: Op, args: &[Text]) -> Result<Task, NoMemory>
+    ensures { IfOk result (λ task. task ≡ Task.OnClass op (first_lem args.now)) }
+{
+    let class = first(args)?;
+    Ok(Task::OnClass { op, class })
+}
+
+fn on_service(op: Op, args: &[Text]) -> Result<Task, NoMemory>
+    ensures { IfOk result (λ task. task ≡ Task.OnService op (first_lem args.now)) }
+{
+    let name = first(args)?;
+    Ok(Task::OnService { op, name })
+}
+
+fn restart_class(args: &[Text]) -> Result<Task, NoMemory>
+    ensures { IfOk result (λ task. task ≡ optional_lem (codes "--only-enabled") (λ only class. Task.OnClass (Op.ClassRestart only) class) args.now) }
+{
+    match optional(ONLY_ENABLED, args)? {
+        None => Ok(Task::BadArgument { number: 1 }),
+        Some((only_enabled, class)) => {
+            let op = Op::ClassRestart { only_enabled };
+            Ok(Task::OnClass { op, class })
+        }
+    }
+}
+
+fn restart_service(args: &[Text]) -> Result<Task, NoMemory>
+    ensures { IfOk result (λ task. task ≡ optional_lem (codes "--only-if-running") (λ only name. Task.OnService (Op.Restart only) name) args.now) }
+{
+    match optional(ONLY_IF_RUNNING, args)? {
+        None => Ok(Task::BadArgument { number: 1 }),
+        Some((only_running, name)) => {
+            let op = Op::Restart { only_running };
+            Ok(Task::OnService { op, name })
+        }
+    }
+}
+
+fn exec_start(args: &[Text]) -> Result<Task, NoMemory>
+    ensures { IfOk result (λ task. task ≡ Task.ExecStart (first_lem args.now)) }
+{
+    let name = first(args)?;
+    Ok(Task::ExecStart { name })
+}
+
+fn exec(args: &[Text]) -> Result<Task, NoMemory>
+    ensures { IfOk result (λ task. task ≡ run_once args.now) }
+{
+    match program(args)? {
+        Some(path) => Ok(Task::Exec { path }),
+        None => Ok(Task::BadArgument { number: 1 }),
+    }
+}
+
+fn set_property(args: &[Text]) -> Result<Task, NoMemory>
+    ensures { IfOk result (λ task. task ≡ Task.SetProperty (first_lem args.now) (second_lem args.now)) }
+{
+    let name = first(args)?;
+    let value = second(args)?;
+    Ok(Task::SetProperty { name, value })
+}
+
+fn trigger(args: &[Text]) -> Result<Task, NoMemory>
+    ensures { IfOk result (λ task. task ≡ trigger_lem (first_lem args.now)) }
+{
+    let event = first(args)?;
+    if event.is_empty() {
+        Ok(Task::BadArgument { number: 1 })
+    } else {
+        Ok(Task::Trigger { event })
+    }
+}
+
+fn wait_for_property(args: &[Text]) -> Result<Task, NoMemory>
+    ensures { IfOk result (λ task. task ≡ Task.WaitForProperty (first_lem args.now) (second_lem args.now)) }
+{
+    let name = first(args)?;
+    let value = second(args)?;
+    Ok(Task::WaitForProperty { name, value })
+}
+
+fn wait_for(args: &[Text]) -> Result<Task, NoMemory>
+    ensures { IfOk result (λ task. task ≡ wait_for_lem args.now) }
+{
+    let path = first(args)?;
+    let [_, within, ..] = args else {
+        return Ok(Task::WaitForFile { path, within: WAIT });
+    };
+    match seconds(within.bytes()) {
+        Some(within) => Ok(Task::WaitForFile { path, within }),
+        None => Ok(Task::BadArgument { number: 2 }),
+    }
+}
+
+fn export(args: &[Text]) -> Result<Task, NoMemory>
+    ensures { IfOk result (λ task. task ≡ Task.Export (first_lem args.now) (second_lem args.now)) }
+{
+    let name = first(args)?;
+    let value = second(args)?;
+    Ok(Task::Export { name, value })
+}
+
+fn write(args: &[Text]) -> Result<Task, NoMemory>
+    ensures { IfOk result (λ task. task ≡ Task.Tree (TreeCall.Write (first_lem args.now) (second_lem args.now))) }
+{
+    let path = first(args)?;
+    let content = second(args)?;
+    Ok(Task::Tree(TreeCall::Write { path, content }))
+}
+
+fn copy(args: &[Text]) -> Result<Task, NoMemory>
+    ensures { IfOk result (λ task. task ≡ Task.Tree (TreeCall.Copy (first_lem args.now) (second_lem args.now))) }
+{
+    let from = first(args)?;
+    let to = second(args)?;
+    Ok(Task::Tree(TreeCall::Copy { from, to }))
+}
+
+fn remove(args: &[Text]) -> Result<Task, NoMemory>
+    ensures { IfOk result (λ task. task ≡ Task.Tree (TreeCall.Remove (first_lem args.now))) }
+{
+    let path = first(args)?;
+    Ok(Task::Tree(TreeCall::Remove { path }))
+}
+
+fn remove_directory(args: &[Text]) -> Result<Task, NoMemory>
+    ensures { IfOk result (λ task. task ≡ Task.Tree (TreeCall.RemoveDirectory (first_lem args.now))) }
+{
+    let path = first(args)?;
+    Ok(Task::Tree(TreeCall::RemoveDirectory { path }))
+}
+
+fn link(args: &[Text]) -> Result<Task, NoMemory>
+    ensures { IfOk result (λ task. task ≡ Task.Tree (TreeCall.Link (first_lem args.now) (second_lem args.now))) }
+{
+    let target = first(args)?;
+    let path = second(args)?;
+    Ok(Task::Tree(TreeCall::Link { target, path }))
+}
+
+fn change_mode(args: &[Text]) -> Result<Task, NoMemory>
+    ensures { IfOk result (λ task. task ≡ by_mode 1 (first_lem args.now) (λ m. TreeCall.ChangeMode m (second_lem args.now))) }
+{
+    let text = first(args)?;
+    let path = second(args)?;
+    match mode(text.bytes()) {
+        Some(mode) => Ok(Task::Tree(TreeCall::ChangeMode { mode, path })),
+        None => Ok(Task::BadArgument { number: 1 }),
+    }
+}
+
+fn make_directory(args: &[Text]) -> Result<Task, NoMemory>
+    ensures { IfOk result (λ task. task ≡ make_directory_lem args.now) }
+{
+    let path = first(args)?;
+    let [_, text, ..] = args else {
+        let mode = DIRECTORY_MODE;
+        return Ok(Task::Tree(TreeCall::MakeDirectory { path, mode }));
+    };
+    match mode(text.bytes()) {
+        Some(mode) => Ok(Task::Tree(TreeCall::MakeDirectory { path, mode })),
+        None => Ok(Task::BadArgument { number: 2 }),
+    }
+}

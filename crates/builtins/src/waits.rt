@@ -1,0 +1,99 @@
+//! Commands that wait: for a program, for a value of a property, and for a file.
+
+ghost use Rattle.std.specs.Prelude.{◌≡◌, ◌+◌, IfOk, OnOk};
+ghost use Rattle.std.specs.Str.{bytes_eq};
+ghost use Rattle.init_machine.specs.Effect.{exec as exec_lem, wait_for_file as wait_for_file_lem, wait_for_property as wait_for_property_lem};
+ghost use Rattle.init_machine.specs.Matches.{or_empty};
+ghost use Rattle.init_machine.specs.Props.{value_in};
+ghost use Rattle.machine_parts.specs.Parts.{Does, rules_of, state_of};
+
+use init_base::{Millis, NoMemory, PropName, Text};
+use init_machine::{Cause, Done, Output, Pair, PropStore, Waiting};
+use machine_parts::Parts;
+use model_kernel::SpawnRefusal;
+use prop_rules::look_up;
+use std::alloc::Global;
+
+/// The name of the process of a program that is run once.
+const EXEC: &[u8] = b"*exec";
+
+/// Runs a program once, and waits for it.
+pub fn exec<S: PropStore>(alloc: Global, parts: &mut Parts<S>, path: Text) -> Result<Done, NoMemory>
+    ensures ending { IfOk result (λ ending. ending ≡ (exec_lem (rules_of parts.old) path (state_of S.meaning parts.old)).ending) }
+    ensures did { OnOk result (Does S.meaning S.told parts.old parts.new (exec_lem (rules_of parts.old) path (state_of S.meaning parts.old)).did) }
+    ensures beside { S.Beside parts.old.store parts.new.store }
+{
+    let name = Text::of(alloc, EXEC)?;
+    match parts.kernel.spawn(&name, path.bytes()) {
+        Ok(pid) => {
+            parts.outputs.push(Output::Spawn { pid, name, path })?;
+            Ok(Done::Wait(Waiting::Child(pid)))
+        }
+        Err(SpawnRefusal::NoPid) => {
+            parts.outputs.push(Output::NoPid { name })?;
+            Ok(Done::Failed(Cause::NoPid))
+        }
+        Err(SpawnRefusal::NoMemory) => Err(NoMemory),
+    }
+}
+
+/// Whether a property has a value. An absent one counts as empty.
+fn has_value<S: PropStore>(store: &mut S, name: PropName<'_>, value: &[u8]) -> bool
+    ensures answer { result ≡ bytes_eq (or_empty (value_in (S.meaning store.old) name.entry.bytes.now)) value.now }
+    ensures same { S.meaning store.new ≡ S.meaning store.old }
+    ensures told { S.told store.new ≡ S.told store.old }
+    ensures beside { S.Beside store.old store.new }
+{
+    let mut buffer = [0; 91];
+    match look_up(store, name, &mut buffer) {
+        Some(now) => now == value,
+        None => value.is_empty(),
+    }
+}
+
+/// Waits for a value of a property, unless it has it already.
+pub fn wait_for_property<S: PropStore>(
+    parts: &mut Parts<S>,
+    name: Text,
+    value: Text,
+) -> Result<Done, NoMemory>
+    ensures ending { IfOk result (λ ending. ending ≡ (wait_for_property_lem name value (state_of S.meaning parts.old)).ending) }
+    ensures did { OnOk result (Does S.meaning S.told parts.old parts.new (wait_for_property_lem name value (state_of S.meaning parts.old)).did) }
+    ensures beside { S.Beside parts.old.store parts.new.store }
+{
+    let Some(legal) = PropName::of(name.bytes()) else {
+        return Ok(Done::Failed(Cause::BadArgument { number: 1 }));
+    };
+    if has_value(&mut parts.store, legal, value.bytes()) {
+        Ok(Done::Ok)
+    } else {
+        Ok(Done::Wait(Waiting::Prop(Pair { name, value })))
+    }
+}
+
+/// The time so long from now. One past 64 bits is want of memory.
+fn time_after(now: Millis, within: Millis) -> Result<Millis, NoMemory>
+    ensures { IfOk result (λ until. until.0 ≡ now.0 + within.0) }
+{
+    match now.0.checked_add(within.0) {
+        Some(until) => Ok(Millis(until)),
+        None => Err(NoMemory),
+    }
+}
+
+/// Waits for a file, unless it is there already.
+pub fn wait_for_file<S: PropStore>(
+    parts: &mut Parts<S>,
+    path: Text,
+    within: Millis,
+) -> Result<Done, NoMemory>
+    ensures ending { IfOk result (λ ending. ending ≡ (wait_for_file_lem path within (state_of S.meaning parts.old)).ending) }
+    ensures did { OnOk result (Does S.meaning S.told parts.old parts.new (wait_for_file_lem path within (state_of S.meaning parts.old)).did) }
+    ensures beside { S.Beside parts.old.store parts.new.store }
+{
+    if parts.tree.has(path.bytes()) {
+        return Ok(Done::Ok);
+    }
+    let until = time_after(parts.kernel.now(), within)?;
+    Ok(Done::Wait(Waiting::File { path, until }))
+}
