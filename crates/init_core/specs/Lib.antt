@@ -1,6 +1,6 @@
-pub mod Kept
-pub mod Laws
-pub mod OneEvent
-pub mod Parts
-pub mod Running
+pub mod ByName
+pub mod Completed
+pub mod Core
+pub mod Down
+pub mod Reaped
 pub mod Stage

@@ -1,17 +1,20 @@
-//! The core: the documented machine over any store of properties, one input after another, with its history.
+//! The core: the documented machine over any store of properties, one input after another.
 //!
-//! `Core::take` appends the entry of the documented step, and keeps the history legal: the definitions `Step`, `After`
-//! and `Legal` stand in `init_machine`. Nothing is known of the store but its trait's clauses. `laws` says what holds of
-//! every legal history.
+//! `Core::take` is the step of `init_machine`'s `specs/Step.antt`. Nothing is known of the store but its trait's clauses.
 #![tactic(auto)]
 
-mod commands;
-pub mod laws;
+mod boot;
+mod client;
+mod clock;
+mod last_pairs;
 mod machine;
-mod matching;
-mod parts;
-mod running;
+mod next;
+mod read;
+mod reaping;
+mod restarting;
 mod step;
-mod taking;
+#[cfg(test)]
+mod tests;
+mod waiting;
 
 pub use machine::{Core, CoreStop};

@@ -1,14 +1,20 @@
-//! `Core`: the machine with the history of its inputs.
+//! `Core`: the machine, one input after another.
 
-ghost use Rattle.std.specs.Prelude.{◌≡◌, ◌↔◌, ◌++◌, ◌∷◌, [], true, false, IfOk, OnOk};
-ghost use Rattle.init_machine.specs.Props.{lookup_in, more_sets, IsLookUp};
+ghost use Rattle.std.specs.Prelude.{◌≡◌, ◌↔◌, [], true, false, IfOk, OnOk};
 
-use crate::parts::{Parts, Queue};
 use crate::step::step;
-use init_base::{Fifo, List, NoMemory, PropName};
-use init_machine::{Config, Entry, Input, Pair, PropStore};
+use init_base::{List, NoMemory, PropName, Text};
+use init_machine::{Config, Input, Output, Pair, PropStore};
+use machine_parts::{Parts, Saved, Schedule};
+use model_fs::Tree;
+use model_kernel::Kernel;
+use prop_contexts::Policy;
+use services::Services;
 use std::alloc::Global;
 use std::marker::Model;
+
+/// The pid of the first process.
+const FIRST_PID: u32 = 100;
 
 /// Why a core took no input.
 #[derive(Clone, Copy, Debug, PartialEq, Eq)]
@@ -29,74 +35,98 @@ impl From<NoMemory> for CoreStop {
     }
 }
 
-/// The machine over a store of properties, with the history of its inputs.
+/// The machine over a store of properties.
 ///
-/// To contracts it is what it was opened with, its history, whether it is spent, and its store. Unless it is spent, the
-/// history is legal, and the store has the properties of the state after the history's inputs.
+/// To contracts it is what it goes by, its state, the outputs of its last input, its store, and whether it is spent.
 #[derive(Drop)]
 pub struct Core<S: PropStore> {
     alloc: Global,
-    config: Config,
+    /// The pairs of the build files.
+    pairs: List<Pair>,
+    /// The domains of the clients.
+    domains: List<Text>,
     parts: Parts<S>,
-    history: List<Entry>,
     spent: bool,
 }
 
 impl<S: PropStore> Model for Core<S> {
-    ghost use Rattle.init_core.specs.Kept.{CoreView};
+    ghost use Rattle.std.specs.Prelude.{[]};
+    ghost use Rattle.init_core.specs.Core.{CoreView, config_of};
+    ghost use Rattle.machine_parts.specs.Parts.{state_of};
 
     ghost Value = { CoreView S };
 
-    ghost use Rattle.init_core.specs.Kept.{shown, IsKept};
-
-    ghost view = { shown S.meaning };
-
-    ghost invariant = { IsKept S.meaning };
+    ghost view = { λ c. record {
+      config = config_of c.pairs c.domains c.parts;
+      policy = c.parts.policy;
+      state = state_of S.meaning c.parts;
+      outputs = c.parts.outputs;
+      store = c.parts.store;
+      spent = c.spent;
+    } };
 }
 
 impl<S: PropStore> Core<S> {
-    ghost use Rattle.init_core.specs.Stage.Built.{IsBuiltConfig, IsBuiltInput};
-    ghost use Rattle.init_core.specs.Stage.History.{after, Legal};
-    ghost use Rattle.init_machine.specs.History.{inputs_of, sets_in};
-    ghost use Rattle.init_core.specs.Kept.{opening_of, outputs_at};
+    ghost use Rattle.init_core.specs.Core.{opened, step_of};
+    ghost use Rattle.init_core.specs.declared.machine.CoreStop.TheVariants as CoreStop;
+    ghost use Rattle.init_machine.specs.History.{sets_in};
+    ghost use Rattle.init_machine.specs.Props.{lookup_in, more_sets, IsLookUp};
+    ghost use Rattle.init_machine.specs.WellFormed.{IsWellFormed};
 
     /// The machine in its first state.
-    pub fn new(alloc: Global, config: Config, store: S) -> Result<Core<S>, NoMemory>
-        requires built { IsBuiltConfig config }
+    pub fn new(alloc: Global, config: Config, policy: Policy, store: S) -> Result<Core<S>, NoMemory>
+    where
+        S: Drop,
+        requires config { IsWellFormed config }
         requires empty { (S.meaning store).held ≡ [] }
         requires count { (S.meaning store).count ≡ 0 }
-        ensures { IfOk result (λ core. core ≡ record { opening = opening_of config (S.meaning store); history = []; spent = false; store = store }) }
+        ensures { IfOk result (λ core. core ≡ opened config policy (S.meaning store).capacity store) }
     {
+        let Config {
+            actions,
+            services,
+            pairs,
+            saved,
+            plans,
+            domains,
+        } = config;
+        let queue = Schedule::new(alloc, actions)?;
+        let services = Services::new(alloc, services)?;
+        let kernel = Kernel::new(alloc, FIRST_PID, plans)?;
+        let saved = Saved::of(saved);
+        let parts = Parts {
+            store,
+            queue,
+            services,
+            kernel,
+            tree: Tree::new(alloc)?,
+            policy,
+            environment: List::new(alloc),
+            saved,
+            saving: false,
+            waits: None,
+            over: None,
+            outputs: List::new(alloc),
+        };
         Ok(Core {
             alloc,
-            config,
-            parts: Parts {
-                store,
-                queue: Queue {
-                    events: Fifo::new(alloc),
-                    running: Fifo::new(alloc),
-                    changes: false,
-                },
-                had_boot: false,
-                saved: List::new(alloc),
-                saving: false,
-            },
-            history: List::new(alloc),
+            pairs,
+            domains,
+            parts,
             spent: false,
         })
     }
 
-    /// Takes one input: the history gets its entry, whose outputs are those of the documented step.
+    /// Takes one input: what the documented step does. Its outputs take the place of those of the input before.
     ///
     /// `Spent` comes exactly where an earlier call answered `NoMemory`, and changes nothing. After `NoMemory` the store
     /// is the same beside the map, and nothing else is said of the core.
-    pub fn take(&mut self, input: Input) -> Result<(), CoreStop>
-        requires { IsBuiltInput input }
-
-        ensures opening { OnOk result (self.new.opening ≡ self.old.opening) }
-        ensures entry { OnOk result (self.new.history ≡ self.old.history ++ record { input = input; outputs = outputs_at self.old input } ∷ []) }
-        ensures legal { OnOk result (Legal self.new.opening self.new.history) }
-        ensures sets { OnOk result (S.told self.new.store ≡ more_sets (S.told self.old.store) (sets_in (outputs_at self.old input))) }
+    pub fn take(&mut self, input: &Input) -> Result<(), CoreStop>
+        ensures config { OnOk result (self.new.config ≡ self.old.config) }
+        ensures policy { OnOk result (self.new.policy ≡ self.old.policy) }
+        ensures state { OnOk result (self.new.state ≡ (step_of self.old input.now).state) }
+        ensures outputs { OnOk result (self.new.outputs ≡ (step_of self.old input.now).lines) }
+        ensures told { OnOk result (S.told self.new.store ≡ more_sets (S.told self.old.store) (sets_in (step_of self.old input.now).lines)) }
         ensures ready { OnOk result (self.new.spent ≡ false) }
 
         ensures spent { (result ≡ Err CoreStop.Spent) ↔ (self.old.spent ≡ true) }
@@ -108,54 +138,43 @@ impl<S: PropStore> Core<S> {
             return Err(CoreStop::Spent);
         }
         self.spent = true;
-        let mut outputs = List::new(self.alloc);
+        self.parts.outputs.truncate(0);
         step(
             self.alloc,
-            &self.config,
+            &self.pairs,
+            &self.domains,
             &mut self.parts,
-            &input,
-            &mut outputs,
+            input,
         )?;
-        self.history.push(Entry { input, outputs })?;
         self.spent = false;
         Ok(())
     }
 
-    /// The entries so far.
-    pub fn history(&self) -> &List<Entry>
-        ensures same { result.now ≡ self.now.history }
-        ensures legal { self.now.spent ≡ false → Legal self.now.opening result.now }
+    /// The outputs of the last input.
+    pub fn outputs(&self) -> &List<Output>
+        ensures { result.now ≡ self.now.outputs }
     {
-        &self.history
-    }
-
-    /// The entries, when no input follows.
-    pub fn into_history(self) -> List<Entry>
-    where
-        S: Drop,
-        ensures same { result ≡ self.history }
-        ensures legal { self.spent ≡ false → Legal self.opening result }
-    {
-        self.history
+        &self.parts.outputs
     }
 
     /// The properties to be saved.
     pub fn saved(&self) -> &List<Pair>
-        ensures { self.now.spent ≡ false → result.now ≡ (after self.now.opening (inputs_of self.now.history)).saved }
+        ensures { result.now ≡ self.now.state.saved }
     {
-        &self.parts.saved
+        self.parts.saved.pairs()
     }
 
     /// Whether sets of persistent properties are saved.
     pub fn saving(&self) -> bool
-        ensures { self.now.spent ≡ false → result ≡ (after self.now.opening (inputs_of self.now.history)).saving }
+        ensures { result ≡ self.now.state.saving }
     {
         self.parts.saving
     }
 
+    /// The store of properties.
     pub fn store(&self) -> &S
         ensures same { result.now ≡ self.now.store }
-        ensures props { self.now.spent ≡ false → S.meaning result.now ≡ (after self.now.opening (inputs_of self.now.history)).props }
+        ensures props { S.meaning result.now ≡ self.now.state.props }
     {
         &self.parts.store
     }

@@ -1,32 +1,27 @@
-use Rattle.std.proofs.Common.{ap, ◌∙◌}
-use Rattle.init_core.specs.Kept.{opening_of}
-use Rattle.init_core.specs.Parts.{state_of}
-use Rattle.init_core.proofs.Histories.{kept_step}
+use Rattle.init_core.proofs.Steps.{steps}
 use Rattle.init_core.proofs.machine.Core.take.Goals as goal
 
-pub returns-clause-opening : goal.returns-clause-opening
-returns-clause-opening g c =
-    let meaning = g.S.PropStore.meaning in
-    let kept = kept_step (opening_of c.self.inside.config (meaning c.self.inside.parts.store)) (state_of meaning c.self.inside.parts) (state_of meaning c.step.new.parts)
-    c.self.inside.history c.push.new.self c.args.input c.new-outputs.result c.step.new.outputs
-    (c.self.invariant.state c.if-self.false) (c.self.invariant.legal c.if-self.false) (c.self.invariant.marks c.if-self.false)
-    c.in_ok-step.ensures.state c.new-outputs.ensures c.in_ok-step.ensures.outputs c.in_ok-push.ensures.ok in
-    kept.0 ∙ ap (λ v. v.opening) c.self.view_is
+pub returns-clause-config : goal.returns-clause-config
+returns-clause-config g c =
+    let inside = c.self.inside in
+    (steps inside.pairs inside.domains inside.spent c.args.self.now c.args.input.now inside.parts c.step.new.parts c.truncate.new.self c.self.view_is c.truncate.ensures c.in_ok-step.ensures.done).config
 
-pub returns-clause-legal : goal.returns-clause-legal
-returns-clause-legal g c =
-    let meaning = g.S.PropStore.meaning in
-    let kept = kept_step (opening_of c.self.inside.config (meaning c.self.inside.parts.store)) (state_of meaning c.self.inside.parts) (state_of meaning c.step.new.parts)
-    c.self.inside.history c.push.new.self c.args.input c.new-outputs.result c.step.new.outputs
-    (c.self.invariant.state c.if-self.false) (c.self.invariant.legal c.if-self.false) (c.self.invariant.marks c.if-self.false)
-    c.in_ok-step.ensures.state c.new-outputs.ensures c.in_ok-step.ensures.outputs c.in_ok-push.ensures.ok in
-    kept.2
+pub returns-clause-policy : goal.returns-clause-policy
+returns-clause-policy g c =
+    let inside = c.self.inside in
+    (steps inside.pairs inside.domains inside.spent c.args.self.now c.args.input.now inside.parts c.step.new.parts c.truncate.new.self c.self.view_is c.truncate.ensures c.in_ok-step.ensures.done).policy
 
-pub invariant_of-self-2 : goal.invariant_of-self-2
-invariant_of-self-2 g c =
-    let meaning = g.S.PropStore.meaning in
-    let kept = kept_step (opening_of c.self.inside.config (meaning c.self.inside.parts.store)) (state_of meaning c.self.inside.parts) (state_of meaning c.step.new.parts)
-    c.self.inside.history c.push.new.self c.args.input c.new-outputs.result c.step.new.outputs
-    (c.self.invariant.state c.if-self.false) (c.self.invariant.legal c.if-self.false) (c.self.invariant.marks c.if-self.false)
-    c.in_ok-step.ensures.state c.new-outputs.ensures c.in_ok-step.ensures.outputs c.in_ok-push.ensures.ok in
-    record { state = λ _. kept.1; legal = λ _. kept.2; marks = λ _. kept.3 }
+pub returns-clause-state : goal.returns-clause-state
+returns-clause-state g c =
+    let inside = c.self.inside in
+    (steps inside.pairs inside.domains inside.spent c.args.self.now c.args.input.now inside.parts c.step.new.parts c.truncate.new.self c.self.view_is c.truncate.ensures c.in_ok-step.ensures.done).state
+
+pub returns-clause-outputs : goal.returns-clause-outputs
+returns-clause-outputs g c =
+    let inside = c.self.inside in
+    (steps inside.pairs inside.domains inside.spent c.args.self.now c.args.input.now inside.parts c.step.new.parts c.truncate.new.self c.self.view_is c.truncate.ensures c.in_ok-step.ensures.done).outputs
+
+pub returns-clause-told : goal.returns-clause-told
+returns-clause-told g c =
+    let inside = c.self.inside in
+    (steps inside.pairs inside.domains inside.spent c.args.self.now c.args.input.now inside.parts c.step.new.parts c.truncate.new.self c.self.view_is c.truncate.ensures c.in_ok-step.ensures.done).told

@@ -1,0 +1,61 @@
+-- Commands that are found, expanded, and run.
+use Rattle.std.proofs.Common.{◌≡◌, ℕ, true, false, List, Option, Some, None, Result, OnOk, refl, sym, ap, ◌∙◌, subst, append-nil, codes}
+use Rattle.std.specs.List.{slice_get}
+use Rattle.std.specs.Option.{is_some}
+use Rattle.init_machine.specs.Changes.{nothing, each}
+use Rattle.init_machine.specs.Effect.{effect}
+use Rattle.init_machine.specs.Props.{Props}
+use Rattle.init_machine.specs.Reaping.{restarting}
+use Rattle.init_machine.specs.Services.{tell}
+use Rattle.init_machine.specs.State.{Rules}
+use Rattle.init_machine.specs.declared.action.Command.{Command}
+use Rattle.init_machine.specs.declared.service.ServiceDef.{ServiceDef}
+use Rattle.machine_parts.specs.Parts.{Does, state_of, rules_of}
+use Rattle.machine_parts.specs.declared.parts.Parts.{Parts}
+use Rattle.builtins.specs.Asked.{asked_by}
+use Rattle.builtins.specs.declared.asked.Asked.{Asked}
+use Rattle.init_core.specs.Reaped.{onrestart_of}
+use Rattle.init_core.proofs.Composed.{does_plain, does_both, does_then, does_no_more, on_ok}
+
+pub same_some : {T : Type 0} (found : Option T) (a b : T) → Some a ≡ found → found ≡ Some b → a ≡ b
+same_some found a b first second = cc
+
+pub not_both : {T : Type 0} (found : Option T) (a : T) → None ≡ found → found ≡ Some a → ⊥
+not_both found a first second = cc
+
+module _ {S : Type 0} {meaning : S → Props} {told : S → Option (List (List ℕ × List ℕ))} where
+  -- a store that was read means the same
+  pub does_read : (p : Parts S) (s : S) → meaning s ≡ meaning p.store → told s ≡ told p.store → Does meaning told p (record p { store = s }) (nothing (state_of meaning p))
+  does_read p s same tells = does_plain (ap (λ (props : Props). record (state_of meaning p) { props = props }) same) (sym (append-nil p.outputs)) tells refl refl refl
+
+  -- the state of a service was told
+  tells_it : (old mid : Parts S) (name other word : List ℕ) → name ≡ other → Does meaning told old mid (tell (rules_of old) name word (state_of meaning old))
+      → Does meaning told old mid (tell (rules_of old) other word (state_of meaning old))
+  tells_it old mid name other word is done = subst (λ (n : List ℕ). Does meaning told old mid (tell (rules_of old) n word (state_of meaning old))) is done
+
+  pub restarts_on : (old mid new : Parts S) (at : ℕ) (service found : ServiceDef) (name : List ℕ) → name ≡ found.name → found ≡ service → slice_get old.services.defs at ≡ Some service
+      → Does meaning told old mid (tell (rules_of old) name (codes "restarting") (state_of meaning old)) → false ≡ is_some mid.over
+      → Does meaning told mid new (each (effect (rules_of mid)) (onrestart_of (slice_get mid.services.defs at)) (state_of meaning mid))
+      → Does meaning told old new (restarting (rules_of old) service (state_of meaning old))
+  restarts_on old mid new at service found name named is there first up second =
+      let same : slice_get mid.services.defs at ≡ Some service = ap (λ (rules : Rules). slice_get rules.services at) first.rules ∙ there in
+      does_then (λ rules s. each (effect rules) service.onrestart s)
+      (tells_it old mid name service.name (codes "restarting") (named ∙ ap (λ (s : ServiceDef). s.name) is) first) (sym up)
+      (subst (λ (o : Option ServiceDef). Does meaning told mid new (each (effect (rules_of mid)) (onrestart_of o) (state_of meaning mid))) same second)
+
+  pub restarts_over : (old new : Parts S) (service found : ServiceDef) (name : List ℕ) → name ≡ found.name → found ≡ service
+      → Does meaning told old new (tell (rules_of old) name (codes "restarting") (state_of meaning old)) → true ≡ is_some new.over
+      → Does meaning told old new (restarting (rules_of old) service (state_of meaning old))
+  restarts_over old new service found name named is first over =
+      does_no_more (each (effect (rules_of old)) service.onrestart)
+      (tells_it old new name service.name (codes "restarting") (named ∙ ap (λ (s : ServiceDef). s.name) is) first) (sym over)
+
+module _ {S : Type 0} (meaning : S → Props) (told : S → Option (List (List ℕ × List ℕ))) where
+  -- a command that was found and expanded runs
+  pub runs_found : {T E : Type 0} (p new : Parts S) (s : S) (r : Result T E) (asked : Asked) (found command : Command)
+      → found ≡ command → meaning s ≡ meaning p.store → told s ≡ told p.store → asked ≡ asked_by found (meaning p.store)
+      → ((c : Command) → asked ≡ asked_by c (meaning s) → OnOk r (Does meaning told (record p { store = s }) new (effect (rules_of p) c (state_of meaning (record p { store = s })))))
+      → OnOk r (Does meaning told p new (effect (rules_of p) command (state_of meaning p)))
+  runs_found p new s r asked found command is same tells asks runs =
+      let asks_it : asked ≡ asked_by command (meaning s) = asks ∙ ap (λ (c : Command). asked_by c (meaning p.store)) is ∙ ap (asked_by command) (sym same) in
+      on_ok r (λ done. does_both (λ rules now. effect rules command now) (does_read p s same tells) done) (runs command asks_it)

@@ -1,8 +1,0 @@
-use Rattle.init_core.proofs.Counted.{last_values, values_so_far}
-use Rattle.init_core.proofs.laws.values_are_last_sets.Goals as goal
-
-pub returns-clause-all : goal.returns-clause-all
-returns-clause-all c = last_values
-
-pub returns-clause-each : goal.returns-clause-each
-returns-clause-each c = values_so_far

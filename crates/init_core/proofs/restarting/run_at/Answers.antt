@@ -1,0 +1,11 @@
+use Rattle.init_core.proofs.Commands.{same_some, not_both, runs_found}
+use Rattle.init_core.proofs.restarting.run_at.Goals as goal
+
+pub returns-in_default-clause-done : goal.returns-in_default-clause-done
+returns-in_default-clause-done g c = λ command found. absurd (not_both _ command c.in_default.ensures found)
+
+pub returns-clause-done : goal.returns-clause-done
+returns-clause-done g c = λ command found.
+    let asked = c.in_ok-asked.ensures in
+    runs_found g.S.PropStore.meaning g.S.PropStore.told c.args.parts.now c.run.new.parts c.ask.new.store c.run.result c.in_ok-asked.asked c.in-Some.command.now command
+    (same_some _ _ command c.in-Some.ensures found) asked.same asked.told asked.asked c.run.ensures.effect

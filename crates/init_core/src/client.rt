@@ -1,0 +1,71 @@
+//! Sets by clients, each judged by the domain of its client.
+
+ghost use Rattle.std.specs.Prelude.{◌≡◌, [], IfOk, OnOk};
+ghost use Rattle.init_machine.specs.Setting.{is_control as is_control_lem};
+ghost use Rattle.init_machine.specs.Step.{answer_line as answer_line_lem, ask as ask_lem, domain_of as domain_of_lem};
+ghost use Rattle.machine_parts.specs.Parts.{Does, rules_of, state_of};
+
+use init_base::{ClientId, List, NoMemory, Text};
+use init_machine::{Output, PropStore, SetRefusal};
+use machine_parts::{Parts, set_by};
+use std::alloc::Global;
+
+fn is_control(name: &[u8]) -> bool
+    ensures { result ≡ is_control_lem name.now }
+{
+    name.starts_with(b"ctl.")
+}
+
+/// The domain of a client. The clients are numbered from 1.
+fn domain_of(domains: &List<Text>, who: ClientId) -> Result<Text, NoMemory>
+    ensures { IfOk result (λ domain. domain ≡ domain_of_lem domains.now who) }
+{
+    match domains.at(who.0.saturating_sub(1) as usize) {
+        Some(domain) => domain.share(),
+        None => Ok(Text::empty()),
+    }
+}
+
+fn answer_line(refused: Option<SetRefusal>, is_control: bool, count: u64) -> Output
+    ensures { result ≡ answer_line_lem refused is_control count }
+{
+    match refused {
+        Some(refusal) => Output::Refused { refusal },
+        None if is_control => Output::Control { number: count },
+        None => Output::Accepted { number: count },
+    }
+}
+
+/// A client asks for a property to be set.
+fn ask<S: PropStore>(
+    alloc: Global,
+    parts: &mut Parts<S>,
+    domain: &Text,
+    name: &Text,
+    value: &Text,
+) -> Result<(), NoMemory>
+    ensures done { OnOk result (Does S.meaning S.told parts.old parts.new (ask_lem (rules_of parts.old) domain.now name.now value.now (state_of S.meaning parts.old))) }
+    ensures beside { S.Beside parts.old.store parts.new.store }
+{
+    let refused = set_by(alloc, parts, Some(domain), name, value)?;
+    let count = parts.store.count();
+    parts
+        .outputs
+        .push(answer_line(refused, is_control(name.bytes()), count))
+}
+
+/// A client asks for a property to be set, and is judged by the domain of its number.
+pub fn set_of_client<S: PropStore>(
+    alloc: Global,
+    parts: &mut Parts<S>,
+    domains: &List<Text>,
+    who: ClientId,
+    name: &Text,
+    value: &Text,
+) -> Result<(), NoMemory>
+    ensures done { OnOk result (Does S.meaning S.told parts.old parts.new (ask_lem (rules_of parts.old) (domain_of_lem domains.now who) name.now value.now (state_of S.meaning parts.old))) }
+    ensures beside { S.Beside parts.old.store parts.new.store }
+{
+    let domain = domain_of(domains, who)?;
+    ask(alloc, parts, &domain, name, value)
+}

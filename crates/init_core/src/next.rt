@@ -1,0 +1,38 @@
+//! The next command (AOSP, init's README, "Actions" and "Triggers").
+
+ghost use Rattle.std.specs.Prelude.{◌≡◌, OnOk};
+ghost use Rattle.init_machine.specs.Step.{next as next_lem, take_and_run as take_and_run_lem};
+ghost use Rattle.machine_parts.specs.Parts.{Does, actions_of, rules_of, state_of};
+
+use builtins::{ask, run};
+use init_base::NoMemory;
+use init_machine::{Output, PropStore};
+use machine_parts::Parts;
+use std::alloc::Global;
+
+/// Events are taken, and one command runs. Where none runs, the machine is idle.
+fn take_and_run<S: PropStore>(alloc: Global, parts: &mut Parts<S>) -> Result<(), NoMemory>
+    ensures done { OnOk result (Does S.meaning S.told parts.old parts.new (take_and_run_lem (actions_of parts.old) (rules_of parts.old) (state_of S.meaning parts.old))) }
+    ensures beside { S.Beside parts.old.store parts.new.store }
+{
+    let next = parts
+        .queue
+        .next(alloc, &mut parts.store, &mut parts.outputs)?;
+    let Some(place) = next else {
+        return parts.outputs.push(Output::Idle);
+    };
+    let asked = ask(alloc, &mut parts.store, parts.queue.command(place))?;
+    run(alloc, parts, asked)
+}
+
+/// One command runs, unless the machine waits.
+#[tactic(auto, unfolding(init_machine::specs::Step::next))]
+pub fn next<S: PropStore>(alloc: Global, parts: &mut Parts<S>) -> Result<(), NoMemory>
+    ensures done { OnOk result (Does S.meaning S.told parts.old parts.new (next_lem (actions_of parts.old) (rules_of parts.old) (state_of S.meaning parts.old))) }
+    ensures beside { S.Beside parts.old.store parts.new.store }
+{
+    if parts.waits.is_some() {
+        return parts.outputs.push(Output::Blocked);
+    }
+    take_and_run(alloc, parts)
+}

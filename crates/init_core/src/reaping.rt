@@ -1,0 +1,148 @@
+//! What the end of a process brings about: restarts, critical services, and the end of a wait (AOSP, init's README,
+//! "Services", and "Options" for `critical`; the counting of critical exits is this project's profile).
+
+ghost use Rattle.std.specs.Prelude.{◌≡◌, ◌<◌, Some, OnOk, IfOk, length, slice_get};
+ghost use Rattle.init_machine.specs.Changes.{each};
+ghost use Rattle.init_machine.specs.Reaping.{end_named as end_named_lem, end_service as end_service_lem, exited as exited_lem, reap as reap_lem, reboot as reboot_lem, release_child as release_child_lem, awaits_child};
+ghost use Rattle.init_machine.specs.Services.{place_of, service_at};
+ghost use Rattle.init_machine.specs.declared.service.ServiceDef.{ServiceDef as ServiceLem};
+ghost use Rattle.machine_parts.specs.Parts.{Does, rules_of, state_of};
+ghost use Rattle.init_core.specs.Reaped.{reap_one, target_of};
+
+use crate::read::is_boot_completed;
+use crate::restarting::restarting;
+use init_base::{List, NoMemory, Pid, Text};
+use init_machine::{How, Move, Op, Output, PropStore, Waiting};
+use machine_parts::{Parts, release, tell};
+use model_kernel::Reaped;
+use services::Services;
+use std::alloc::Global;
+
+/// The machine is over, by a reboot.
+fn reboot<S: PropStore>(parts: &mut Parts<S>, target: Text) -> Result<(), NoMemory>
+    ensures done { OnOk result (Does S.meaning S.told parts.old parts.new (reboot_lem target (state_of S.meaning parts.old))) }
+    ensures beside { S.Beside parts.old.store parts.new.store }
+{
+    parts.over = Some(target.share()?);
+    parts.outputs.push(Output::Reboot { target })
+}
+
+/// Where the service at a place reboots to, if it is critical.
+fn target(services: &Services, at: usize) -> Result<Option<Text>, NoMemory>
+    ensures { IfOk result (λ target. target ≡ target_of (slice_get services.now.defs at)) }
+{
+    let Some(service) = services.get(at) else {
+        return Ok(None);
+    };
+    match &service.critical {
+        Some(critical) => Ok(Some(critical.target.share()?)),
+        None => Ok(None),
+    }
+}
+
+/// The process of the service at a place has ended: the service is restarting, unless the end is one too many of a
+/// critical service.
+fn exited<S: PropStore>(alloc: Global, parts: &mut Parts<S>, at: usize) -> Result<(), NoMemory>
+    requires { at < length parts.old.services.defs }
+    ensures done { (service : ServiceLem) → slice_get parts.old.services.defs at ≡ Some service
+        → OnOk result (Does S.meaning S.told parts.old parts.new (exited_lem (rules_of parts.old) service at (state_of S.meaning parts.old))) }
+    ensures beside { S.Beside parts.old.store parts.new.store }
+{
+    let Some(target) = target(&parts.services, at)? else {
+        return restarting(alloc, parts, at);
+    };
+    let booted = is_boot_completed(&mut parts.store);
+    let now = parts.kernel.now();
+    let is_fatal = parts.services.count_exit(at, now, booted)?;
+    if is_fatal {
+        return reboot(parts, target);
+    }
+    restarting(alloc, parts, at)
+}
+
+/// The process of the service at a place has ended.
+fn end_service<S: PropStore>(alloc: Global, parts: &mut Parts<S>, at: usize) -> Result<(), NoMemory>
+    ensures done { OnOk result (Does S.meaning S.told parts.old parts.new (end_service_lem (rules_of parts.old) at (service_at (rules_of parts.old) at) (state_of S.meaning parts.old))) }
+    ensures beside { S.Beside parts.old.store parts.new.store }
+{
+    let Some(service) = parts.services.get(at) else {
+        return Ok(());
+    };
+    let name = service.name.share()?;
+    match parts.services.apply(at, Op::Reaped)? {
+        Move::Stopped => tell(alloc, parts, &name, b"stopped"),
+        Move::Exited => exited(alloc, parts, at),
+        Move::Nothing | Move::Spawn | Move::Kill { .. } => Ok(()),
+    }
+}
+
+/// The process of the service of a name has ended. The child of `exec` belongs to no service.
+fn end_named<S: PropStore>(alloc: Global, parts: &mut Parts<S>, name: &Text) -> Result<(), NoMemory>
+    ensures done { OnOk result (Does S.meaning S.told parts.old parts.new (end_named_lem (rules_of parts.old) (place_of (rules_of parts.old) name.now) (state_of S.meaning parts.old))) }
+    ensures beside { S.Beside parts.old.store parts.new.store }
+{
+    match parts.services.find(name.bytes()) {
+        Some(at) => end_service(alloc, parts, at),
+        None => Ok(()),
+    }
+}
+
+/// Whether it is this child that is waited for.
+fn is_awaited(waits: &Option<Waiting>, pid: Pid) -> bool
+    ensures { result ≡ awaits_child waits.now pid.0 }
+{
+    match waits {
+        Some(Waiting::Child(awaited)) => *awaited == pid,
+        Some(Waiting::Prop(_) | Waiting::File { .. }) | None => false,
+    }
+}
+
+/// A wait for the child ends.
+fn release_child<S: PropStore>(parts: &mut Parts<S>, pid: Pid) -> Result<(), NoMemory>
+    ensures done { OnOk result (Does S.meaning S.told parts.old parts.new (release_child_lem pid.0 (state_of S.meaning parts.old))) }
+    ensures beside { S.Beside parts.old.store parts.new.store }
+{
+    let ends = is_awaited(&parts.waits, pid);
+    release(ends, &mut parts.waits, &mut parts.outputs)
+}
+
+/// A process that has left the kernel is reaped.
+pub fn reap<S: PropStore>(
+    alloc: Global,
+    parts: &mut Parts<S>,
+    pid: Pid,
+    name: &Text,
+    how: How,
+) -> Result<(), NoMemory>
+    ensures done { OnOk result (Does S.meaning S.told parts.old parts.new (reap_lem (rules_of parts.old) pid.0 name.now how (state_of S.meaning parts.old))) }
+    ensures beside { S.Beside parts.old.store parts.new.store }
+{
+    parts.outputs.push(Output::Reap {
+        pid,
+        name: name.share()?,
+        how,
+    })?;
+    end_named(alloc, parts, name)?;
+    if parts.over.is_some() {
+        return Ok(());
+    }
+    release_child(parts, pid)
+}
+
+/// Processes that have left the kernel are reaped, until the machine is over.
+pub fn reap_each<S: PropStore>(
+    alloc: Global,
+    parts: &mut Parts<S>,
+    ended: &List<Reaped>,
+) -> Result<(), NoMemory>
+    ensures done { OnOk result (Does S.meaning S.told parts.old parts.new (each (reap_one (rules_of parts.old)) ended.now (state_of S.meaning parts.old))) }
+    ensures beside { S.Beside parts.old.store parts.new.store }
+{
+    for process in ended.items() {
+        reap(alloc, parts, process.pid, &process.name, process.how)?;
+        if parts.over.is_some() {
+            return Ok(());
+        }
+    }
+    Ok(())
+}
