@@ -1,3 +1,5 @@
+pub mod Blanks
 pub mod Defaults
 pub mod Expansions
-pub mod Numbers
+pub mod Lines
+pub mod Views

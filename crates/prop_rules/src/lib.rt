@@ -4,15 +4,17 @@
 //! exactly `is_typed` of its `specs/Typed.antt`.
 #![tactic(auto)]
 
+mod build;
 mod expansion;
-mod number;
 mod piece;
 #[cfg(test)]
 mod tests;
 mod types;
 mod value;
+mod view;
 
+pub use build::{BuildProps, build_props};
 pub use expansion::{ExpandRefusal, expand};
-pub use number::decimal;
 pub use types::check_type;
 pub use value::look_up;
+pub use view::boot_view;

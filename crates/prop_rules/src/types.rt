@@ -3,9 +3,8 @@
 ghost use Rattle.std.specs.Prelude.{◌≡◌};
 ghost use Rattle.init_machine.specs.Typed.{has_form as has_form_lem, is_int as is_int_lem, is_one_of as is_one_of_lem, is_typed, is_uint as is_uint_lem};
 
-use crate::number::decimal;
 use init_base::{List, Text};
-use init_machine::TypeKind;
+use init_machine::{TypeKind, decimal};
 
 const MOST_INT_DIGITS: usize = 19;
 

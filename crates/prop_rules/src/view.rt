@@ -1,0 +1,78 @@
+//! The view of the build files' pairs against which the paths of imports are expanded. What it gives is `view` of
+//! `specs/View.antt`.
+
+ghost use Rattle.std.specs.Prelude.{◌≡◌, ◌∷◌, ℕ, List as Items, IfOk, OnOk};
+ghost use Rattle.init_machine.specs.Props.{value_in, with_set};
+ghost use Rattle.init_machine.specs.declared.config.Pair.{Pair as AnyPair};
+ghost use Rattle.prop_rules.specs.View.{view as view_lem};
+ghost use Rattle.prop_rules.specs.Code.Views.{Shows, with_legal};
+
+use init_base::{List, NoMemory, PropName, PropValue};
+use init_machine::{ListStore, Pair, PropStore};
+use std::alloc::Global;
+use text_index::TextIndex;
+
+/// The capacity of the view, in words: as many as can be counted.
+const CAPACITY: u64 = u64::MAX;
+
+/// The store in which each name has the value of its last pair, where that pair's name and value are legal. It takes the
+/// time of the pairs. A view that takes more words than can be counted is want of memory.
+pub fn boot_view(alloc: Global, pairs: &List<Pair>) -> Result<ListStore, NoMemory>
+    ensures { IfOk result (λ store. (name : Items ℕ) → value_in store.props name ≡ view_lem pairs.now name) }
+{
+    let mut decided = TextIndex::new(alloc);
+    let mut view = ListStore::new(alloc, CAPACITY)?;
+    let mut rest = pairs.items();
+    while let [before @ .., pair] = rest {
+        take_earlier(alloc, &mut decided, &mut view, pair)?;
+        rest = before;
+    }
+    Ok(view)
+}
+
+/// Takes the pair before those that were taken, which decide the names that they have.
+#[tactic(auto, using(crate::proofs::Views::decided_stays, crate::proofs::Views::decides))]
+fn take_earlier(
+    alloc: Global,
+    decided: &mut TextIndex,
+    view: &mut ListStore,
+    pair: &Pair,
+) -> Result<(), NoMemory>
+    ensures { OnOk result ((later : Items AnyPair) → Shows decided.old view.old.props later → Shows decided.new view.new.props (pair.now ∷ later)) }
+{
+    let name = pair.name.bytes();
+    if decided.place(name).is_some() {
+        return Ok(());
+    }
+    decided.add(name)?;
+    put_legal(alloc, view, pair)
+}
+
+/// Sets the property of a pair, where its name and value are legal.
+fn put_legal(alloc: Global, view: &mut ListStore, pair: &Pair) -> Result<(), NoMemory>
+    ensures { OnOk result (view.new.props ≡ with_legal view.old.props pair.now) }
+{
+    let Some(name) = PropName::of(pair.name.bytes()) else {
+        return Ok(());
+    };
+    let Ok(value) = PropValue::of(pair.value.bytes()) else {
+        return Ok(());
+    };
+    put(alloc, view, name, value)
+}
+
+fn put(
+    alloc: Global,
+    view: &mut ListStore,
+    name: PropName<'_>,
+    value: PropValue<'_>,
+) -> Result<(), NoMemory>
+    ensures { OnOk result (view.new.props ≡ with_set view.old.props name.entry.bytes.now value.entry.bytes.now) }
+{
+    view.reserve(alloc)?;
+    if view.room(name).is_err() {
+        return Err(NoMemory);
+    }
+    view.put(name, value);
+    Ok(())
+}

@@ -1,0 +1,10 @@
+pub mod Files
+pub mod Listed
+pub mod Loads
+pub mod Places
+pub mod Slashes
+pub mod Sorted
+pub mod Sound
+pub mod Stores
+pub mod Walks
+pub mod Worlds

@@ -1,0 +1,34 @@
+-- What a load answers, and when.
+use Rattle.std.specs.Prelude.{◌≡◌, ℕ, ◌<◌, ◌⊎◌, ⊤, Bool, true, false, Result, Ok, Err}
+use Rattle.init_machine.specs.Props.{Props}
+use Rattle.rc_import.specs.declared.loaded.Loaded.{Loaded}
+use Rattle.rc_import.specs.declared.loaded.LoadRefusal.{LoadRefusal}
+use Rattle.rc_import.specs.declared.loaded.LoadRefusal.TheVariants.{NoInit, ReadFault, TooLarge, TooMany, NoMemory}
+
+-- an answer of the code is that of the definition, unless a call on the files failed or memory ran out
+abbrev pub IsAnswer : Result Loaded LoadRefusal → Result Loaded LoadRefusal → Type 0
+IsAnswer (Ok loaded) answer = answer ≡ Ok loaded
+IsAnswer (Err NoInit) answer = answer ≡ Err NoInit
+IsAnswer (Err ReadFault) answer = ⊤
+IsAnswer (Err (TooLarge path number)) answer = answer ≡ Err (TooLarge path number)
+IsAnswer (Err (TooMany path number)) answer = answer ≡ Err (TooMany path number)
+IsAnswer (Err NoMemory) answer = ⊤
+
+-- whether a call on the files failed
+abbrev pub is_read_fault : {T : Type 0} → Result T LoadRefusal → Bool
+is_read_fault (Ok value) = false
+is_read_fault (Err NoInit) = false
+is_read_fault (Err ReadFault) = true
+is_read_fault (Err (TooLarge path number)) = false
+is_read_fault (Err (TooMany path number)) = false
+is_read_fault (Err NoMemory) = false
+
+-- The number of a refusal says which limit was passed, also where the tree isn't told: one more than the bytes of a file
+-- or the names of a directory, a sum of bytes past that of all files, and one more than the files.
+abbrev pub HasItsNumber : {T : Type 0} → Result T LoadRefusal → Type 0
+HasItsNumber (Ok value) = ⊤
+HasItsNumber (Err NoInit) = ⊤
+HasItsNumber (Err ReadFault) = ⊤
+HasItsNumber (Err (TooLarge path number)) = (number ≡ 1048577) ⊎ (number ≡ 1025) ⊎ (33554432 < number)
+HasItsNumber (Err (TooMany path number)) = number ≡ 1025
+HasItsNumber (Err NoMemory) = ⊤

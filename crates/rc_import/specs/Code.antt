@@ -1,0 +1,4 @@
+-- What private functions say of themselves. No promise of the crate cites it, and a reader needn't believe it.
+pub mod Listings
+pub mod Sound
+pub mod Steps

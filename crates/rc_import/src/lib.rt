@@ -1,0 +1,20 @@
+//! Loading a tree of rc files: the root file, the files of five directories, and all that they import.
+//!
+//! `load` reads the files in the order that `specs/Order.antt` defines over the whole tree, as long as they are within the
+//! limits of `specs/Limits.antt`, and answers the actions and services that stay, with all diagnostics in order. What the
+//! code's steps say of themselves is in `specs/Code/` and is no part of any promise.
+#![tactic(auto)]
+
+mod first;
+mod gathered;
+mod import;
+mod listing;
+mod loaded;
+mod loading;
+mod path;
+mod place;
+mod world;
+
+pub use first::load;
+pub use loaded::{LoadRefusal, Loaded};
+pub use world::each_tree_has_its_world;

@@ -1,0 +1,223 @@
+//! What was read so far, and one file more. The limits are those of `specs/Limits.antt`.
+
+ghost use Rattle.std.specs.Prelude.{◌≡◌, ◌≤◌, ◌<◌, ◌+◌, ℕ, List as Items, Option as Maybe, false, IfOk, length};
+ghost use Rattle.init_base.specs.Faults.{Counted};
+ghost use Rattle.init_machine.specs.WellFormed.{IsWellFormed};
+ghost use Rattle.rc_parse.specs.Files.{Reads};
+ghost use Rattle.rc_import.specs.Answers.{HasItsNumber, is_read_fault};
+ghost use Rattle.rc_import.specs.Limits.{SoFar, loaded_of, nothing, with_bytes, with_file};
+ghost use Rattle.rc_import.specs.Order.{fault};
+ghost use Rattle.rc_import.specs.World.{IsWorld, World};
+ghost use Rattle.rc_import.specs.Code.Sound.{AreSound};
+ghost use Rattle.rc_import.specs.Code.Steps.{Follows, IsFile, IsShort, MeansFiles, ReachesImports, ReadsContent, Stands};
+
+use crate::gathered::Gathered;
+use crate::loaded::{LoadRefusal, Loaded};
+use init_base::{Files, List, NoMemory, ReadRefusal, Text};
+use init_machine::{DiagKind, Diagnostic};
+use rc_parse::{Import, Parsed, one_meaning, parse};
+use rc_tokens::lines;
+use std::alloc::Global;
+
+/// The most files that are read, those that aren't there included.
+const MOST_FILES: u64 = 1_024;
+
+const ONE_FILE_MORE: u64 = 1_025;
+
+/// The most bytes of a file.
+const MOST_FILE_BYTES: usize = 1_048_576;
+
+const ONE_BYTE_MORE: u64 = 1_048_577;
+
+/// The most bytes of all files.
+const MOST_BYTES: u64 = 33_554_432;
+
+/// What was read so far: how many files were asked for, the sum of their bytes, what stays of them, and what is wrong in
+/// them.
+#[derive(Drop)]
+pub struct Loading {
+    merger: Gathered,
+    diagnostics: List<Diagnostic>,
+    files: u64,
+    bytes: u64,
+}
+
+impl Loading {
+    pub fn new(alloc: Global) -> Loading
+        ensures { Stands result nothing }
+    {
+        Loading {
+            merger: Gathered::new(alloc),
+            diagnostics: List::new(alloc),
+            files: 0,
+            bytes: 0,
+        }
+    }
+
+    /// Adds the diagnostic of an import at a line of a file.
+    pub fn with_fault(self, file: &Text, line: u32, kind: DiagKind) -> Result<Loading, LoadRefusal>
+        ensures order { (tree : Maybe (Items (Items ℕ × Items ℕ))) (look_up : Items ℕ → Maybe (Items ℕ)) →
+            Follows tree look_up self result (λ _. fault file.now line kind) }
+        ensures number { HasItsNumber result }
+        ensures steady { is_read_fault result ≡ false }
+    {
+        let mut loading = self;
+        loading.diagnostics.push(Diagnostic {
+            file: file.share()?,
+            line,
+            kind,
+        })?;
+        Ok(loading)
+    }
+
+    /// Reads the file with this path, and answers its imports. None where it isn't there.
+    pub fn read<F: Files>(
+        self,
+        alloc: Global,
+        files: &mut F,
+        path: &Text,
+    ) -> Result<(Loading, Option<List<Import>>), LoadRefusal>
+        ensures read { (look_up : Items ℕ → Maybe (Items ℕ)) → IsFile (F.tree files.old) look_up self path.now result }
+        ensures number { HasItsNumber result }
+        ensures tree { F.tree files.new ≡ F.tree files.old }
+        ensures cause { Counted (is_read_fault result) (F.fault_count files.old) (F.fault_count files.new) }
+    {
+        if self.files >= MOST_FILES {
+            return Err(LoadRefusal::TooMany {
+                path: path.share()?,
+                number: ONE_FILE_MORE,
+            });
+        }
+        match content_of(alloc, files, path)? {
+            Some(content) => self.with_content(alloc, path, &content),
+            None => Ok((self.with_nothing(), None)),
+        }
+    }
+}
+
+impl Loading {
+    /// Counts a file that isn't there.
+    fn with_nothing(self) -> Loading
+        requires { self.files < 1024 }
+        ensures { (sofar : SoFar) → Stands self sofar → Stands result (record sofar { files = sofar.files + 1 }) }
+    {
+        let mut loading = self;
+        loading.files += 1;
+        loading
+    }
+
+    /// Adds a file of this content, and answers its imports.
+    fn with_content(
+        self,
+        alloc: Global,
+        path: &Text,
+        content: &Text,
+    ) -> Result<(Loading, Option<List<Import>>), LoadRefusal>
+        requires few { self.files < 1024 }
+        requires short { length content.now ≤ 1048576 }
+        ensures read { (world : World) → MeansFiles world → (sofar : SoFar) → Stands self sofar →
+            ReachesImports result (with_bytes world sofar path.now (Some content.now)) (Some (world.means path.now content.now).imports) }
+        ensures number { HasItsNumber result }
+        ensures steady { is_read_fault result ≡ false }
+    {
+        let bytes = self.bytes.saturating_add(content.len() as u64);
+        if bytes > MOST_BYTES {
+            return Err(LoadRefusal::TooLarge {
+                path: path.share()?,
+                number: bytes,
+            });
+        }
+        let parsed = sections_of(alloc, path, content)?;
+        one_meaning();
+        let (loading, imports) = self.with_parsed(alloc, bytes, parsed)?;
+        Ok((loading, Some(imports)))
+    }
+
+    /// Adds the sections of a file, behind which so many bytes were read, and answers its imports.
+    fn with_parsed(
+        self,
+        alloc: Global,
+        bytes: u64,
+        parsed: Parsed,
+    ) -> Result<(Loading, List<Import>), NoMemory>
+        requires few { self.files < 1024 }
+        requires sound { AreSound parsed.actions parsed.services }
+        ensures stands { IfOk result (λ next. (sofar : SoFar) (size : ℕ) → Stands self sofar → bytes ≡ sofar.bytes + size → bytes ≤ 33554432 → Stands next.0 (with_file sofar size parsed)) }
+        ensures imports { IfOk result (λ next. next.1 ≡ parsed.imports) }
+    {
+        let Loading {
+            merger,
+            mut diagnostics,
+            files,
+            ..
+        } = self;
+        let Parsed {
+            actions,
+            services,
+            imports,
+            diagnostics: own,
+        } = parsed;
+        diagnostics.append(own)?;
+        let sections = Parsed {
+            actions,
+            services,
+            imports: List::new(alloc),
+            diagnostics: List::new(alloc),
+        };
+        let (merger, agains) = merger.with(alloc, sections)?;
+        diagnostics.append(agains)?;
+        let loading = Loading {
+            merger,
+            diagnostics,
+            files: files + 1,
+            bytes,
+        };
+        Ok((loading, imports))
+    }
+
+    /// What is loaded, where nothing more is read.
+    pub fn finish(self, alloc: Global) -> Result<Loaded, NoMemory>
+        ensures loaded { IfOk result (λ loaded. (sofar : SoFar) → Stands self sofar → loaded ≡ loaded_of sofar) }
+        ensures well_formed { IfOk result (λ loaded. IsWellFormed loaded.config) }
+    {
+        Ok(Loaded {
+            config: self.merger.into_config(alloc)?,
+            diagnostics: self.diagnostics,
+        })
+    }
+}
+
+/// The content of the file with this path. None where it isn't there.
+fn content_of<F: Files>(
+    alloc: Global,
+    files: &mut F,
+    path: &Text,
+) -> Result<Option<Text>, LoadRefusal>
+    ensures content { ReadsContent (F.tree files.old) path.now result }
+    ensures short { IsShort result }
+    ensures number { HasItsNumber result }
+    ensures tree { F.tree files.new ≡ F.tree files.old }
+    ensures cause { Counted (is_read_fault result) (F.fault_count files.old) (F.fault_count files.new) }
+{
+    match files.read(alloc, path.bytes(), MOST_FILE_BYTES) {
+        Ok(content) => Ok(content),
+        Err(ReadRefusal::TooLarge) => Err(LoadRefusal::TooLarge {
+            path: path.share()?,
+            number: ONE_BYTE_MORE,
+        }),
+        Err(ReadRefusal::Failed) => Err(LoadRefusal::ReadFault),
+        Err(ReadRefusal::NoMemory) => Err(LoadRefusal::NoMemory),
+    }
+}
+
+/// The sections of a file. Its bytes are within the limit of tokens too.
+#[tactic(auto, using(crate::proofs::Sound::sections_sound))]
+fn sections_of(alloc: Global, path: &Text, content: &Text) -> Result<Parsed, NoMemory>
+    ensures reads { IfOk result (λ parsed. Reads path.now content.now parsed) }
+    ensures sound { IfOk result (λ parsed. AreSound parsed.actions parsed.services) }
+{
+    let Ok(tokens) = lines(alloc, content.bytes()) else {
+        return Err(NoMemory);
+    };
+    parse(alloc, path, tokens)
+}
