@@ -1,11 +1,11 @@
-mod Adding
+pub mod Adding
 mod Digits
 mod FieldsRead
 mod LinesPlain
+mod Lone
 mod ReportRead
 pub mod Runs
 mod Spelling
 mod Splitting
-mod Steps
-mod Texts
+pub mod Texts
 mod WordsRead

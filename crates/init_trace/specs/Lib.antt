@@ -1,5 +1,4 @@
 pub mod Fields
-pub mod HasText
 pub mod InRange
 pub mod Law
 pub mod Line

@@ -54,6 +54,22 @@ report_lines report =
     ++ clients_lines 1 report.clients
     ++ end_fields ∷ []
 
+-- the head of a text: its first line and the diagnostics
+abbrev pub HeadText : List Diagnostic → List ℕ
+HeadText diagnostics = lines_text (title_fields ∷ map diagnostic_fields diagnostics)
+
+-- the text of an entry
+abbrev pub EntryText : Entry → List ℕ
+EntryText entry = lines_text (entry_lines entry)
+
+-- the texts of entries, one after another
+abbrev pub EntriesText : List Entry → List ℕ
+EntriesText entries = flat_map EntryText entries
+
+-- the tail of a text: the parts of the clients, which are numbered from 1, and its last line
+abbrev pub TailText : List ClientPart → List ℕ
+TailText clients = lines_text (clients_lines 1 clients ++ end_fields ∷ [])
+
 -- the printed report
 unfoldable pub TextOf : Report → List ℕ
 TextOf report = lines_text (report_lines report)

@@ -1,6 +1,6 @@
 //! Lines of a report: diagnostics, the heads of entries, outputs, readings.
 
-ghost use Rattle.std.specs.Prelude.{◌≡◌, ◌++◌, ◌∷◌, [], ℕ, List as Items, OnOk};
+ghost use Rattle.std.specs.Prelude.{◌≡◌, ◌++◌, ◌∷◌, [], ℕ, List as Items, OnOk, length};
 ghost use Rattle.std.specs.Fmt.{decimal};
 ghost use Rattle.init_trace.specs.Line.{line_text, spaced};
 ghost use Rattle.init_trace.specs.Quoted.{quoted as quoted_lem};
@@ -134,7 +134,6 @@ fn add_output(page: &mut Vec<u8>, output: &Output) -> Result<(), NoMemory>
     match output {
         Output::Event { name } => word_text(page, b"event", name),
         Output::Change { name, value } => word_texts(page, b"change", name, value),
-        Output::AllProperties => word(page, b"all-properties"),
         Output::Action { file, line } => add_action(page, file, *line),
         Output::Command {
             file,
@@ -155,23 +154,35 @@ fn add_output(page: &mut Vec<u8>, output: &Output) -> Result<(), NoMemory>
         Output::Reap { pid, name, how } => add_reap(page, pid.0, name, *how),
         Output::Env { name, value } => word_texts(page, b"env", name, value),
         Output::Tree { path } => word_text(page, b"tree", path),
-        Output::Noted => word(page, b"noted"),
-        Output::Ok => word(page, b"ok"),
         Output::Failed { cause } => add_failed(page, cause),
         Output::WaitChild { pid } => add_wait_child(page, pid.0),
         Output::WaitProp { name, value } => add_wait_prop(page, name, value),
         Output::WaitFile { path, until } => add_wait_file(page, path, until.0),
-        Output::Released => word(page, b"released"),
-        Output::Timeout => word(page, b"timeout"),
-        Output::Blocked => word(page, b"blocked"),
-        Output::Idle => word(page, b"idle"),
-        Output::Down => word(page, b"down"),
-        Output::TooFar => word(page, b"too-far"),
-        Output::NoProcess => word(page, b"no-process"),
         Output::Reboot { target } => word_text(page, b"reboot", target),
         Output::Accepted { number } => word_number(page, b"accepted", *number),
         Output::Control { number } => word_number(page, b"control", *number),
         Output::Refused { refusal } => add_refused(page, refusal),
+        _ => word(page, lone_word(output)),
+    }
+}
+
+/// The word of an output that is one word.
+fn lone_word(output: &Output) -> &'static [u8]
+    requires { length (output_fields output.now) ≡ 1 }
+    ensures { output_fields output.now ≡ result.now ∷ [] }
+{
+    match output {
+        Output::AllProperties => b"all-properties",
+        Output::Noted => b"noted",
+        Output::Ok => b"ok",
+        Output::Released => b"released",
+        Output::Timeout => b"timeout",
+        Output::Blocked => b"blocked",
+        Output::Idle => b"idle",
+        Output::Down => b"down",
+        Output::TooFar => b"too-far",
+        Output::NoProcess => b"no-process",
+        _ => unreachable!(),
     }
 }
 

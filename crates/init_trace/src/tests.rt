@@ -301,6 +301,7 @@ fn every_line(rt: HostRuntime) -> Result<(), Fail> {
     assert!(rt; print_diagnostics(alloc, &report.diagnostics, &mut lone).is_ok());
     assert!(rt; lone.taken() == b"initsim 1\ndiag /a.rc 1 Loop\nend\n".as_slice());
     text_determines_report();
+    text_is_its_parts();
     Ok(())
 }
 

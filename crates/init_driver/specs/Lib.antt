@@ -1,0 +1,4 @@
+pub mod Stored
+pub mod Readings
+pub mod Run
+pub mod Course

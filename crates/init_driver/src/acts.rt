@@ -1,0 +1,147 @@
+//! The acts of a script, taken one after another.
+
+ghost use Rattle.std.specs.Prelude.{◌≡◌, ◌∷◌, [], All, length, map, replicate, OnOk};
+ghost use Rattle.std.specs.List.{flat_map};
+ghost use Rattle.init_base.specs.Faults.{Counted};
+ghost use Rattle.init_driver.specs.Course.{IsReached, Takes, place_of, told_from};
+ghost use Rattle.init_driver.specs.Run.{keeper_failed, sink_failed};
+ghost use Rattle.init_machine.specs.declared.input.Input.TheVariants as Input;
+ghost use Rattle.script_lang.specs.Inputs.{act_inputs, ask_inputs};
+ghost use Rattle.script_lang.specs.Laws.{IsAskAmong};
+
+use crate::keeping::save;
+use crate::refusal::DriveRefusal;
+use crate::telling::tell;
+use crate::traced::Traced;
+use init_base::{ClientId, Keeper, Sink};
+use init_machine::{ClientPart, Input};
+use script_lang::{Act, Ask};
+use std::alloc::Global;
+
+/// Takes acts: their inputs one after another, and tells each client what its requests tell at their places.
+pub fn take_acts<P: Keeper, K: Sink>(
+    alloc: Global,
+    traced: &mut Traced,
+    acts: &[Act],
+    parts: &mut Vec<ClientPart>,
+    keeper: &mut P,
+    out: &mut K,
+) -> Result<(), DriveRefusal>
+    requires reached { IsReached traced.old.core.config traced.old.core.policy traced.old.core.state }
+    requires asks { All (IsAskAmong (length parts.old.items)) acts.now }
+    ensures takes { Takes (flat_map act_inputs acts.now) (place_of traced.old (K.taken out.old) (P.held keeper.old))
+        (place_of traced.new (K.taken out.new) (P.held keeper.new)) result }
+    ensures told { OnOk result (parts.new.items
+        ≡ told_from traced.old.core.config traced.old.core.policy traced.old.core.state acts.now 1 parts.old.items) }
+    ensures keeper { Counted (keeper_failed result) (P.fault_count keeper.old) (P.fault_count keeper.new) }
+    ensures sink { Counted (sink_failed result) (K.fault_count out.old) (K.fault_count out.new) }
+{
+    for act in acts {
+        tell(alloc, &mut traced.core, act, parts)?;
+        take_act(alloc, traced, act, keeper, out)?;
+    }
+    Ok(())
+}
+
+/// Takes the inputs of an act.
+fn take_act<P: Keeper, K: Sink>(
+    alloc: Global,
+    traced: &mut Traced,
+    act: &Act,
+    keeper: &mut P,
+    out: &mut K,
+) -> Result<(), DriveRefusal>
+    requires { IsReached traced.old.core.config traced.old.core.policy traced.old.core.state }
+    ensures takes { Takes (act_inputs act.now) (place_of traced.old (K.taken out.old) (P.held keeper.old))
+        (place_of traced.new (K.taken out.new) (P.held keeper.new)) result }
+    ensures keeper { Counted (keeper_failed result) (P.fault_count keeper.old) (P.fault_count keeper.new) }
+    ensures sink { Counted (sink_failed result) (K.fault_count out.old) (K.fault_count out.new) }
+{
+    match act {
+        Act::Step(count) => take_steps(alloc, traced, *count, keeper, out),
+        Act::Tick(ms) => take(alloc, traced, &Input::Tick { ms: *ms }, keeper, out),
+        Act::Exit { name, status } => {
+            let input = Input::Exit {
+                name: name.share()?,
+                status: *status,
+            };
+            take(alloc, traced, &input, keeper, out)
+        }
+        Act::File { path, content } => {
+            let input = Input::File {
+                path: path.share()?,
+                content: content.share()?,
+            };
+            take(alloc, traced, &input, keeper, out)
+        }
+        Act::Ask { who, ask } => take_ask(alloc, traced, *who, ask, keeper, out),
+    }
+}
+
+/// Takes the input of a request, if it has one.
+fn take_ask<P: Keeper, K: Sink>(
+    alloc: Global,
+    traced: &mut Traced,
+    who: ClientId,
+    ask: &Ask,
+    keeper: &mut P,
+    out: &mut K,
+) -> Result<(), DriveRefusal>
+    requires { IsReached traced.old.core.config traced.old.core.policy traced.old.core.state }
+    ensures takes { Takes (ask_inputs who ask.now) (place_of traced.old (K.taken out.old) (P.held keeper.old))
+        (place_of traced.new (K.taken out.new) (P.held keeper.new)) result }
+    ensures keeper { Counted (keeper_failed result) (P.fault_count keeper.old) (P.fault_count keeper.new) }
+    ensures sink { Counted (sink_failed result) (K.fault_count out.old) (K.fault_count out.new) }
+{
+    match ask {
+        Ask::Set(pair) => {
+            let input = Input::Set {
+                who,
+                name: pair.name.share()?,
+                value: pair.value.share()?,
+            };
+            take(alloc, traced, &input, keeper, out)
+        }
+        Ask::Read(_) | Ask::Sync | Ask::Catch => Ok(()),
+    }
+}
+
+/// Takes so many times the next event or command.
+fn take_steps<P: Keeper, K: Sink>(
+    alloc: Global,
+    traced: &mut Traced,
+    count: u32,
+    keeper: &mut P,
+    out: &mut K,
+) -> Result<(), DriveRefusal>
+    requires { IsReached traced.old.core.config traced.old.core.policy traced.old.core.state }
+    ensures takes { Takes (replicate count Input.Next) (place_of traced.old (K.taken out.old) (P.held keeper.old))
+        (place_of traced.new (K.taken out.new) (P.held keeper.new)) result }
+    ensures keeper { Counted (keeper_failed result) (P.fault_count keeper.old) (P.fault_count keeper.new) }
+    ensures sink { Counted (sink_failed result) (K.fault_count out.old) (K.fault_count out.new) }
+{
+    for _ in 0..count {
+        take(alloc, traced, &Input::Next, keeper, out)?;
+    }
+    Ok(())
+}
+
+/// Takes an input: the keeper is given the text of the saved pairs where its entry stores a property, and then the entry
+/// is printed.
+pub fn take<P: Keeper, K: Sink>(
+    alloc: Global,
+    traced: &mut Traced,
+    input: &Input,
+    keeper: &mut P,
+    out: &mut K,
+) -> Result<(), DriveRefusal>
+    requires { IsReached traced.old.core.config traced.old.core.policy traced.old.core.state }
+    ensures takes { Takes (input.now ∷ []) (place_of traced.old (K.taken out.old) (P.held keeper.old))
+        (place_of traced.new (K.taken out.new) (P.held keeper.new)) result }
+    ensures keeper { Counted (keeper_failed result) (P.fault_count keeper.old) (P.fault_count keeper.new) }
+    ensures sink { Counted (sink_failed result) (K.fault_count out.old) (K.fault_count out.new) }
+{
+    traced.core.take(input)?;
+    save(alloc, traced, keeper, out)?;
+    traced.print_entry(input, out)
+}

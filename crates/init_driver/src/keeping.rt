@@ -1,0 +1,64 @@
+//! The keeper of the persistent properties: it is given the text of the saved pairs wherever a property is stored.
+
+ghost use Rattle.std.specs.Prelude.{◌≡◌, ◌∷◌, [], IsTrue, OnOk, false};
+ghost use Rattle.init_base.specs.Faults.{Counted};
+ghost use Rattle.init_driver.specs.Course.{Saves, place_of};
+ghost use Rattle.init_driver.specs.Run.{keeper_failed, sink_failed};
+ghost use Rattle.init_driver.specs.Stored.{Keeps, has_stored, is_stored as is_stored_lem};
+ghost use Rattle.persist_file.specs.Store.{are_saved, store_text};
+
+use crate::refusal::DriveRefusal;
+use crate::traced::Traced;
+use init_base::{IoRefusal, Keeper, List, Sink};
+use init_machine::{Output, Pair};
+use std::alloc::Global;
+
+/// Where the last entry stores a property, writes all that waits, and then gives the keeper the text of the saved pairs.
+/// So after the keeper's fault exactly the entries before that one are written.
+pub fn save<P: Keeper, K: Sink>(
+    alloc: Global,
+    traced: &mut Traced,
+    keeper: &mut P,
+    out: &mut K,
+) -> Result<(), DriveRefusal>
+    requires { IsTrue (has_stored traced.old.core.outputs) → IsTrue (are_saved traced.old.core.state.saved) }
+    ensures saves { Saves traced.old.core.outputs (place_of traced.old (K.taken out.old) (P.held keeper.old))
+        (place_of traced.new (K.taken out.new) (P.held keeper.new)) result }
+    ensures core { traced.new.core ≡ traced.old.core }
+    ensures keeper { Counted (keeper_failed result) (P.fault_count keeper.old) (P.fault_count keeper.new) }
+    ensures sink { Counted (sink_failed result) (K.fault_count out.old) (K.fault_count out.new) }
+{
+    if !stores(traced.core.outputs().items()) {
+        return Ok(());
+    }
+    traced.flush(out)?;
+    keep(alloc, traced.core.saved(), keeper)
+}
+
+/// Whether a property is stored.
+fn stores(outputs: &[Output]) -> bool
+    ensures { result ≡ has_stored outputs.now }
+{
+    outputs.iter().any(|output| is_stored(output))
+}
+
+fn is_stored(output: &Output) -> bool
+    ensures { result ≡ is_stored_lem output.now }
+{
+    matches!(output, Output::Stored { .. })
+}
+
+/// Gives the keeper the text of pairs.
+fn keep<P: Keeper>(alloc: Global, pairs: &List<Pair>, keeper: &mut P) -> Result<(), DriveRefusal>
+    requires { IsTrue (are_saved pairs.now) }
+    ensures keeps { OnOk result (Keeps (P.held keeper.old) (P.held keeper.new) (store_text pairs.now ∷ [])) }
+    ensures writes { sink_failed result ≡ false }
+    ensures cause { Counted (keeper_failed result) (P.fault_count keeper.old) (P.fault_count keeper.new) }
+{
+    let text = persist_file::print(alloc, pairs)?;
+    match keeper.replace(alloc, text.bytes()) {
+        Ok(()) => Ok(()),
+        Err(IoRefusal::Failed) => Err(DriveRefusal::Keeper),
+        Err(IoRefusal::NoMemory) => Err(DriveRefusal::NoMemory),
+    }
+}

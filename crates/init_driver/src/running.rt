@@ -1,0 +1,136 @@
+//! `run`: a script on one thread.
+
+ghost use Rattle.std.specs.Prelude.{◌≡◌, ◌∷◌, [], All, length, IfOk, OnOk};
+ghost use Rattle.init_base.specs.Faults.{Counted};
+ghost use Rattle.init_core.specs.Core.{opening_of};
+ghost use Rattle.init_driver.specs.Course.{IsReached, Prints, Takes, place_of};
+ghost use Rattle.init_driver.specs.Readings.{empty_parts, parts_from};
+ghost use Rattle.init_driver.specs.Run.{AsksAreMet, WritesReport, given_in, keeper_failed, report_from, report_of, sink_failed};
+ghost use Rattle.init_driver.specs.Stored.{Keeps, given_from};
+ghost use Rattle.init_machine.specs.History.{after_from};
+ghost use Rattle.init_machine.specs.WellFormed.{IsWellFormed};
+ghost use Rattle.init_machine.specs.declared.input.Input.TheVariants as Input;
+ghost use Rattle.init_trace.specs.Report.{TailText};
+ghost use Rattle.script_lang.specs.Inputs.{InOrder};
+
+use crate::acts::{take, take_acts};
+use crate::refusal::DriveRefusal;
+use crate::traced::Traced;
+use init_base::{Keeper, List, NoMemory, Sink};
+use init_machine::{ClientPart, Config, Diagnostic, Input};
+use prop_contexts::Policy;
+use script_lang::{Client, Script};
+use std::alloc::Global;
+
+/// What a machine is opened with, and the mistakes that were found in its files.
+#[derive(Drop)]
+pub struct Setup {
+    pub config: Config,
+    pub policy: Policy,
+    pub diagnostics: List<Diagnostic>,
+}
+
+/// Runs a script: takes the boot and then all acts in the order of the file, and writes the text of the report as it goes.
+///
+/// A `step` is so many times the next event or command. A read finds the present value with the present count of accepted
+/// sets, or tells with that count that the property is absent; `sync` and `catch` tell the count. At each entry with a
+/// `stored` output the keeper is given the text of the saved pairs before the entry is written.
+///
+/// `Keeper` comes only where the keeper's count of faults rose: then exactly the head and the entries before the one whose
+/// text the keeper was to take are written. `Write` comes only where the sink's count rose. After it, and after `NoMemory`, a
+/// front of the text is written.
+pub fn run<P: Keeper, K: Sink>(
+    alloc: Global,
+    setup: Setup,
+    script: &Script,
+    keeper: &mut P,
+    out: &mut K,
+) -> Result<(), DriveRefusal>
+    requires config { IsWellFormed setup.config }
+    requires asks { AsksAreMet script.now }
+    ensures written { let opening = opening_of setup.config setup.policy script.now.words in
+        WritesReport (K.taken out.old) (K.taken out.new) result (report_of opening setup.diagnostics script.now) }
+    ensures kept { let opening = opening_of setup.config setup.policy script.now.words in
+        OnOk result (Keeps (P.held keeper.old) (P.held keeper.new) (given_in opening script.now)) }
+    ensures keeper { Counted (keeper_failed result) (P.fault_count keeper.old) (P.fault_count keeper.new) }
+    ensures sink { Counted (sink_failed result) (K.fault_count out.old) (K.fault_count out.new) }
+{
+    let mut traced = Traced::new(alloc, setup.config, setup.policy, script.words)?;
+    drive(alloc, &mut traced, &setup.diagnostics, script, keeper, out)
+}
+
+/// Writes the whole report of a script, from the state of the machine on.
+fn drive<P: Keeper, K: Sink>(
+    alloc: Global,
+    traced: &mut Traced,
+    diagnostics: &List<Diagnostic>,
+    script: &Script,
+    keeper: &mut P,
+    out: &mut K,
+) -> Result<(), DriveRefusal>
+    requires reached { IsReached traced.old.core.config traced.old.core.policy traced.old.core.state }
+    requires empty { traced.old.printer ≡ [] }
+    requires asks { AsksAreMet script.now }
+    ensures written { WritesReport (K.taken out.old) (K.taken out.new) result
+        (report_from traced.old.core.config traced.old.core.policy traced.old.core.state diagnostics.now script.now) }
+    ensures kept { OnOk result (Keeps (P.held keeper.old) (P.held keeper.new)
+        (given_from traced.old.core.config traced.old.core.policy traced.old.core.state (InOrder script.now))) }
+    ensures keeper { Counted (keeper_failed result) (P.fault_count keeper.old) (P.fault_count keeper.new) }
+    ensures sink { Counted (sink_failed result) (K.fault_count out.old) (K.fault_count out.new) }
+{
+    traced.print_head(diagnostics, out)?;
+    let parts = take_script(alloc, traced, script, keeper, out)?;
+    finish(traced, &parts, out)
+}
+
+/// Takes the boot and the acts of a script, and answers what the clients learn.
+fn take_script<P: Keeper, K: Sink>(
+    alloc: Global,
+    traced: &mut Traced,
+    script: &Script,
+    keeper: &mut P,
+    out: &mut K,
+) -> Result<List<ClientPart>, DriveRefusal>
+    requires reached { IsReached traced.old.core.config traced.old.core.policy traced.old.core.state }
+    requires asks { AsksAreMet script.now }
+    ensures takes { Takes (InOrder script.now) (place_of traced.old (K.taken out.old) (P.held keeper.old))
+        (place_of traced.new (K.taken out.new) (P.held keeper.new)) result }
+    ensures parts { IfOk result (λ parts. parts ≡ parts_from traced.old.core.config traced.old.core.policy
+        (after_from traced.old.core.config traced.old.core.policy traced.old.core.state (Input.Boot ∷ []))
+        script.now.acts 1 script.now.clients) }
+    ensures keeper { Counted (keeper_failed result) (P.fault_count keeper.old) (P.fault_count keeper.new) }
+    ensures sink { Counted (sink_failed result) (K.fault_count out.old) (K.fault_count out.new) }
+{
+    let mut parts = open_parts(alloc, script.clients.items())?;
+    take(alloc, traced, &Input::Boot, keeper, out)?;
+    take_acts(alloc, traced, script.acts.items(), &mut parts, keeper, out)?;
+    Ok(List::from_vec(parts))
+}
+
+/// The parts of clients that learned nothing yet.
+fn open_parts(alloc: Global, clients: &[Client]) -> Result<Vec<ClientPart>, NoMemory>
+    ensures { IfOk result (λ parts. parts.items ≡ empty_parts clients.now) }
+{
+    let mut parts = Vec::new(alloc);
+    for client in clients {
+        parts.push(ClientPart {
+            name: client.name.share()?,
+            domain: client.domain.share()?,
+            readings: List::new(alloc),
+        })?;
+    }
+    Ok(parts)
+}
+
+/// Prints the tail of the report, and writes all that waits.
+fn finish<K: Sink>(
+    traced: &mut Traced,
+    parts: &List<ClientPart>,
+    out: &mut K,
+) -> Result<(), DriveRefusal>
+    ensures prints { Prints (K.taken out.old) (K.taken out.new) result traced.old.printer [] (TailText parts.now) }
+    ensures sink { Counted (sink_failed result) (K.fault_count out.old) (K.fault_count out.new) }
+{
+    traced.print_tail(parts, out)?;
+    traced.flush(out)
+}

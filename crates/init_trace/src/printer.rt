@@ -1,0 +1,177 @@
+//! `Printer`: a report that is printed part by part, so that no history need be kept.
+
+ghost use Rattle.std.specs.Prelude.{◌≡◌, [], OnOk};
+ghost use Rattle.init_base.specs.Faults.{Counted, write_failed};
+ghost use Rattle.init_trace.specs.Line.{lines_text};
+ghost use Rattle.init_trace.specs.Report.{EntryText, HeadText, TailText, client_lines, clients_lines};
+ghost use Rattle.init_trace.specs.Written.{Adds, Writes};
+
+use crate::line::{End, Title, add_client};
+use crate::page::{add_line, add_lines, send};
+use init_base::{IoRefusal, List, Sink};
+use init_machine::{ClientPart, Diagnostic, Input, Output};
+use std::alloc::Global;
+use std::marker::Model;
+
+/// Prints a report part by part: its head, its entries in order, and its tail.
+///
+/// Entries are many and short, so lines wait in a page, which is written whenever it is full. To contracts a printer is
+/// the bytes that wait. After a refusal a front of what waited and of the new part is written, and nothing is said of
+/// what waits. The sink's count of faults rose where the answer is `Failed`, and is as it was where it is anything else.
+#[derive(Drop)]
+pub struct Printer {
+    page: Vec<u8>,
+}
+
+impl Model for Printer {
+    ghost use Rattle.std.specs.Prelude.{ℕ, List};
+
+    ghost Value = { List ℕ };
+
+    ghost view = { λ p. p.page.items };
+}
+
+impl Printer {
+    /// A printer with nothing that waits. It takes no memory.
+    pub fn new(alloc: Global) -> Printer
+        ensures { result ≡ [] }
+    {
+        Printer {
+            page: Vec::new(alloc),
+        }
+    }
+
+    /// Adds the head of a report: the first line and the diagnostics.
+    pub fn print_head<K: Sink>(
+        &mut self,
+        diagnostics: &List<Diagnostic>,
+        out: &mut K,
+    ) -> Result<(), IoRefusal>
+        ensures added { Adds (K.taken out.old) (K.taken out.new) result self.old self.new
+            (HeadText diagnostics.now) }
+        ensures cause { Counted (write_failed result) (K.fault_count out.old) (K.fault_count out.new) }
+    {
+        let alloc = *self.page.allocator();
+        add_head(alloc, out, &mut self.page, diagnostics.items())
+    }
+
+    /// Adds an entry: its input, and what the machine did.
+    pub fn print_entry<K: Sink>(
+        &mut self,
+        input: &Input,
+        outputs: &List<Output>,
+        out: &mut K,
+    ) -> Result<(), IoRefusal>
+        ensures added { Adds (K.taken out.old) (K.taken out.new) result self.old self.new
+            (EntryText (record { input = input.now; outputs = outputs.now })) }
+        ensures cause { Counted (write_failed result) (K.fault_count out.old) (K.fault_count out.new) }
+    {
+        let alloc = *self.page.allocator();
+        add_entry(alloc, out, &mut self.page, input, outputs.items())
+    }
+
+    /// Adds the tail of a report: the clients' parts and the last line. The first client has number 1.
+    pub fn print_tail<K: Sink>(
+        &mut self,
+        clients: &List<ClientPart>,
+        out: &mut K,
+    ) -> Result<(), IoRefusal>
+        ensures added { Adds (K.taken out.old) (K.taken out.new) result self.old self.new
+            (TailText clients.now) }
+        ensures cause { Counted (write_failed result) (K.fault_count out.old) (K.fault_count out.new) }
+    {
+        let alloc = *self.page.allocator();
+        add_tail(alloc, out, &mut self.page, clients.items())
+    }
+
+    /// Writes all that waits.
+    pub fn flush<K: Sink>(&mut self, out: &mut K) -> Result<(), IoRefusal>
+        ensures written { Writes (K.taken out.old) (K.taken out.new) result self.old }
+        ensures empty { OnOk result (self.new ≡ []) }
+        ensures cause { Counted (write_failed result) (K.fault_count out.old) (K.fault_count out.new) }
+    {
+        let alloc = *self.page.allocator();
+        send(alloc, out, self.page.as_slice())?;
+        self.page.clear();
+        Ok(())
+    }
+}
+
+/// Adds the first line and the diagnostics.
+fn add_head<K: Sink>(
+    alloc: Global,
+    out: &mut K,
+    page: &mut Vec<u8>,
+    diagnostics: &[Diagnostic],
+) -> Result<(), IoRefusal>
+    ensures added { Adds (K.taken out.old) (K.taken out.new) result page.old.items page.new.items
+        (HeadText diagnostics.now) }
+    ensures cause { Counted (write_failed result) (K.fault_count out.old) (K.fault_count out.new) }
+{
+    add_line(alloc, out, page, &Title)?;
+    add_lines(alloc, out, page, diagnostics)
+}
+
+/// Adds an entry's head and its outputs.
+fn add_entry<K: Sink>(
+    alloc: Global,
+    out: &mut K,
+    page: &mut Vec<u8>,
+    input: &Input,
+    outputs: &[Output],
+) -> Result<(), IoRefusal>
+    ensures added { Adds (K.taken out.old) (K.taken out.new) result page.old.items page.new.items
+        (EntryText (record { input = input.now; outputs = outputs.now })) }
+    ensures cause { Counted (write_failed result) (K.fault_count out.old) (K.fault_count out.new) }
+{
+    add_line(alloc, out, page, input)?;
+    add_lines(alloc, out, page, outputs)
+}
+
+/// Adds the clients' parts and the last line.
+fn add_tail<K: Sink>(
+    alloc: Global,
+    out: &mut K,
+    page: &mut Vec<u8>,
+    parts: &[ClientPart],
+) -> Result<(), IoRefusal>
+    ensures added { Adds (K.taken out.old) (K.taken out.new) result page.old.items page.new.items
+        (TailText parts.now) }
+    ensures cause { Counted (write_failed result) (K.fault_count out.old) (K.fault_count out.new) }
+{
+    add_parts(alloc, out, page, parts)?;
+    add_line(alloc, out, page, &End)
+}
+
+/// Adds the clients' parts. The first client has number 1.
+fn add_parts<K: Sink>(
+    alloc: Global,
+    out: &mut K,
+    page: &mut Vec<u8>,
+    parts: &[ClientPart],
+) -> Result<(), IoRefusal>
+    ensures added { Adds (K.taken out.old) (K.taken out.new) result page.old.items page.new.items
+        (lines_text (clients_lines 1 parts.now)) }
+    ensures cause { Counted (write_failed result) (K.fault_count out.old) (K.fault_count out.new) }
+{
+    for (index, part) in parts.iter().enumerate() {
+        add_part(alloc, out, page, index as u64 + 1, part)?;
+    }
+    Ok(())
+}
+
+/// Adds a client's head and its readings.
+fn add_part<K: Sink>(
+    alloc: Global,
+    out: &mut K,
+    page: &mut Vec<u8>,
+    id: u64,
+    part: &ClientPart,
+) -> Result<(), IoRefusal>
+    ensures added { Adds (K.taken out.old) (K.taken out.new) result page.old.items page.new.items
+        (lines_text (client_lines id part.now)) }
+    ensures cause { Counted (write_failed result) (K.fault_count out.old) (K.fault_count out.new) }
+{
+    add_client(page, id, part)?;
+    add_lines(alloc, out, page, part.readings.items())
+}
