@@ -1,68 +1,159 @@
--- What can be run is stopped only by a fault or for want of memory.
-use Rattle.std.proofs.Common.{◌≡◌, ℕ, ◌<◌, ◌≤◌, true, false, List, length, Option, Some, None, Err, refl, sym, subst, ap, ◌∙◌}
+-- What can be done is refused by a fault alone, or for want of memory.
+use Rattle.std.proofs.Common.{◌≡◌, ℕ, ◌<◌, ◌≤◌, Bool, true, false, List, [], length, Option, Some, None, Result, Ok, Err, refl, sym, subst, ap, inl, inr, ◌∙◌}
+use Rattle.std.specs.Prelude.{IfSome, IsSomeAnd}
 use native.Mathlib.Omega.{arith}
 use Rattle.init_base.specs.Tree.{file_at}
-use Rattle.plain_script.proofs.Readings.{not_both}
-use Rattle.plain_script.specs.declared.script.Act.{Act}
-use Rattle.rc_parse.specs.declared.parsed.Parsed.{Parsed}
-use Rattle.initsim.specs.Causes.{AreCounted}
-use Rattle.initsim.specs.Prepared.{IsStopOf, Prepares, has_read_fault, status_of}
-use Rattle.initsim.specs.Root.{root_path, HasRoot, IsTooLarge}
-use Rattle.initsim.specs.Run.{IsRunnable}
-use Rattle.initsim.specs.Top.{CanBeRun, IsDoneUnlessRisen}
-use Rattle.initsim.specs.Unbuilt.{unbuilt_line}
-use Rattle.initsim.specs.declared.prepare.Job.{Job}
+use Rattle.init_machine.specs.Policy.{PolicyLines}
 use Rattle.init_machine.specs.declared.limit.Limit.{Limit}
-use Rattle.initsim.specs.declared.stop.Stop.{Stop}
-use Rattle.initsim.specs.declared.stop.Stop.TheVariants as stop
-use Rattle.initsim.proofs.SameRoot.{same_root}
+use Rattle.init_machine.specs.declared.limit.Limit.TheVariants as limits
+use Rattle.persist_file.proofs.Uniqueness.{not_both as store_or_line}
+use Rattle.prop_contexts.proofs.Readers.{not_both as policy_or_refusal}
+use Rattle.prop_contexts.specs.Grammar.{IsPolicy}
+use Rattle.prop_contexts.specs.declared.refusal.PolicyRefusal.TheVariants as policy
+use Rattle.rc_import.specs.Limits.{loaded as rc_files_of, loaded_from}
+use Rattle.rc_import.specs.Order.{root_file}
+use Rattle.rc_import.specs.World.{World}
+use Rattle.rc_import.specs.declared.loaded.Loaded.{Loaded}
+use Rattle.rc_import.specs.declared.loaded.LoadRefusal.{LoadRefusal}
+use Rattle.rc_import.specs.declared.loaded.LoadRefusal.TheVariants.{NoInit}
+use Rattle.script_lang.proofs.OneReading.{script_or_line, within_no_limit}
+use Rattle.initsim.specs.Check.{IsCheckStatus}
+use Rattle.initsim.specs.Counts.{AreCounted, Counts, IsDoneUnlessRisen}
+use Rattle.initsim.specs.Policy.{HasPolicy, IsBadLine}
+use Rattle.initsim.specs.Prepared.{IsRunStatus}
+use Rattle.initsim.specs.Script.{HasScript, ScriptLimitSays, ScriptSays}
+use Rattle.initsim.specs.Store.{HasStore, StoreSays}
+use Rattle.initsim.specs.Texts.{AreShort, IsOneLong, Tree, allow_text, contexts_text}
+use Rattle.initsim.specs.Top.{CanBeDone}
+use Rattle.initsim.specs.Tree.{HasNoRoot, IsBadPolicyFor, IsFitFor, IsPolicyTooLargeFor, IsTreeTooLarge, TreeSays}
+use Rattle.initsim.specs.declared.status.Status.{Status}
+use Rattle.initsim.specs.declared.status.Status.TheVariants as status
+use Rattle.initsim.specs.declared.words.Form.{Form}
+use Rattle.initsim.specs.declared.words.Form.TheVariants.{Run, Check}
 
-pub none_of : (line : Option ℕ) → ((number : ℕ) → line ≡ Some number → ⊥) → line ≡ None
-none_of None never = refl
-none_of (Some number) never = absurd (never number refl)
+-- ---- the tree
 
-some_none : (content : List ℕ) → Some content ≡ None → ⊥
-some_none content same = cc
+not_long : (size : ℕ) → size ≤ 1048576 → 1048576 < size → ⊥
+not_long size short long = omega (arith, short, long)
 
-root_is_there : (tree : List (List ℕ × List ℕ)) (parsed : Parsed) → HasRoot tree parsed → file_at tree root_path ≡ None → ⊥
-root_is_there tree parsed root none = some_none root.content (sym root.file ∙ none)
+none_long : (one other : List ℕ) → AreShort one other → IsOneLong one other → ⊥
+none_long one other short (inl long) = not_long (length one) short.0 long
+none_long one other short (inr long) = not_long (length other) short.1 long
 
-not_more : (size : ℕ) → size ≤ 1048576 → 1048576 < size → ⊥
-not_more size short more = omega (arith, short, more)
+no_policy_limit : (form : Form) (world : World) (limit : Limit) (number : ℕ)
+    → IsFitFor form world → IsPolicyTooLargeFor form world.tree limit number → ⊥
+no_policy_limit Run world limit number fit large =
+    none_long (contexts_text world.tree) (allow_text world.tree) fit.0.1.short large.0
+no_policy_limit Check world limit number fit large = large
 
-root_is_short : (tree : List (List ℕ × List ℕ)) (parsed : Parsed) (limit : Limit) (number : ℕ)
-    → HasRoot tree parsed → IsTooLarge (file_at tree root_path) limit number → ⊥
-root_is_short tree parsed limit number root large =
-    not_more (length root.content) root.short (subst (λ file. IsTooLarge file limit number) root.file large).0
+ok_or_err : (result : Result Loaded LoadRefusal) (loaded : Loaded) (why : LoadRefusal) → result ≡ Ok loaded → result ≡ Err why → ⊥
+ok_or_err result loaded why is refused = cc
 
-no_line : (line : ℕ) → None ≡ Some line → ⊥
-no_line line same = cc
+no_tree_limit : (form : Form) (world : World) (limit : Limit) (number : ℕ)
+    → IsFitFor form world → IsTreeTooLarge form world limit number → ⊥
+no_tree_limit form world limit number fit (inl large) = no_policy_limit form world limit number fit large
+no_tree_limit form world limit number fit (inr (inl build)) = none_long _ _ fit.1.0 build.1.0
+no_tree_limit form world limit number fit (inr (inr rc)) =
+    ok_or_err (rc_files_of world) fit.1.1.0 rc.refusal fit.1.1.1 rc.refused
 
-root_is_built : (tree : List (List ℕ × List ℕ)) (parsed other : Parsed) (line : ℕ)
-    → HasRoot tree parsed → unbuilt_line parsed ≡ None → HasRoot tree other → unbuilt_line other ≡ Some line → ⊥
-root_is_built tree parsed other line root built read unbuilt =
-    no_line line (sym built ∙ ap unbuilt_line (same_root tree parsed other root read) ∙ unbuilt)
+absent_is_refused : (world : World) (file : Option (List ℕ)) → file ≡ None → loaded_from world file ≡ Err NoInit
+absent_is_refused world file absent = ap (loaded_from world) absent
 
-runnable_stop : (script : List ℕ) (tree : List (List ℕ × List ℕ)) (why : Stop) (acts : List Act) (parsed : Parsed) (files files' left left' sink sink' : ℕ)
-    → IsRunnable script tree acts parsed → IsStopOf script tree why
-    → AreCounted (has_read_fault {T = Job} (Err why)) files files' left left'
-    → IsDoneUnlessRisen files files' left left' sink sink' (status_of why)
-runnable_stop script tree stop.ReadFault acts parsed files files' left left' sink sink' runs stops counted = counted
-runnable_stop script tree stop.NoMemory acts parsed files files' left left' sink sink' runs stops counted = tt
-runnable_stop script tree stop.NoInit acts parsed files files' left left' sink sink' runs stops counted =
-    absurd (root_is_there tree parsed runs.root stops.1)
-runnable_stop script tree (stop.TooLarge limit number) acts parsed files files' left left' sink sink' runs stops counted =
-    absurd (root_is_short tree parsed limit number runs.root stops.1)
-runnable_stop script tree (stop.Unbuilt true line) acts parsed files files' left left' sink sink' runs stops counted =
-    absurd (not_both script acts line runs.plain_script stops)
-runnable_stop script tree (stop.Unbuilt false line) acts parsed files files' left left' sink sink' runs stops counted =
-    absurd (root_is_built tree parsed stops.1.0 line runs.root runs.built stops.1.1 stops.1.2)
+root_is_there : (form : Form) (world : World) → IsFitFor form world → HasNoRoot form world → ⊥
+root_is_there form world fit none =
+    ok_or_err (rc_files_of world) fit.1.1.0 NoInit fit.1.1.1
+    (absent_is_refused world (file_at world.tree root_file) none.absent)
 
-pub stop_of_runnable : (script : Option (List ℕ)) (tree : Option (List (List ℕ × List ℕ))) (rest : Option (List ℕ)) (why : Stop) (files files' left left' sink sink' : ℕ)
-    → CanBeRun script tree → Prepares script tree rest (Err why)
-    → AreCounted (has_read_fault {T = Job} (Err why)) files files' left left'
-    → IsDoneUnlessRisen files files' left left' sink sink' (status_of why)
-stop_of_runnable None tree rest why files files' left left' sink sink' runs stops counted = absurd runs
-stop_of_runnable (Some script) None rest why files files' left left' sink sink' runs stops counted = absurd runs
-stop_of_runnable (Some script) (Some tree) rest why files files' left left' sink sink' runs stops counted =
-    runnable_stop script tree why runs.0 runs.1 files files' left left' sink sink' runs.2 stops counted
+no_bad_line : (contexts allow : List ℕ) (lines : PolicyLines) (in_allow : Bool) (line : ℕ)
+    → IsPolicy contexts allow lines → IsBadLine contexts allow in_allow line → ⊥
+no_bad_line contexts allow lines true line is bad =
+    let same = policy_or_refusal contexts allow lines (policy.BadLine true line) is bad in cc
+no_bad_line contexts allow lines false line is (inl bad) =
+    let same = policy_or_refusal contexts allow lines (policy.BadLine false line) is bad in cc
+no_bad_line contexts allow lines false line is (inr (inl bad)) =
+    let same = policy_or_refusal contexts allow lines (policy.Twice line) is bad in cc
+no_bad_line contexts allow lines false line is (inr (inr bad)) =
+    let same = policy_or_refusal contexts allow lines (policy.NoDefault line) is bad in cc
+
+no_bad_policy : (form : Form) (world : World) (in_allow : Bool) (line : ℕ)
+    → IsFitFor form world → IsBadPolicyFor form world.tree in_allow line → ⊥
+no_bad_policy Run world in_allow line fit bad =
+    no_bad_line (contexts_text world.tree) (allow_text world.tree) fit.0.0 in_allow line fit.0.1.policy_is bad.bad
+no_bad_policy Check world in_allow line fit bad = bad
+
+-- ---- a check
+
+check_limit : (world : World) (limit : Limit) (number : ℕ)
+    → IsCheckStatus (status.TooLarge limit number) → TreeSays Check world (status.TooLarge limit number) → IsFitFor Check world → ⊥
+check_limit world limits.FileBytes number is says fit = no_tree_limit Check world limits.FileBytes number fit says
+check_limit world limits.Files number is says fit = no_tree_limit Check world limits.Files number fit says
+check_limit world limits.Names number is says fit = no_tree_limit Check world limits.Names number fit says
+check_limit world limits.RcBytes number is says fit = no_tree_limit Check world limits.RcBytes number fit says
+check_limit world limits.ScriptBytes number is says fit = is
+check_limit world limits.ScriptLines number is says fit = is
+check_limit world limits.Steps number is says fit = is
+check_limit world limits.StoreBytes number is says fit = is
+
+pub complete_check : (how : Status) (world : World) (before now : Counts)
+    → IsCheckStatus how → TreeSays Check world how → AreCounted how before now → IsFitFor Check world → IsDoneUnlessRisen how before now
+complete_check status.Done world before now is says counted fit = tt
+complete_check status.Usage world before now is says counted fit = is
+complete_check status.ReadFault world before now is says counted fit = counted.0
+complete_check status.WriteFault world before now is says counted fit = counted.0
+complete_check status.NoMemory world before now is says counted fit = tt
+complete_check (status.BadScript line) world before now is says counted fit = is
+complete_check status.NoInit world before now is says counted fit = root_is_there Check world fit says
+complete_check (status.TooLarge limit number) world before now is says counted fit = check_limit world limit number is says fit
+complete_check (status.BadPolicy allow line) world before now is says counted fit = is
+complete_check (status.BadStore line) world before now is says counted fit = is
+
+-- ---- a run
+
+no_script_limit : (bytes : List ℕ) (left : Option (List ℕ)) (world : World) (held : List ℕ) (limit : Limit) (number : ℕ)
+    → ScriptLimitSays bytes left limit number → TreeSays Run world (status.TooLarge limit number) → StoreSays held (status.TooLarge limit number)
+    → HasScript bytes → IsFitFor Run world → HasStore held → ⊥
+no_script_limit bytes left world held limits.ScriptBytes number script tree store has fit stored =
+    within_no_limit bytes limits.ScriptBytes number has.1.within script
+no_script_limit bytes left world held limits.ScriptLines number script tree store has fit stored =
+    within_no_limit bytes limits.ScriptLines number has.1.within script
+no_script_limit bytes left world held limits.Steps number script tree store has fit stored =
+    within_no_limit bytes limits.Steps number has.1.within script
+no_script_limit bytes left world held limits.FileBytes number script tree store has fit stored =
+    no_tree_limit Run world limits.FileBytes number fit tree
+no_script_limit bytes left world held limits.Files number script tree store has fit stored =
+    no_tree_limit Run world limits.Files number fit tree
+no_script_limit bytes left world held limits.Names number script tree store has fit stored =
+    no_tree_limit Run world limits.Names number fit tree
+no_script_limit bytes left world held limits.RcBytes number script tree store has fit stored =
+    no_tree_limit Run world limits.RcBytes number fit tree
+no_script_limit bytes left world held limits.StoreBytes number script tree store has fit stored =
+    not_more (length held) stored.1.short store.0
+  where
+    not_more : (size : ℕ) → size ≤ 33554432 → 33554432 < size → ⊥
+    not_more size short more = omega (arith, short, more)
+
+done : (how : Status) (bytes : List ℕ) (left : Option (List ℕ)) (world : World) (held : List ℕ) (before now : Counts)
+    → IsRunStatus how → ScriptSays bytes left how → TreeSays Run world how → StoreSays held how → AreCounted how before now
+    → HasScript bytes → IsFitFor Run world → HasStore held → IsDoneUnlessRisen how before now
+done status.Done bytes left world held before now is script tree store counted has fit stored = tt
+done status.Usage bytes left world held before now is script tree store counted has fit stored = is
+done status.ReadFault bytes left world held before now is script tree store counted has fit stored = counted.0
+done status.WriteFault bytes left world held before now is script tree store counted has fit stored = counted.0
+done status.NoMemory bytes left world held before now is script tree store counted has fit stored = tt
+done (status.BadScript line) bytes left world held before now is script tree store counted has fit stored =
+    script_or_line bytes has.0 line has.1 script
+done status.NoInit bytes left world held before now is script tree store counted has fit stored = root_is_there Run world fit tree
+done (status.TooLarge limit number) bytes left world held before now is script tree store counted has fit stored =
+    no_script_limit bytes left world held limit number script tree store has fit stored
+done (status.BadPolicy allow line) bytes left world held before now is script tree store counted has fit stored =
+    no_bad_policy Run world allow line fit tree
+done (status.BadStore line) bytes left world held before now is script tree store counted has fit stored =
+    store_or_line held stored.0 line stored.1.pairs store.1
+
+pub complete_run : (how : Status) (script left held : Option (List ℕ)) (world : World) (before now : Counts)
+    → IsRunStatus how → IfSome script (λ bytes. ScriptSays bytes left how) → TreeSays Run world how → IfSome held (λ text. StoreSays text how)
+    → AreCounted how before now → CanBeDone (Some Run) script world held → IsDoneUnlessRisen how before now
+complete_run how None left held world before now is says tree store counted can = absurd can.0
+complete_run how (Some bytes) left None world before now is says tree store counted can = absurd can.2
+complete_run how (Some bytes) left (Some held) world before now is says tree store counted can =
+    done how bytes left world held before now is says tree store counted can.0 can.1 can.2

@@ -1,9 +1,8 @@
-pub mod Added
-pub mod AllBuilt
+pub mod Says
+pub mod TreeTexts
+pub mod RcFiles
+pub mod Written
+pub mod WellFormed
+pub mod Prepared
+pub mod Performed
 pub mod Complete
-pub mod Exactly
-pub mod HasText
-pub mod Least
-pub mod RootRead
-pub mod SameRoot
-pub mod Turns

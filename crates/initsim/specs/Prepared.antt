@@ -1,128 +1,119 @@
--- What reading the script and the root file gives, where they are told.
-use Rattle.std.specs.Prelude.{◌≡◌, ◌≤◌, ℕ, Bool, true, false, List, [], length, Option, Some, None, Result, Ok, Err}
-use Rattle.init_base.specs.Tree.{file_at}
-use Rattle.plain_script.specs.Script.{IsPlainScript, IsUnfitAt}
-use Rattle.plain_script.specs.declared.script.Act.{Act}
-use Rattle.rc_parse.specs.declared.parsed.Parsed.{Parsed}
-use Rattle.rc_parse.specs.Files.{Reads}
-use Rattle.initsim.specs.Root.{root_path, config_of, diagnostics_of, HasRoot, IsTooLarge}
-use Rattle.initsim.specs.Run.{IsPlain, IsRunnable, IsUnbuiltAt}
-use Rattle.initsim.specs.Unbuilt.{unbuilt_line}
+-- What is prepared of a run, before the machine starts.
+use Rattle.std.specs.Prelude.{◌≡◌, ℕ, ⊤, List, [], map, Option, Some, Result, Ok, Err}
+use Rattle.std.specs.Io.KnownBytes.{append_known}
+use Rattle.init_driver.specs.Run.{WritesBefore, given_in, report_of}
+use Rattle.init_driver.specs.Stored.{Keeps}
+use Rattle.init_driver.specs.declared.running.Setup.{Setup}
+use Rattle.init_machine.specs.WellFormed.{IsWellFormed}
+use Rattle.init_machine.specs.declared.config.Pair.{Pair}
+use Rattle.init_machine.specs.declared.diagnostic.Diagnostic.{Diagnostic}
+use Rattle.init_trace.specs.Report.{DiagnosticsText}
+use Rattle.init_trace.specs.Written.{TakesFront}
+use Rattle.rc_import.specs.World.{World}
+use Rattle.rc_import.specs.declared.loaded.Loaded.{Loaded}
+use Rattle.script_lang.specs.Laws.{MeetsConditions}
+use Rattle.script_lang.specs.Script.{IsScript}
+use Rattle.script_lang.specs.declared.script.Script.{Script}
+use Rattle.initsim.specs.Counts.{AreCounted, Counts}
+use Rattle.initsim.specs.Policy.{IsPolicyOf}
+use Rattle.initsim.specs.Run.{Course, run_text}
+use Rattle.initsim.specs.Script.{ScriptSays}
+use Rattle.initsim.specs.Stops.{status_of}
+use Rattle.initsim.specs.Store.{IsStoreOf, StoreSays}
+use Rattle.initsim.specs.Tree.{IsLoadOf, TreeSays}
 use Rattle.initsim.specs.declared.prepare.Job.{Job}
-use Rattle.initsim.specs.declared.root.Loaded.{Loaded}
+use Rattle.initsim.specs.declared.prepare.TreeParts.{TreeParts}
 use Rattle.initsim.specs.declared.status.Status.{Status}
 use Rattle.initsim.specs.declared.status.Status.TheVariants as status
 use Rattle.initsim.specs.declared.stop.Stop.{Stop}
-use Rattle.initsim.specs.declared.stop.Stop.TheVariants as stop
+use Rattle.initsim.specs.declared.words.Form.TheVariants.{Run}
 
-abbrev pub status_of : Stop → Status
-status_of stop.ReadFault = status.ReadFault
-status_of stop.NoMemory = status.NoMemory
-status_of stop.NoInit = status.NoInit
-status_of (stop.TooLarge limit number) = status.TooLarge limit number
-status_of (stop.Unbuilt script line) = status.Unbuilt script line
+-- a tree's policy, and what its build files and rc files give
+pub record IsTree (world : World) (parts : TreeParts) : Type 0 where
+  pub policy : IsPolicyOf world.tree parts.policy
+  pub load : IsLoadOf world parts.loaded.config parts.loaded.diagnostics
 
-abbrev pub is_read_stop : Stop → Bool
-is_read_stop stop.ReadFault = true
-is_read_stop _ = false
+abbrev pub GivesTree : World → Result TreeParts Stop → Type 0
+GivesTree world (Ok parts) = IsTree world parts
+GivesTree world (Err why) = TreeSays Run world (status_of why)
 
-abbrev pub is_unbuilt_stop : Stop → Bool
-is_unbuilt_stop (stop.Unbuilt script line) = true
-is_unbuilt_stop _ = false
+-- a job is put together of a script, the parts of a tree, and the pairs of a store
+pub record IsJobFor (script : Script) (parts : TreeParts) (saved : List Pair) (job : Job) : Type 0 where
+  pub script_is : job.script ≡ script
+  pub policy : job.setup.policy ≡ parts.policy
+  pub diagnostics : job.setup.diagnostics ≡ parts.loaded.diagnostics
+  pub actions : job.setup.config.actions ≡ parts.loaded.config.actions
+  pub services : job.setup.config.services ≡ parts.loaded.config.services
+  pub pairs : job.setup.config.pairs ≡ parts.loaded.config.pairs
+  pub saved_is : job.setup.config.saved ≡ saved
+  pub plans : job.setup.config.plans ≡ script.plans
+  pub domains : job.setup.config.domains ≡ map (λ client. client.domain) script.clients
 
--- whether a fault was answered
-abbrev pub has_read_fault : {T : Type 0} → Result T Stop → Bool
-has_read_fault (Ok value) = false
-has_read_fault (Err why) = is_read_stop why
+-- what a job's setup has of its script, and what a run asks of both
+pub record IsFit (job : Job) : Type 0 where
+  pub plans : job.setup.config.plans ≡ job.script.plans
+  pub domains : job.setup.config.domains ≡ map (λ client. client.domain) job.script.clients
+  pub well_formed : IsWellFormed job.setup.config
+  pub conditions : MeetsConditions job.script
 
--- why a script that is told gave no acts
-abbrev pub IsScriptStop : List ℕ → Stop → Type 0
-IsScriptStop script stop.ReadFault = Unit {0}
-IsScriptStop script stop.NoMemory = Unit {0}
-IsScriptStop script stop.NoInit = ⊥
-IsScriptStop script (stop.TooLarge limit number) = ⊥
-IsScriptStop script (stop.Unbuilt true line) = IsUnfitAt script line
-IsScriptStop script (stop.Unbuilt false line) = ⊥
+-- what a job's setup has of a tree
+pub record IsSetupOf (world : World) (setup : Setup) : Type 0 where
+  pub policy : IsPolicyOf world.tree setup.policy
+  pub load : IsLoadOf world setup.config setup.diagnostics
 
--- the acts of a script's text
-abbrev pub IsActs : List ℕ → Result (List Act) Stop → Type 0
-IsActs script (Ok acts) = IsPlainScript script acts
-IsActs script (Err stop.ReadFault) = ⊥
-IsActs script (Err stop.NoMemory) = Unit {0}
-IsActs script (Err stop.NoInit) = ⊥
-IsActs script (Err (stop.TooLarge limit number)) = ⊥
-IsActs script (Err (stop.Unbuilt true line)) = IsUnfitAt script line
-IsActs script (Err (stop.Unbuilt false line)) = ⊥
+abbrev pub ScriptOfJob : List ℕ → Option (List ℕ) → Result Job Stop → Type 0
+ScriptOfJob bytes left (Ok job) = IsScript bytes job.script × (left ≡ Some [])
+ScriptOfJob bytes left (Err why) = ScriptSays bytes left (status_of why)
 
--- the acts of a source's script, of which nothing is left
-abbrev pub ReadsScript : Option (List ℕ) → Option (List ℕ) → Result (List Act) Stop → Type 0
-ReadsScript None left result = Unit {0}
-ReadsScript (Some script) left (Ok acts) = IsPlainScript script acts × (left ≡ Some [])
-ReadsScript (Some script) left (Err why) = IsScriptStop script why
+abbrev pub GivesSetup : World → Result Job Stop → Type 0
+GivesSetup world (Ok job) = IsSetupOf world job.setup
+GivesSetup world (Err why) = TreeSays Run world (status_of why)
 
--- the sections of a root file's content
-abbrev pub AreSections : List ℕ → Result Parsed Stop → Type 0
-AreSections content (Ok parsed) = (length content ≤ 1048576) × Reads root_path content parsed
-AreSections content (Err stop.ReadFault) = ⊥
-AreSections content (Err stop.NoMemory) = Unit {0}
-AreSections content (Err stop.NoInit) = ⊥
-AreSections content (Err (stop.TooLarge limit number)) = IsTooLarge (Some content) limit number
-AreSections content (Err (stop.Unbuilt script line)) = ⊥
+abbrev pub GivesSaved : List ℕ → Result Job Stop → Type 0
+GivesSaved held (Ok job) = IsStoreOf held job.setup.config.saved
+GivesSaved held (Err why) = StoreSays held (status_of why)
 
--- why a root file that is told gave no sections
-abbrev pub IsRootStop : Option (List ℕ) → Stop → Type 0
-IsRootStop file stop.ReadFault = Unit {0}
-IsRootStop file stop.NoMemory = Unit {0}
-IsRootStop file stop.NoInit = file ≡ None
-IsRootStop file (stop.TooLarge limit number) = IsTooLarge file limit number
-IsRootStop file (stop.Unbuilt script line) = ⊥
+-- the counts over all that is read
+abbrev pub ArePrepared : {T : Type 0} → Result T Stop → Counts → Counts → Type 0
+ArePrepared (Ok value) before now = now ≡ before
+ArePrepared (Err why) before now = AreCounted (status_of why) before now
 
--- the sections of a tree's root file
-abbrev pub ReadsRoot : Option (List (List ℕ × List ℕ)) → Result Parsed Stop → Type 0
-ReadsRoot None result = Unit {0}
-ReadsRoot (Some tree) (Ok parsed) = HasRoot tree parsed
-ReadsRoot (Some tree) (Err why) = IsRootStop (file_at tree root_path) why
+-- the course of a job
+abbrev pub course_of : Job → Course
+course_of job = record {
+  opening = record { config = job.setup.config; policy = job.setup.policy; capacity = job.script.words };
+  diagnostics = job.setup.diagnostics;
+  script = job.script;
+}
 
--- what stays of the sections of one file
-pub record IsLoadOf (parsed : Parsed) (loaded : Loaded) : Type 0 where
-  pub config : loaded.config ≡ config_of parsed
-  pub diagnostics : loaded.diagnostics ≡ diagnostics_of parsed
+-- what a run of a course leaves: in the sink, and in the keeper
+abbrev pub Performs : Course → Option (List ℕ) → Option (List ℕ) → Option (List ℕ) → Option (List ℕ) → Status → Type 0
+Performs course held old new kept status.Done =
+    (new ≡ append_known old (run_text course)) × Keeps held kept (given_in course.opening course.script)
+Performs course held old new kept status.WriteFault = TakesFront old new (run_text course)
+Performs course held old new kept status.ReadFault = WritesBefore old new (report_of course.opening course.diagnostics course.script)
+Performs course held old new kept status.NoMemory = TakesFront old new (run_text course)
+Performs course held old new kept status.Usage = ⊥
+Performs course held old new kept (status.BadScript line) = ⊥
+Performs course held old new kept status.NoInit = ⊥
+Performs course held old new kept (status.TooLarge limit number) = ⊥
+Performs course held old new kept (status.BadPolicy allow line) = ⊥
+Performs course held old new kept (status.BadStore line) = ⊥
 
--- a job of these acts and these sections, in which all is built
-pub record IsJobFor (taken : List Act) (parsed : Parsed) (job : Job) : Type 0 where
-  pub built : unbuilt_line parsed ≡ None
-  pub acts : job.acts ≡ taken
-  pub config : job.config ≡ config_of parsed
-  pub diagnostics : job.diagnostics ≡ diagnostics_of parsed
+-- the diagnostics alone are written
+abbrev pub WritesDiagnostics : List Diagnostic → Option (List ℕ) → Option (List ℕ) → Status → Type 0
+WritesDiagnostics diagnostics old new status.Done = new ≡ append_known old (DiagnosticsText diagnostics)
+WritesDiagnostics diagnostics old new status.WriteFault = TakesFront old new (DiagnosticsText diagnostics)
+WritesDiagnostics diagnostics old new status.NoMemory = TakesFront old new (DiagnosticsText diagnostics)
+WritesDiagnostics diagnostics old new status.ReadFault = ⊥
+WritesDiagnostics diagnostics old new status.Usage = ⊥
+WritesDiagnostics diagnostics old new (status.BadScript line) = ⊥
+WritesDiagnostics diagnostics old new status.NoInit = ⊥
+WritesDiagnostics diagnostics old new (status.TooLarge limit number) = ⊥
+WritesDiagnostics diagnostics old new (status.BadPolicy allow line) = ⊥
+WritesDiagnostics diagnostics old new (status.BadStore line) = ⊥
 
--- the job of acts and sections
-abbrev pub IsJob : List Act → Parsed → Result Job Stop → Type 0
-IsJob acts parsed (Ok job) = IsJobFor acts parsed job
-IsJob acts parsed (Err stop.ReadFault) = ⊥
-IsJob acts parsed (Err stop.NoMemory) = Unit {0}
-IsJob acts parsed (Err stop.NoInit) = ⊥
-IsJob acts parsed (Err (stop.TooLarge limit number)) = ⊥
-IsJob acts parsed (Err (stop.Unbuilt true line)) = ⊥
-IsJob acts parsed (Err (stop.Unbuilt false line)) = unbuilt_line parsed ≡ Some line
-
--- a job of a script and a root file that can be run
-pub record IsJobOf (script : List ℕ) (tree : List (List ℕ × List ℕ)) (left : Option (List ℕ)) (job : Job) : Type 0 where
-  pub parsed : Parsed
-  pub runnable : IsRunnable script tree job.acts parsed
-  pub config : job.config ≡ config_of parsed
-  pub diagnostics : job.diagnostics ≡ diagnostics_of parsed
-  pub nothing_left : left ≡ Some []
-
--- why nothing is run of a script and a tree that are told
-abbrev pub IsStopOf : List ℕ → List (List ℕ × List ℕ) → Stop → Type 0
-IsStopOf script tree stop.ReadFault = Unit {0}
-IsStopOf script tree stop.NoMemory = Unit {0}
-IsStopOf script tree stop.NoInit = IsPlain script × (file_at tree root_path ≡ None)
-IsStopOf script tree (stop.TooLarge limit number) = IsPlain script × IsTooLarge (file_at tree root_path) limit number
-IsStopOf script tree (stop.Unbuilt of_script line) = IsUnbuiltAt script tree of_script line
-
-abbrev pub Prepares : Option (List ℕ) → Option (List (List ℕ × List ℕ)) → Option (List ℕ) → Result Job Stop → Type 0
-Prepares None tree left result = Unit {0}
-Prepares (Some script) None left result = Unit {0}
-Prepares (Some script) (Some tree) left (Ok job) = IsJobOf script tree left job
-Prepares (Some script) (Some tree) left (Err why) = IsStopOf script tree why
+-- a run's status
+abbrev pub IsRunStatus : Status → Type 0
+IsRunStatus status.Usage = ⊥
+IsRunStatus _ = ⊤

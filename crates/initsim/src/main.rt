@@ -5,26 +5,28 @@
 #![tactic(auto)]
 
 mod command_line;
-#[cfg(test)]
-mod histories;
+mod loading;
 mod prepare;
-mod report;
-mod root;
+mod reading;
 mod status;
 mod stop;
 mod telling;
-#[cfg(test)]
-mod tests;
+mod texts;
 mod top;
-mod unbuilt;
 mod words;
 
 use command_line::words_of;
-use init_base::{Fault, List, NoMemory, Source, StdFiles, StdSink, StdSource, Text};
+use init_base::{
+    Fault, Keeper, List, NoMemory, Source, StdFiles, StdKeeper, StdSink, StdSource, Text,
+};
 use status::Status;
+use std::alloc::Global;
 use std::process::ExitCode;
 use telling::tell;
 use top::initsim;
+
+/// Where the persistent store stands below the root.
+const STORE_PATH: &[u8] = b"/data/property/persist.txt";
 
 /// A word by its place. The empty text where there is none.
 fn word_at(words: &List<Text>, at: usize) -> Result<Text, NoMemory> {
@@ -34,6 +36,13 @@ fn word_at(words: &List<Text>, at: usize) -> Result<Text, NoMemory> {
     }
 }
 
+/// The path of the persistent store.
+fn store_path(alloc: Global, root: &Text) -> Result<Text, NoMemory> {
+    let mut path = Vec::from_slice(alloc, root.bytes())?;
+    path.extend_from_slice(STORE_PATH)?;
+    Text::from_vec(path)
+}
+
 fn run(rt: &HostRuntime) -> Result<Status, NoMemory> {
     let alloc = rt.alloc();
     let words = words_of(rt, alloc)?;
@@ -41,9 +50,17 @@ fn run(rt: &HostRuntime) -> Result<Status, NoMemory> {
     let path = word_at(&words, 2)?;
     let mut files = StdFiles::at(rt, alloc, &root)?;
     let mut script = StdSource::at(rt, alloc, &path)?;
+    let mut keeper = StdKeeper::at(rt, alloc, &store_path(alloc, &root)?)?;
     let mut out = StdSink::stdout(rt);
-    let status = initsim(alloc, &words, &mut files, &mut script, &mut out);
-    let fault = fault_behind(status, &script, &files, &out);
+    let status = initsim(
+        alloc,
+        &words,
+        &mut files,
+        &mut script,
+        &mut keeper,
+        &mut out,
+    );
+    let fault = fault_behind(status, &script, &files, &keeper, &out);
     let _ = tell(rt, status, fault);
     Ok(status)
 }
@@ -53,11 +70,14 @@ fn fault_behind<'a>(
     status: Status,
     script: &'a StdSource<'_, HostRuntime>,
     files: &'a StdFiles<'_, HostRuntime>,
+    keeper: &'a StdKeeper<'_, HostRuntime>,
     out: &'a StdSink<'_, HostRuntime>,
 ) -> Option<&'a Fault> {
     let has_script_failed = script.faults() > 0;
+    let has_keeper_failed = keeper.faults() > 0;
     match status {
         Status::ReadFault if has_script_failed => script.last_fault(),
+        Status::ReadFault if has_keeper_failed => keeper.last_fault(),
         Status::ReadFault | Status::NoInit => files.last_fault(),
         Status::WriteFault => out.last_fault(),
         _ => None,

@@ -1,99 +1,123 @@
-//! Reading what is to be run: the script, and then the root file.
+//! What is to be run: the script, the tree and the store are read, in this order, and the first refusal ends it.
 
-ghost use Rattle.std.specs.Prelude.{◌≡◌, IsTrue, IfOk};
-ghost use Rattle.std.specs.List.{list_all};
+ghost use Rattle.std.specs.Prelude.{◌≡◌, [], map, IfErr, IfOk, IfSome};
 ghost use Rattle.init_base.specs.Faults.{Counted};
-ghost use Rattle.init_core.specs.Stage.Built.{IsBuiltConfig};
-ghost use Rattle.rc_parse.specs.Sections.{has_command};
-ghost use Rattle.initsim.specs.Prepared.{has_read_fault, IsActs, IsJob, ReadsScript, Prepares};
-ghost use Rattle.initsim.specs.Causes.{AreCounted};
+ghost use Rattle.init_machine.specs.WellFormed.{IsWellFormed};
+ghost use Rattle.initsim.specs.Prepared.{ArePrepared, GivesSaved, GivesSetup, GivesTree, IsFit, IsJobFor, ScriptOfJob};
+ghost use Rattle.initsim.specs.Stops.{IsOfTree, has_read_fault};
+ghost use Rattle.initsim.specs.Tree.{IsWorldOf};
+ghost use Rattle.rc_import.specs.World.{World};
 
-use crate::root::{Loaded, load, read_root};
+use crate::loading::load;
+use crate::reading::{read_script, read_store};
 use crate::stop::Stop;
-use crate::unbuilt::unbuilt_line;
-use init_base::{Files, List, ReadRefusal, Source, Text, read_all};
-use init_machine::{Config, Diagnostic};
-use plain_script::script::{Act, MAX_SCRIPT_BYTES, ScriptRefusal, read};
-use rc_parse::Parsed;
+use crate::texts::read_policy;
+use init_base::{Files, Keeper, List, NoMemory, Source, Text};
+use init_driver::Setup;
+use init_machine::{Config, Pair, Plan};
+use prop_contexts::Policy;
+use rc_import::Loaded;
+use script_lang::{Client, Script};
 use std::alloc::Global;
 
-/// What is to be run, and what is wrong in the root file.
+/// What is to be run.
 #[derive(Drop)]
 pub struct Job {
-    pub acts: List<Act>,
-    pub config: Config,
-    pub diagnostics: List<Diagnostic>,
+    pub setup: Setup,
+    pub script: Script,
 }
 
-/// The acts of the script.
-fn read_script<S: Source>(alloc: Global, source: &mut S) -> Result<List<Act>, Stop>
-    ensures acts { ReadsScript (S.left source.old) (S.left source.new) result }
-    ensures cause { Counted (has_read_fault result) (S.fault_count source.old) (S.fault_count source.new) }
-{
-    let text = match read_all(alloc, source, MAX_SCRIPT_BYTES) {
-        Ok(text) => text,
-        Err(ReadRefusal::Failed) => return Err(Stop::ReadFault),
-        Err(ReadRefusal::TooLarge) => {
-            return Err(Stop::Unbuilt {
-                script: true,
-                line: 0,
-            });
-        }
-        Err(ReadRefusal::NoMemory) => return Err(Stop::NoMemory),
-    };
-    acts_of(alloc, &text)
+/// What a tree gives a run.
+#[derive(Drop)]
+struct TreeParts {
+    policy: Policy,
+    loaded: Loaded,
 }
 
-/// The acts of a script's text.
-fn acts_of(alloc: Global, text: &Text) -> Result<List<Act>, Stop>
-    ensures { IsActs text.now result }
+/// Reads the policy, and then the build files and the rc files.
+fn read_tree<F: Files>(alloc: Global, files: &mut F) -> Result<TreeParts, Stop>
+    ensures tree { (world : World) → IsWorldOf (F.tree files.old) world → GivesTree world result }
+    ensures kind { IfErr result IsOfTree }
+    ensures well_formed { IfOk result (λ parts. IsWellFormed parts.loaded.config) }
+    ensures cause { Counted (has_read_fault result) (F.fault_count files.old) (F.fault_count files.new) }
 {
-    match read(alloc, text.bytes()) {
-        Ok(script) => Ok(script.acts),
-        Err(ScriptRefusal::Unbuilt { line }) => Err(Stop::Unbuilt { script: true, line }),
-        Err(ScriptRefusal::NoMemory) => Err(Stop::NoMemory),
+    let policy = read_policy(alloc, files)?;
+    let loaded = load(alloc, files)?;
+    Ok(TreeParts { policy, loaded })
+}
+
+/// The domains of the clients.
+fn domains_of(alloc: Global, clients: &[Client]) -> Result<List<Text>, NoMemory>
+    ensures { IfOk result (λ domains. domains ≡ map (λ client. client.domain) clients.now) }
+{
+    let mut domains = List::new(alloc);
+    for client in clients {
+        domains.push(client.domain.share()?)?;
     }
+    Ok(domains)
 }
 
-/// The job of acts and sections, if all is built.
-pub fn job_of(alloc: Global, acts: List<Act>, parsed: Parsed) -> Result<Job, Stop>
-    requires { IsTrue (list_all has_command parsed.actions) }
-    ensures job { IsJob acts parsed result }
-    ensures built { IfOk result (λ job. IsBuiltConfig job.config) }
+/// The same plans once more.
+fn copy_of(alloc: Global, plans: &[Plan]) -> Result<List<Plan>, NoMemory>
+    ensures { IfOk result (λ copy. copy ≡ plans.now) }
 {
-    if let Some(line) = unbuilt_line(alloc, &parsed)? {
-        return Err(Stop::Unbuilt {
-            script: false,
-            line,
-        });
+    let mut copy = List::new(alloc);
+    for plan in plans {
+        copy.push(Plan {
+            path: plan.path.share()?,
+            after: plan.after,
+            status: plan.status,
+        })?;
     }
+    Ok(copy)
+}
+
+/// Puts a job together.
+fn job_of(
+    alloc: Global,
+    script: Script,
+    parts: TreeParts,
+    saved: List<Pair>,
+) -> Result<Job, NoMemory>
+    ensures { IfOk result (IsJobFor script parts saved) }
+{
+    let plans = copy_of(alloc, script.plans.items())?;
+    let domains = domains_of(alloc, script.clients.items())?;
     let Loaded {
         config,
         diagnostics,
-    } = load(alloc, parsed)?;
-    Ok(Job {
-        acts,
-        config,
+    } = parts.loaded;
+    let setup = Setup {
+        config: Config {
+            plans,
+            saved,
+            domains,
+            ..config
+        },
+        policy: parts.policy,
         diagnostics,
-    })
+    };
+    Ok(Job { setup, script })
 }
 
-/// Reads the script to its end, and then the root file.
-pub fn prepare<F: Files, S: Source>(
+/// Reads the script, the tree and the store.
+pub fn prepare<F: Files, S: Source, P: Keeper>(
     alloc: Global,
     files: &mut F,
     source: &mut S,
+    keeper: &mut P,
 ) -> Result<Job, Stop>
-    ensures job { Prepares (S.left source.old) (F.tree files.old) (S.left source.new) result }
-    ensures built { IfOk result (λ job. IsBuiltConfig job.config) }
-    ensures cause { AreCounted (has_read_fault result) (F.fault_count files.old) (F.fault_count files.new) (S.fault_count source.old) (S.fault_count source.new) }
+    ensures script { IfSome (S.left source.old) (λ bytes. ScriptOfJob bytes (S.left source.new) result) }
+    ensures tree { (world : World) → IsWorldOf (F.tree files.old) world → GivesSetup world result }
+    ensures store { IfSome (P.held keeper.old) (λ held. GivesSaved held result) }
+    ensures fit { IfOk result IsFit }
+    ensures held { P.held keeper.new ≡ P.held keeper.old }
+    ensures counts { ArePrepared result
+        (record { files = F.fault_count files.old; script = S.fault_count source.old; keeper = P.fault_count keeper.old; out = 0 })
+        (record { files = F.fault_count files.new; script = S.fault_count source.new; keeper = P.fault_count keeper.new; out = 0 }) }
 {
-    let acts = match read_script(alloc, source) {
-        Ok(acts) => acts,
-        Err(stop) => return Err(stop),
-    };
-    match read_root(alloc, files) {
-        Ok(parsed) => job_of(alloc, acts, parsed),
-        Err(stop) => Err(stop),
-    }
+    let script = read_script(alloc, source)?;
+    let parts = read_tree(alloc, files)?;
+    let saved = read_store(alloc, keeper)?;
+    Ok(job_of(alloc, script, parts, saved)?)
 }

@@ -12,19 +12,22 @@ pub enum Status {
     Done,
     /// The words of the command line have no form.
     Usage,
-    /// A file or the script couldn't be read.
+    /// A file, the script or the store couldn't be read, or the store couldn't be replaced.
     ReadFault,
     /// The text couldn't be written. A front of it is written.
     WriteFault,
     /// Memory ran out.
     NoMemory,
+    /// A line of the script is bad: the first one, from 1.
+    BadScript { line: u32 },
     /// The tree has no root file.
     NoInit,
-    /// A limit is passed. The number of a file's bytes is the limit and one more.
+    /// A limit is passed. The number of the bytes of one file, script or store is the limit and one more.
     TooLarge { limit: Limit, number: u64 },
-    /// A line of the script, or else of the root file, is of a kind that isn't built yet: the first such line, from 1.
-    /// Line 0 is that of a script that is too long.
-    Unbuilt { script: bool, line: u32 },
+    /// A line of the allow text, or else of the contexts text, is bad: the first one, from 1.
+    BadPolicy { allow: bool, line: u32 },
+    /// A line of the persistent store is bad: the first one, from 1.
+    BadStore { line: u32 },
 }
 
 impl Status {
@@ -38,9 +41,11 @@ impl Status {
             Status::ReadFault => 2,
             Status::WriteFault => 3,
             Status::NoMemory => 4,
+            Status::BadScript { .. } => 5,
             Status::NoInit => 6,
             Status::TooLarge { .. } => 7,
-            Status::Unbuilt { .. } => 10,
+            Status::BadPolicy { .. } => 8,
+            Status::BadStore { .. } => 9,
         }
     }
 }

@@ -20,9 +20,14 @@ fn tell_status(rt: &HostRuntime, status: Status) -> std::io::Result<()> {
         Status::ReadFault => eprintln!(rt; "initsim: read fault"),
         Status::WriteFault => eprintln!(rt; "initsim: write fault"),
         Status::NoMemory => eprintln!(rt; "initsim: no memory"),
+        Status::BadScript { line } => eprintln!(rt; "initsim: bad script line {line}"),
         Status::NoInit => eprintln!(rt; "initsim: no init.rc"),
         Status::TooLarge { number, .. } => eprintln!(rt; "initsim: too large {number}"),
-        Status::Unbuilt { line, .. } => eprintln!(rt; "initsim: unbuilt line {line}"),
+        Status::BadPolicy { allow: false, line } => {
+            eprintln!(rt; "initsim: bad contexts line {line}")
+        }
+        Status::BadPolicy { allow: true, line } => eprintln!(rt; "initsim: bad allow line {line}"),
+        Status::BadStore { line } => eprintln!(rt; "initsim: bad store line {line}"),
     }
 }
 

@@ -1,134 +1,154 @@
 //! The top call: all that the program does.
 
-ghost use Rattle.std.specs.Prelude.{◌≡◌, ◌↔◌, ℕ, false, Some, None};
-ghost use Rattle.init_base.specs.Faults.{Counted};
-ghost use Rattle.init_core.specs.Stage.Built.{IsBuiltConfig};
-ghost use Rattle.initsim.specs.Causes.{AreCounted};
+ghost use Rattle.std.specs.Prelude.{◌≡◌, ◌↔◌, ℕ, IfSome, None, Some};
+ghost use Rattle.initsim.specs.Check.{CheckWrites, IsCheckStatus};
+ghost use Rattle.initsim.specs.Counts.{AreCounted, IsDoneUnlessRisen};
 ghost use Rattle.initsim.specs.Form.{form_of as form_of_lem};
-ghost use Rattle.initsim.specs.Run.{CheckWhereTold, OutcomeWhereTold, RunWhereTold};
-ghost use Rattle.initsim.specs.Top.{CanBeChecked, CanBeDone, CanBeRun, Checked, IsDoneUnlessRisen, IsUnwritten, Performed, is_read_fault, is_unbuilt, is_usage, is_write_fault};
-ghost use Rattle.initsim.specs.declared.words.Form.TheVariants.{Check};
+ghost use Rattle.initsim.specs.Prepared.{IsFit, IsRunStatus, Performs, WritesDiagnostics, course_of};
+ghost use Rattle.initsim.specs.Run.{RunLeaves};
+ghost use Rattle.initsim.specs.Script.{ScriptSays};
+ghost use Rattle.initsim.specs.Store.{StoreSays};
+ghost use Rattle.initsim.specs.Top.{CanBeDone, IsAsBefore};
+ghost use Rattle.initsim.specs.Tree.{IsWorldOf, TreeSays};
+ghost use Rattle.initsim.specs.declared.words.Form.TheVariants as Form;
+ghost use Rattle.rc_import.specs.World.{World};
 
+use crate::loading::load;
 use crate::prepare::{Job, prepare};
-use crate::report::run;
-use crate::root::{load, read_root};
 use crate::status::Status;
 use crate::words::{Form, form_of};
-use init_base::{Files, IoRefusal, List, Sink, Source, Text};
-use init_trace::{print, print_diagnostics};
-use rc_parse::Parsed;
+use init_base::{Files, IoRefusal, Keeper, List, Sink, Source, Text};
+use init_driver::{DriveRefusal, run};
+use init_machine::Diagnostic;
+use init_trace::print_diagnostics;
 use std::alloc::Global;
 
-/// Runs a job, and writes the text of its report.
-fn perform<K: Sink>(alloc: Global, job: Job, out: &mut K) -> Status
-    requires { IsBuiltConfig job.config }
-    ensures written { Performed job.acts job.config job.diagnostics (K.taken out.old) (K.taken out.new) result }
-    ensures cause { Counted (is_write_fault result) (K.fault_count out.old) (K.fault_count out.new) }
+/// Runs a job: the machine takes the script's inputs, and the text of the report is written.
+fn perform<P: Keeper, K: Sink>(alloc: Global, job: Job, keeper: &mut P, out: &mut K) -> Status
+    requires { IsFit job }
+    ensures leaves { Performs (course_of job) (P.held keeper.old) (K.taken out.old) (K.taken out.new) (P.held keeper.new) result }
+    ensures counts { (files script : ℕ) → AreCounted result
+        (record { files = files; script = script; keeper = P.fault_count keeper.old; out = K.fault_count out.old })
+        (record { files = files; script = script; keeper = P.fault_count keeper.new; out = K.fault_count out.new }) }
 {
-    let Ok(report) = run(alloc, job.config, job.diagnostics, &job.acts) else {
-        return Status::NoMemory;
-    };
-    match print(alloc, &report, out) {
+    match run(alloc, job.setup, &job.script, keeper, out) {
         Ok(()) => Status::Done,
-        Err(IoRefusal::Failed) => Status::WriteFault,
-        Err(IoRefusal::NoMemory) => Status::NoMemory,
+        Err(DriveRefusal::Keeper) => Status::ReadFault,
+        Err(DriveRefusal::Write) => Status::WriteFault,
+        Err(DriveRefusal::NoMemory) => Status::NoMemory,
     }
 }
 
-/// Writes the diagnostics of these sections.
-fn report_mistakes<K: Sink>(alloc: Global, parsed: Parsed, out: &mut K) -> Status
-    ensures written { Checked parsed (K.taken out.old) (K.taken out.new) result }
-    ensures cause { Counted (is_write_fault result) (K.fault_count out.old) (K.fault_count out.new) }
-{
-    let Ok(loaded) = load(alloc, parsed) else {
-        return Status::NoMemory;
-    };
-    match print_diagnostics(alloc, &loaded.diagnostics, out) {
-        Ok(()) => Status::Done,
-        Err(IoRefusal::Failed) => Status::WriteFault,
-        Err(IoRefusal::NoMemory) => Status::NoMemory,
-    }
-}
-
-/// `run`: reads the script and the root file, runs the machine, and writes the report.
-fn run_script<F: Files, S: Source, K: Sink>(
+/// `run`: reads the script, the tree and the store, runs the machine, and writes the report.
+fn run_script<F: Files, S: Source, P: Keeper, K: Sink>(
     alloc: Global,
     files: &mut F,
     script: &mut S,
+    keeper: &mut P,
     out: &mut K,
 ) -> Status
-    ensures outcome { RunWhereTold (S.left script.old) (F.tree files.old) (S.left script.new) (K.taken out.old) (K.taken out.new) result }
-    ensures formed { is_usage result ≡ false }
-    ensures read_fault { AreCounted (is_read_fault result) (F.fault_count files.old) (F.fault_count files.new) (S.fault_count script.old) (S.fault_count script.new) }
-    ensures write_fault { Counted (is_write_fault result) (K.fault_count out.old) (K.fault_count out.new) }
-    ensures unwritten { IsUnwritten (K.taken out.old) (K.taken out.new) result }
-    ensures complete { CanBeRun (S.left script.old) (F.tree files.old)
-        → IsDoneUnlessRisen (F.fault_count files.old) (F.fault_count files.new) (S.fault_count script.old) (S.fault_count script.new) (K.fault_count out.old) (K.fault_count out.new) result }
+    ensures script { IfSome (S.left script.old) (λ bytes. ScriptSays bytes (S.left script.new) result) }
+    ensures tree { (world : World) → IsWorldOf (F.tree files.old) world → TreeSays Form.Run world result }
+    ensures store { IfSome (P.held keeper.old) (λ held. StoreSays held result) }
+    ensures leaves { (world : World) → IsWorldOf (F.tree files.old) world → IfSome (S.left script.old) (λ bytes. IfSome (P.held keeper.old) (λ held.
+        RunLeaves bytes world held (K.taken out.old) (K.taken out.new) (P.held keeper.new) result)) }
+    ensures counts { AreCounted result
+        (record { files = F.fault_count files.old; script = S.fault_count script.old; keeper = P.fault_count keeper.old; out = K.fault_count out.old })
+        (record { files = F.fault_count files.new; script = S.fault_count script.new; keeper = P.fault_count keeper.new; out = K.fault_count out.new }) }
+    ensures unwritten { IsAsBefore (K.taken out.old) (K.taken out.new) result (P.fault_count keeper.old) (P.fault_count keeper.new) }
+    ensures unkept { IsAsBefore (P.held keeper.old) (P.held keeper.new) result (P.fault_count keeper.old) (P.fault_count keeper.new) }
+    ensures formed { IsRunStatus result }
 {
-    match prepare(alloc, files, script) {
-        Ok(job) => perform(alloc, job, out),
+    match prepare(alloc, files, script, keeper) {
+        Ok(job) => perform(alloc, job, keeper, out),
         Err(stop) => stop.status(),
     }
 }
 
-/// `check`: reads the root file, and writes what is wrong in it.
-fn check<F: Files, K: Sink>(alloc: Global, files: &mut F, out: &mut K) -> Status
-    ensures outcome { CheckWhereTold (F.tree files.old) (K.taken out.old) (K.taken out.new) result }
-    ensures formed { is_usage result ≡ false }
-    ensures whole { is_unbuilt result ≡ false }
-    ensures read_fault { Counted (is_read_fault result) (F.fault_count files.old) (F.fault_count files.new) }
-    ensures write_fault { Counted (is_write_fault result) (K.fault_count out.old) (K.fault_count out.new) }
-    ensures unwritten { IsUnwritten (K.taken out.old) (K.taken out.new) result }
-    ensures complete { CanBeChecked (F.tree files.old) → (script : ℕ)
-        → IsDoneUnlessRisen (F.fault_count files.old) (F.fault_count files.new) script script (K.fault_count out.old) (K.fault_count out.new) result }
+/// Writes the diagnostics alone.
+fn write_diagnostics<K: Sink>(alloc: Global, diagnostics: &List<Diagnostic>, out: &mut K) -> Status
+    ensures writes { WritesDiagnostics diagnostics.now (K.taken out.old) (K.taken out.new) result }
+    ensures counts { (files script keeper : ℕ) → AreCounted result
+        (record { files = files; script = script; keeper = keeper; out = K.fault_count out.old })
+        (record { files = files; script = script; keeper = keeper; out = K.fault_count out.new }) }
 {
-    match read_root(alloc, files) {
-        Ok(parsed) => report_mistakes(alloc, parsed, out),
+    match print_diagnostics(alloc, diagnostics, out) {
+        Ok(()) => Status::Done,
+        Err(IoRefusal::Failed) => Status::WriteFault,
+        Err(IoRefusal::NoMemory) => Status::NoMemory,
+    }
+}
+
+/// `check`: reads the build files and the rc files, and writes what is wrong in them.
+fn check<F: Files, K: Sink>(alloc: Global, files: &mut F, out: &mut K) -> Status
+    ensures tree { (world : World) → IsWorldOf (F.tree files.old) world → TreeSays Form.Check world result }
+    ensures writes { (world : World) → IsWorldOf (F.tree files.old) world → CheckWrites world (K.taken out.old) (K.taken out.new) result }
+    ensures counts { (script keeper : ℕ) → AreCounted result
+        (record { files = F.fault_count files.old; script = script; keeper = keeper; out = K.fault_count out.old })
+        (record { files = F.fault_count files.new; script = script; keeper = keeper; out = K.fault_count out.new }) }
+    ensures unwritten { (keeper : ℕ) → IsAsBefore (K.taken out.old) (K.taken out.new) result keeper keeper }
+    ensures formed { IsCheckStatus result }
+{
+    match load(alloc, files) {
+        Ok(loaded) => write_diagnostics(alloc, &loaded.diagnostics, out),
         Err(stop) => stop.status(),
     }
 }
 
 /// Does all that the program does. `words` are those of the command line, without the program's own name.
 ///
-/// `run ROOT SCRIPT` reads the script and the root file of the tree, runs the documented machine over them, and writes
-/// the text of the report. Where the script and the tree are told, `Done` has written exactly the text of the report
-/// whose diagnostics are those of the root file, whose history is legal from the opening of its actions and services,
-/// and whose inputs are Boot and those of the script, in order. `Unbuilt` comes exactly where the script isn't plain, or
-/// else at the root file's first line of a kind that isn't built yet.
+/// `run ROOT SCRIPT` reads the script, the tree's policy, build files and rc files, and the persistent store, in this order;
+/// the first refusal ends it. Then it runs the documented machine, and writes the text of the report entry by entry: the
+/// diagnostics of the tree, the one legal history of the script's inputs, and what the clients read. `check ROOT` reads the
+/// build files and the rc files alone, and writes their diagnostics.
 ///
-/// `check ROOT` reads the root file alone, and `Done` has written exactly the text of its diagnostics.
-///
-/// `NoInit` comes exactly where the tree has no root file, and `TooLarge` exactly where it has more than 1,048,576 bytes.
-pub fn initsim<F: Files, S: Source, K: Sink>(
+/// What a status says of the script, the tree and the store is said of each by itself, where it is told: the refusal of an
+/// object says what is wrong with it, and each later status says that nothing is. Memory may run out at any point.
+pub fn initsim<F: Files, S: Source, P: Keeper, K: Sink>(
     alloc: Global,
     words: &List<Text>,
     files: &mut F,
     script: &mut S,
+    keeper: &mut P,
     out: &mut K,
 ) -> Status
-    ensures outcome { OutcomeWhereTold (form_of_lem words.now) (S.left script.old) (F.tree files.old) (S.left script.new) (K.taken out.old) (K.taken out.new) result }
     ensures usage { (result ≡ Status.Usage) ↔ (form_of_lem words.now ≡ None) }
 
-    // ReadFault only where the sum of the counts of files and source rose, WriteFault only where the sink's rose; where
-    // another status is answered they are as before.
-    ensures read_fault { AreCounted (is_read_fault result) (F.fault_count files.old) (F.fault_count files.new) (S.fault_count script.old) (S.fault_count script.new) }
-    ensures write_fault { Counted (is_write_fault result) (K.fault_count out.old) (K.fault_count out.new) }
+    // What a status says of the script, of the tree and of the store.
+    ensures script { form_of_lem words.now ≡ Some Form.Run →
+        IfSome (S.left script.old) (λ bytes. ScriptSays bytes (S.left script.new) result) }
+    ensures tree { (world : World) → IsWorldOf (F.tree files.old) world → IfSome (form_of_lem words.now) (λ form. TreeSays form world result) }
+    ensures store { form_of_lem words.now ≡ Some Form.Run → IfSome (P.held keeper.old) (λ held. StoreSays held result) }
 
-    // Before the run nothing is written, also where nothing is told.
-    ensures unwritten { IsUnwritten (K.taken out.old) (K.taken out.new) result }
+    // What is left in the sink and in the keeper, where all is told.
+    ensures run { form_of_lem words.now ≡ Some Form.Run →
+        (world : World) → IsWorldOf (F.tree files.old) world → IfSome (S.left script.old) (λ bytes. IfSome (P.held keeper.old) (λ held.
+        RunLeaves bytes world held (K.taken out.old) (K.taken out.new) (P.held keeper.new) result)) }
+    ensures checked { form_of_lem words.now ≡ Some Form.Check →
+        (world : World) → IsWorldOf (F.tree files.old) world → CheckWrites world (K.taken out.old) (K.taken out.new) result }
 
-    // All that is in a root file can be checked, also where nothing is told.
-    ensures whole { form_of_lem words.now ≡ Some Check → is_unbuilt result ≡ false }
+    // A fault comes only where a count of its objects rose, and all other counts are as before.
+    ensures faults { AreCounted result
+        (record { files = F.fault_count files.old; script = S.fault_count script.old; keeper = P.fault_count keeper.old; out = K.fault_count out.old })
+        (record { files = F.fault_count files.new; script = S.fault_count script.new; keeper = P.fault_count keeper.new; out = K.fault_count out.new }) }
 
-    // A check leaves the script alone.
-    ensures unread { form_of_lem words.now ≡ Some Check → script.new ≡ script.old }
+    // A refusal before the run writes nothing and leaves what the keeper holds, also where nothing is told.
+    ensures unwritten { IsAsBefore (K.taken out.old) (K.taken out.new) result (P.fault_count keeper.old) (P.fault_count keeper.new) }
+    ensures unkept { IsAsBefore (P.held keeper.old) (P.held keeper.new) result (P.fault_count keeper.old) (P.fault_count keeper.new) }
+
+    // A check leaves the script and the keeper alone, and has none of their refusals, also where nothing is told.
+    ensures unread { form_of_lem words.now ≡ Some Form.Check → script.new ≡ script.old }
+    ensures unloaded { form_of_lem words.now ≡ Some Form.Check → keeper.new ≡ keeper.old }
+    ensures of_check { form_of_lem words.now ≡ Some Form.Check → IsCheckStatus result }
 
     // What is told and can be done is done, or memory runs out, unless a count rose.
-    ensures complete { CanBeDone (form_of_lem words.now) (S.left script.old) (F.tree files.old)
-        → IsDoneUnlessRisen (F.fault_count files.old) (F.fault_count files.new) (S.fault_count script.old) (S.fault_count script.new) (K.fault_count out.old) (K.fault_count out.new) result }
+    ensures complete { (world : World) → IsWorldOf (F.tree files.old) world →
+        CanBeDone (form_of_lem words.now) (S.left script.old) world (P.held keeper.old) → IsDoneUnlessRisen result
+        (record { files = F.fault_count files.old; script = S.fault_count script.old; keeper = P.fault_count keeper.old; out = K.fault_count out.old })
+        (record { files = F.fault_count files.new; script = S.fault_count script.new; keeper = P.fault_count keeper.new; out = K.fault_count out.new }) }
 {
     match form_of(words) {
-        Some(Form::Run) => run_script(alloc, files, script, out),
+        Some(Form::Run) => run_script(alloc, files, script, keeper, out),
         Some(Form::Check) => check(alloc, files, out),
         None => Status::Usage,
     }

@@ -10,7 +10,7 @@ use init_base::{List, Text};
 pub enum Form {
     /// `run ROOT SCRIPT`: the machine runs, and its report is written.
     Run,
-    /// `check ROOT`: what is wrong in the root file is written.
+    /// `check ROOT`: what is wrong in the build files and the rc files is written.
     Check,
 }
 

@@ -1,0 +1,63 @@
+-- What is prepared of a run.
+use Rattle.std.proofs.Common.{◌≡◌, ℕ, Bool, List, Option, Some, None, Result, Ok, Err, refl, sym, subst, inl, inr, ap, ◌∙◌}
+use Rattle.init_base.specs.Faults.{Counted}
+use Rattle.init_machine.specs.declared.config.Pair.{Pair}
+use Rattle.rc_import.specs.World.{World}
+use Rattle.script_lang.specs.declared.script.Script.{Script}
+use Rattle.initsim.specs.Counts.{AreCounted, Counts}
+use Rattle.initsim.specs.Policy.{IsPolicyOf}
+use Rattle.initsim.specs.Prepared.{IsJobFor, IsSetupOf, IsTree}
+use Rattle.initsim.specs.Stops.{is_read_fault, status_of}
+use Rattle.initsim.specs.Tree.{IsFitFor}
+use Rattle.initsim.specs.declared.prepare.Job.{Job}
+use Rattle.initsim.specs.declared.prepare.TreeParts.{TreeParts}
+use Rattle.initsim.specs.declared.stop.Stop.{Stop}
+use Rattle.initsim.specs.declared.stop.Stop.TheVariants as stop
+use Rattle.initsim.specs.declared.words.Form.TheVariants.{Run}
+
+pub tree_fits : (world : World) (parts : TreeParts) → IsTree world parts → IsFitFor Run world
+tree_fits world parts tree = ((parts.policy, tree.policy), (tree.load.short, (tree.load.loaded, tree.load.rc_files)))
+
+pub setup_of_job : (world : World) (script : Script) (parts : TreeParts) (saved : List Pair) (job : Job)
+    → IsTree world parts → IsJobFor script parts saved job → IsSetupOf world job.setup
+setup_of_job world script parts saved job tree is = record {
+  policy = subst (λ p. IsPolicyOf world.tree p) (sym is.policy) tree.policy;
+  load = record {
+    short = tree.load.short;
+    loaded = tree.load.loaded;
+    rc_files = tree.load.rc_files;
+    actions = is.actions ∙ tree.load.actions;
+    services = is.services ∙ tree.load.services;
+    pairs = is.pairs ∙ tree.load.pairs;
+    diagnostics_are = is.diagnostics ∙ tree.load.diagnostics_are;
+  };
+}
+
+-- ---- counts
+
+counts : ℕ → ℕ → ℕ → ℕ → Counts
+counts files script keeper out = record { files = files; script = script; keeper = keeper; out = out }
+
+same_counts : (files files' script script' keeper keeper' out : ℕ) → files' ≡ files → script' ≡ script → keeper' ≡ keeper
+    → counts files' script' keeper' out ≡ counts files script keeper out
+same_counts files files' script script' keeper keeper' out one two three = cc
+
+-- a stop of the store's reader
+pub store_stop_counts : (why : Stop) (files files' script script' keeper keeper' out : ℕ) → files' ≡ files → script' ≡ script
+    → Counted (is_read_fault why) keeper keeper'
+    → AreCounted (status_of why) (record { files = files; script = script; keeper = keeper; out = out })
+    (record { files = files'; script = script'; keeper = keeper'; out = out })
+unfolding counts
+store_stop_counts stop.ReadFault files files' script script' keeper keeper' out one two counted = (inr (inr counted), refl)
+store_stop_counts stop.NoMemory files files' script script' keeper keeper' out one two counted =
+    same_counts files files' script script' keeper keeper' out one two counted
+store_stop_counts (stop.BadScript line) files files' script script' keeper keeper' out one two counted =
+    same_counts files files' script script' keeper keeper' out one two counted
+store_stop_counts stop.NoInit files files' script script' keeper keeper' out one two counted =
+    same_counts files files' script script' keeper keeper' out one two counted
+store_stop_counts (stop.TooLarge limit number) files files' script script' keeper keeper' out one two counted =
+    same_counts files files' script script' keeper keeper' out one two counted
+store_stop_counts (stop.BadPolicy allow line) files files' script script' keeper keeper' out one two counted =
+    same_counts files files' script script' keeper keeper' out one two counted
+store_stop_counts (stop.BadStore line) files files' script script' keeper keeper' out one two counted =
+    same_counts files files' script script' keeper keeper' out one two counted

@@ -1,0 +1,209 @@
+-- What the stops of one reader say of the objects of the others.
+use Rattle.std.proofs.Common.{◌≡◌, ℕ, List, Option, Some, None, Result, Ok, Err, refl, sym, subst, inl, inr}
+use Rattle.std.specs.Prelude.{IfSome, IsErr, IsErrAnd}
+use Rattle.init_machine.specs.declared.limit.Limit.{Limit}
+use Rattle.init_machine.specs.declared.limit.Limit.TheVariants as limits
+use Rattle.rc_import.specs.World.{World}
+use Rattle.initsim.specs.Check.{IsCheckStatus, IsTreeLimit}
+use Rattle.initsim.specs.Policy.{HasPolicy}
+use Rattle.initsim.specs.Script.{IsReadWhole, ScriptLimitSays, ScriptSays}
+use Rattle.initsim.specs.Stops.{IsOfScript, IsOfStore, IsOfTree, IsScriptLimit, IsStoreLimit, status_of}
+use Rattle.initsim.specs.Store.{StoreLimitSays, StoreSays}
+use Rattle.initsim.specs.Tree.{AreRcFilesTooLarge, HasNoRoot, IsFitFor, IsTreeTooLarge, TreeLimitSays, TreeSays}
+use Rattle.initsim.specs.declared.stop.Stop.{Stop}
+use Rattle.initsim.specs.declared.stop.Stop.TheVariants as stop
+use Rattle.initsim.specs.declared.words.Form.{Form}
+use Rattle.initsim.specs.declared.words.Form.TheVariants.{Run, Check}
+
+-- ---- what is told
+
+pub told : {A : Type 0} (P : A → Type 0) (o : Option A) (x : A) → o ≡ Some x → IfSome o P → P x
+told P o x is holds = subst (λ v. IfSome v P) is holds
+
+pub if_told : {A : Type 0} (P : A → Type 0) (o : Option A) → ((x : A) → o ≡ Some x → P x) → IfSome o P
+if_told P None holds = tt
+if_told P (Some x) holds = holds x refl
+
+-- ---- what `?` answers
+
+pub err_is : {T E : Type 0} (P : Result T E → Type 0) (r : Result T E) (why : E)
+    → IsErr r × IsErrAnd r (λ e. e ≡ why) → P (Err why) → P r
+err_is P (Ok value) why gives holds = absurd gives.1
+err_is P (Err e) why gives holds = subst (λ x. P (Err x)) (sym gives.1) holds
+
+-- ---- the script's
+
+script_limit_tree : (form : Form) (world : World) (limit : Limit) (number : ℕ) → IsScriptLimit limit → TreeLimitSays form world limit number
+script_limit_tree form world limits.ScriptBytes number is = tt
+script_limit_tree form world limits.ScriptLines number is = tt
+script_limit_tree form world limits.Steps number is = tt
+script_limit_tree form world limits.FileBytes number is = absurd is
+script_limit_tree form world limits.Files number is = absurd is
+script_limit_tree form world limits.Names number is = absurd is
+script_limit_tree form world limits.RcBytes number is = absurd is
+script_limit_tree form world limits.StoreBytes number is = absurd is
+
+pub script_stop_tree : (form : Form) (world : World) (why : Stop) → IsOfScript why → TreeSays form world (status_of why)
+script_stop_tree form world stop.ReadFault is = tt
+script_stop_tree form world stop.NoMemory is = tt
+script_stop_tree form world (stop.BadScript line) is = tt
+script_stop_tree form world stop.NoInit is = absurd is
+script_stop_tree form world (stop.TooLarge limit number) is = script_limit_tree form world limit number is
+script_stop_tree form world (stop.BadPolicy allow line) is = absurd is
+script_stop_tree form world (stop.BadStore line) is = absurd is
+
+script_limit_store : (held : List ℕ) (limit : Limit) (number : ℕ) → IsScriptLimit limit → StoreLimitSays held limit number
+script_limit_store held limits.ScriptBytes number is = tt
+script_limit_store held limits.ScriptLines number is = tt
+script_limit_store held limits.Steps number is = tt
+script_limit_store held limits.FileBytes number is = absurd is
+script_limit_store held limits.Files number is = absurd is
+script_limit_store held limits.Names number is = absurd is
+script_limit_store held limits.RcBytes number is = absurd is
+script_limit_store held limits.StoreBytes number is = absurd is
+
+pub script_stop_store : (held : List ℕ) (why : Stop) → IsOfScript why → StoreSays held (status_of why)
+script_stop_store held stop.ReadFault is = tt
+script_stop_store held stop.NoMemory is = tt
+script_stop_store held (stop.BadScript line) is = tt
+script_stop_store held stop.NoInit is = absurd is
+script_stop_store held (stop.TooLarge limit number) is = script_limit_store held limit number is
+script_stop_store held (stop.BadPolicy allow line) is = absurd is
+script_stop_store held (stop.BadStore line) is = absurd is
+
+-- ---- the tree's
+
+pub of_check : (why : Stop) → IsCheckStatus (status_of why) → IsOfTree why
+of_check stop.ReadFault is = tt
+of_check stop.NoMemory is = tt
+of_check (stop.BadScript line) is = absurd is
+of_check stop.NoInit is = tt
+of_check (stop.TooLarge limit number) is = is
+of_check (stop.BadPolicy allow line) is = tt
+of_check (stop.BadStore line) is = absurd is
+
+tree_limit_script : (bytes : List ℕ) (left : Option (List ℕ)) (limit : Limit) (number : ℕ)
+    → IsTreeLimit limit → IsReadWhole bytes left → ScriptLimitSays bytes left limit number
+tree_limit_script bytes left limits.ScriptBytes number is read = absurd is
+tree_limit_script bytes left limits.ScriptLines number is read = absurd is
+tree_limit_script bytes left limits.Steps number is read = absurd is
+tree_limit_script bytes left limits.FileBytes number is read = read
+tree_limit_script bytes left limits.Files number is read = read
+tree_limit_script bytes left limits.Names number is read = read
+tree_limit_script bytes left limits.RcBytes number is read = read
+tree_limit_script bytes left limits.StoreBytes number is read = absurd is
+
+pub tree_stop_script : (bytes : List ℕ) (left : Option (List ℕ)) (why : Stop)
+    → IsOfTree why → IsReadWhole bytes left → ScriptSays bytes left (status_of why)
+tree_stop_script bytes left stop.ReadFault is read = tt
+tree_stop_script bytes left stop.NoMemory is read = tt
+tree_stop_script bytes left (stop.BadScript line) is read = absurd is
+tree_stop_script bytes left stop.NoInit is read = read
+tree_stop_script bytes left (stop.TooLarge limit number) is read = tree_limit_script bytes left limit number is read
+tree_stop_script bytes left (stop.BadPolicy allow line) is read = read
+tree_stop_script bytes left (stop.BadStore line) is read = absurd is
+
+tree_limit_store : (held : List ℕ) (limit : Limit) (number : ℕ) → IsTreeLimit limit → StoreLimitSays held limit number
+tree_limit_store held limits.ScriptBytes number is = absurd is
+tree_limit_store held limits.ScriptLines number is = absurd is
+tree_limit_store held limits.Steps number is = absurd is
+tree_limit_store held limits.FileBytes number is = tt
+tree_limit_store held limits.Files number is = tt
+tree_limit_store held limits.Names number is = tt
+tree_limit_store held limits.RcBytes number is = tt
+tree_limit_store held limits.StoreBytes number is = absurd is
+
+pub tree_stop_store : (held : List ℕ) (why : Stop) → IsOfTree why → StoreSays held (status_of why)
+tree_stop_store held stop.ReadFault is = tt
+tree_stop_store held stop.NoMemory is = tt
+tree_stop_store held (stop.BadScript line) is = absurd is
+tree_stop_store held stop.NoInit is = tt
+tree_stop_store held (stop.TooLarge limit number) is = tree_limit_store held limit number is
+tree_stop_store held (stop.BadPolicy allow line) is = tt
+tree_stop_store held (stop.BadStore line) is = absurd is
+
+-- ---- the store's
+
+store_limit_script : (bytes : List ℕ) (left : Option (List ℕ)) (limit : Limit) (number : ℕ)
+    → IsStoreLimit limit → IsReadWhole bytes left → ScriptLimitSays bytes left limit number
+store_limit_script bytes left limits.ScriptBytes number is read = absurd is
+store_limit_script bytes left limits.ScriptLines number is read = absurd is
+store_limit_script bytes left limits.Steps number is read = absurd is
+store_limit_script bytes left limits.FileBytes number is read = absurd is
+store_limit_script bytes left limits.Files number is read = absurd is
+store_limit_script bytes left limits.Names number is read = absurd is
+store_limit_script bytes left limits.RcBytes number is read = absurd is
+store_limit_script bytes left limits.StoreBytes number is read = read
+
+pub store_stop_script : (bytes : List ℕ) (left : Option (List ℕ)) (why : Stop)
+    → IsOfStore why → IsReadWhole bytes left → ScriptSays bytes left (status_of why)
+store_stop_script bytes left stop.ReadFault is read = tt
+store_stop_script bytes left stop.NoMemory is read = tt
+store_stop_script bytes left (stop.BadScript line) is read = absurd is
+store_stop_script bytes left stop.NoInit is read = absurd is
+store_stop_script bytes left (stop.TooLarge limit number) is read = store_limit_script bytes left limit number is read
+store_stop_script bytes left (stop.BadPolicy allow line) is read = absurd is
+store_stop_script bytes left (stop.BadStore line) is read = read
+
+store_limit_tree : (form : Form) (world : World) (limit : Limit) (number : ℕ)
+    → IsStoreLimit limit → IsFitFor form world → TreeLimitSays form world limit number
+store_limit_tree form world limits.ScriptBytes number is fit = absurd is
+store_limit_tree form world limits.ScriptLines number is fit = absurd is
+store_limit_tree form world limits.Steps number is fit = absurd is
+store_limit_tree form world limits.FileBytes number is fit = absurd is
+store_limit_tree form world limits.Files number is fit = absurd is
+store_limit_tree form world limits.Names number is fit = absurd is
+store_limit_tree form world limits.RcBytes number is fit = absurd is
+store_limit_tree form world limits.StoreBytes number is fit = fit
+
+pub store_stop_tree : (form : Form) (world : World) (why : Stop)
+    → IsOfStore why → IsFitFor form world → TreeSays form world (status_of why)
+store_stop_tree form world stop.ReadFault is fit = tt
+store_stop_tree form world stop.NoMemory is fit = tt
+store_stop_tree form world (stop.BadScript line) is fit = absurd is
+store_stop_tree form world stop.NoInit is fit = absurd is
+store_stop_tree form world (stop.TooLarge limit number) is fit = store_limit_tree form world limit number is fit
+store_stop_tree form world (stop.BadPolicy allow line) is fit = absurd is
+store_stop_tree form world (stop.BadStore line) is fit = fit
+
+-- ---- a run's tree: a policy, and else what a check reads
+
+rc_too_large : (world : World) (limit : Limit) (number : ℕ)
+    → HasPolicy world.tree → AreRcFilesTooLarge Check world limit number → AreRcFilesTooLarge Run world limit number
+rc_too_large world limit number policy large = record {
+  policy = policy;
+  build_files = large.build_files;
+  refusal = large.refusal;
+  refused = large.refused;
+  passes = large.passes;
+}
+
+too_large : (world : World) (limit : Limit) (number : ℕ)
+    → HasPolicy world.tree → IsTreeTooLarge Check world limit number → IsTreeTooLarge Run world limit number
+too_large world limit number policy (inl never) = absurd never
+too_large world limit number policy (inr (inl build)) = inr (inl (policy, build.1))
+too_large world limit number policy (inr (inr rc)) = inr (inr (rc_too_large world limit number policy rc))
+
+limit_with_policy : (world : World) (limit : Limit) (number : ℕ)
+    → HasPolicy world.tree → TreeLimitSays Check world limit number → TreeLimitSays Run world limit number
+limit_with_policy world limits.ScriptBytes number policy says = tt
+limit_with_policy world limits.ScriptLines number policy says = tt
+limit_with_policy world limits.Steps number policy says = tt
+limit_with_policy world limits.FileBytes number policy says = too_large world limits.FileBytes number policy says
+limit_with_policy world limits.Files number policy says = too_large world limits.Files number policy says
+limit_with_policy world limits.Names number policy says = too_large world limits.Names number policy says
+limit_with_policy world limits.RcBytes number policy says = too_large world limits.RcBytes number policy says
+limit_with_policy world limits.StoreBytes number policy says = (policy, says.1)
+
+no_root : (world : World) → HasPolicy world.tree → HasNoRoot Check world → HasNoRoot Run world
+no_root world policy none = record { policy = policy; build_files = none.build_files; absent = none.absent }
+
+pub with_policy : (world : World) (why : Stop)
+    → HasPolicy world.tree → TreeSays Check world (status_of why) → TreeSays Run world (status_of why)
+with_policy world stop.ReadFault policy says = tt
+with_policy world stop.NoMemory policy says = tt
+with_policy world (stop.BadScript line) policy says = tt
+with_policy world stop.NoInit policy says = no_root world policy says
+with_policy world (stop.TooLarge limit number) policy says = limit_with_policy world limit number policy says
+with_policy world (stop.BadPolicy allow line) policy says = absurd says
+with_policy world (stop.BadStore line) policy says = (policy, says.1)

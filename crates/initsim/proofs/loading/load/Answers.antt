@@ -1,0 +1,23 @@
+use Rattle.std.proofs.Common.{◌∙◌}
+use Rattle.init_base.specs.Faults.{Counted}
+use Rattle.initsim.specs.Stops.{GivesLoad, has_read_fault}
+use Rattle.initsim.specs.declared.stop.Stop.TheVariants.{NoMemory}
+use Rattle.initsim.proofs.RcFiles.{load_read, load_refused, world_viewed}
+use Rattle.initsim.proofs.Says.{err_is, told}
+use Rattle.initsim.proofs.loading.load.Goals as goal
+
+pub returns-in_err-loaded-clause-load : goal.returns-in_err-loaded-clause-load
+returns-in_err-loaded-clause-load g c = λ world is.
+    let files = told _ _ world.tree is.tree_is c.in_ok-pairs.ensures.props in
+    err_is (GivesLoad world) _ _ c.from_residual-in_err-loaded.ensures
+    (load_refused world c.in_err-loaded.field-0.0 files.short
+    (c.in_err-loaded.ensures.loaded world
+    (world_viewed _ _ _ _ world c.in_ok-pairs.ensures.tree c.in_ok-view.ensures files.pairs_are is)))
+
+pub returns-in_err-append-clause-load : goal.returns-in_err-append-clause-load
+returns-in_err-append-clause-load g c = λ world is. err_is (GivesLoad world) _ NoMemory c.from_residual-in_err-append.ensures tt
+
+pub returns-in_err-append-clause-cause : goal.returns-in_err-append-clause-cause
+returns-in_err-append-clause-cause g c =
+    err_is (λ r. Counted (has_read_fault r) (g.F.Files.fault_count c.args.files.now) (g.F.Files.fault_count c.load.new.files)) _ NoMemory
+    c.from_residual-in_err-append.ensures (c.in_ok-loaded.ensures.cause ∙ c.in_ok-pairs.ensures.cause)

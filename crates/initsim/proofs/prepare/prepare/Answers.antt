@@ -1,0 +1,41 @@
+use Rattle.initsim.specs.Counts.{Counts}
+use Rattle.initsim.specs.Prepared.{ArePrepared, GivesSaved, GivesSetup, ScriptOfJob}
+use Rattle.initsim.specs.declared.words.Form.TheVariants.{Run}
+use Rattle.initsim.proofs.Prepared.{setup_of_job, store_stop_counts, tree_fits}
+use Rattle.initsim.proofs.Says.{err_is, if_told, store_stop_script, store_stop_tree, told}
+use Rattle.initsim.proofs.WellFormed.{job_is_fit}
+use Rattle.initsim.proofs.prepare.prepare.Goals as goal
+
+pub returns-in_err-saved-clause-script : goal.returns-in_err-saved-clause-script
+returns-in_err-saved-clause-script g c =
+    if_told _ _ (λ bytes is.
+    let script = told _ _ bytes is c.in_ok-script.ensures.script in
+    err_is (ScriptOfJob bytes (g.S.Source.left c.read_script.new.source)) _ _ c.from_residual-in_err-saved.ensures
+    (store_stop_script bytes _ c.in_err-saved.field-0.0 c.in_err-saved.ensures.late ((_, script.0), script.1)))
+
+pub returns-in_err-saved-clause-tree : goal.returns-in_err-saved-clause-tree
+returns-in_err-saved-clause-tree g c = λ world is.
+    err_is (GivesSetup world) _ _ c.from_residual-in_err-saved.ensures
+    (store_stop_tree Run world c.in_err-saved.field-0.0 c.in_err-saved.ensures.late
+    (tree_fits world _ (c.in_ok-parts.ensures.tree world is)))
+
+pub returns-in_err-saved-clause-store : goal.returns-in_err-saved-clause-store
+returns-in_err-saved-clause-store g c =
+    if_told _ _ (λ held is. err_is (GivesSaved held) _ _ c.from_residual-in_err-saved.ensures
+    (told _ _ held is c.in_err-saved.ensures.store))
+
+pub returns-in_err-saved-clause-counts : goal.returns-in_err-saved-clause-counts
+returns-in_err-saved-clause-counts g c =
+    err_is (λ r. ArePrepared r
+    (record { files = g.F.Files.fault_count c.args.files.now; script = g.S.Source.fault_count c.args.source.now; keeper = g.P.Keeper.fault_count c.args.keeper.now; out = 0 })
+    (record { files = g.F.Files.fault_count c.read_tree.new.files; script = g.S.Source.fault_count c.read_script.new.source; keeper = g.P.Keeper.fault_count c.read_store.new.keeper; out = 0 }))
+    _ _ c.from_residual-in_err-saved.ensures
+    (store_stop_counts c.in_err-saved.field-0.0 _ _ _ _ _ _ 0 c.in_ok-parts.ensures.cause c.in_ok-script.ensures.cause c.in_err-saved.ensures.cause)
+
+pub returns-clause-tree : goal.returns-clause-tree
+returns-clause-tree g c = λ world is.
+    setup_of_job world _ _ _ _ (c.in_ok-parts.ensures.tree world is) c.in_ok-job_of.ensures
+
+pub returns-clause-fit : goal.returns-clause-fit
+returns-clause-fit g c =
+    job_is_fit _ _ _ _ c.in_ok-job_of.ensures c.in_ok-parts.ensures.well_formed c.in_ok-script.ensures.conditions c.in_ok-saved.ensures.saved

@@ -1,0 +1,46 @@
+//! The two readers that read one text of the outside whole: that of the script, and that of the persistent store.
+
+ghost use Rattle.std.specs.Prelude.{◌≡◌, IfErr, IfOk, IfSome, IsTrue};
+ghost use Rattle.init_base.specs.Faults.{Counted};
+ghost use Rattle.initsim.specs.Stops.{GivesScript, GivesStore, IsOfScript, IsOfStore, has_read_fault};
+ghost use Rattle.persist_file.specs.Store.{are_saved};
+ghost use Rattle.script_lang.specs.Laws.{MeetsConditions};
+
+use crate::stop::Stop;
+use init_base::{Keeper, List, Source, read_all};
+use init_machine::{Limit, Pair};
+use script_lang::Script;
+use std::alloc::Global;
+
+/// The most bytes of a script.
+const MOST_SCRIPT_BYTES: usize = 16_777_216;
+
+/// The most bytes of a persistent store.
+const MOST_STORE_BYTES: usize = 33_554_432;
+
+/// Reads the source to its end: the script of its bytes.
+pub fn read_script<S: Source>(alloc: Global, source: &mut S) -> Result<Script, Stop>
+    ensures script { IfSome (S.left source.old) (λ bytes. GivesScript bytes (S.left source.new) result) }
+    ensures conditions { IfOk result MeetsConditions }
+    ensures early { IfErr result IsOfScript }
+    ensures cause { Counted (has_read_fault result) (S.fault_count source.old) (S.fault_count source.new) }
+{
+    match read_all(alloc, source, MOST_SCRIPT_BYTES) {
+        Ok(text) => Ok(script_lang::read(alloc, text.bytes())?),
+        Err(refusal) => Err(Stop::of_reading(refusal, Limit::ScriptBytes, MOST_SCRIPT_BYTES)),
+    }
+}
+
+/// Loads what the keeper holds: the pairs of the persistent store.
+pub fn read_store<P: Keeper>(alloc: Global, keeper: &mut P) -> Result<List<Pair>, Stop>
+    ensures store { IfSome (P.held keeper.old) (λ held. GivesStore held result) }
+    ensures saved { IfOk result (λ saved. IsTrue (are_saved saved)) }
+    ensures late { IfErr result IsOfStore }
+    ensures held { P.held keeper.new ≡ P.held keeper.old }
+    ensures cause { Counted (has_read_fault result) (P.fault_count keeper.old) (P.fault_count keeper.new) }
+{
+    match keeper.load(alloc, MOST_STORE_BYTES) {
+        Ok(text) => Ok(persist_file::read(alloc, text.bytes())?),
+        Err(refusal) => Err(Stop::of_reading(refusal, Limit::StoreBytes, MOST_STORE_BYTES)),
+    }
+}
