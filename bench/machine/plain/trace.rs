@@ -1,0 +1,66 @@
+//! Standard output: one reused buffer, written when it has 64 KiB.
+
+use crate::stop::Stop;
+use crate::text::{push_number, push_q};
+use std::fs::File;
+use std::io::{self, Write};
+use std::os::fd::AsFd;
+
+const FULL: usize = 64 * 1024;
+
+pub struct Trace {
+    pub buffer: Vec<u8>,
+    sink: File,
+    /// Whether the buffer has to wait for the end of the entry.
+    pub hold: bool,
+}
+
+impl Trace {
+    pub fn new() -> Result<Trace, Stop> {
+        let sink = io::stdout().as_fd().try_clone_to_owned().map_err(|_| Stop::Write)?;
+        Ok(Trace { buffer: Vec::with_capacity(FULL + 8 * 1024), sink: sink.into(), hold: false })
+    }
+
+    #[inline]
+    pub fn raw(&mut self, text: &[u8]) -> &mut Trace {
+        self.buffer.extend_from_slice(text);
+        self
+    }
+
+    #[inline]
+    pub fn q(&mut self, text: &[u8]) -> &mut Trace {
+        push_q(&mut self.buffer, text);
+        self
+    }
+
+    #[inline]
+    pub fn number(&mut self, number: u64) -> &mut Trace {
+        push_number(&mut self.buffer, number);
+        self
+    }
+
+    /// Ends a line.
+    #[inline]
+    pub fn end(&mut self) -> Result<(), Stop> {
+        self.buffer.push(b'\n');
+        if self.buffer.len() >= FULL && !self.hold { self.flush() } else { Ok(()) }
+    }
+
+    /// A whole line.
+    #[inline]
+    pub fn line(&mut self, text: &[u8]) -> Result<(), Stop> {
+        self.raw(text).end()
+    }
+
+    #[inline]
+    pub fn flush_if_full(&mut self) -> Result<(), Stop> {
+        if self.buffer.len() >= FULL { self.flush() } else { Ok(()) }
+    }
+
+    #[cold]
+    pub fn flush(&mut self) -> Result<(), Stop> {
+        self.sink.write_all(&self.buffer).map_err(|_| Stop::Write)?;
+        self.buffer.clear();
+        Ok(())
+    }
+}
