@@ -1,4 +1,5 @@
--- What a command does (AOSP, init's README, "Commands"; the causes are this project's profile).
+-- What a command does (AOSP, init's README, "Commands"; the causes, and that `setprop ctl.start NAME` does what a client's set
+-- does, are this project's profile).
 use Rattle.std.specs.Prelude.{ℕ, ◌+◌, true, not, List, [], ◌∷◌, ◌++◌, codes, Option, Some, None, is_some, Result, Ok, Err, if◌then◌else◌}
 use Rattle.std.specs.Str.{bytes_eq}
 use Rattle.init_base.specs.Name.{is_legal_name}

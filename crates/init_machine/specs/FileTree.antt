@@ -1,5 +1,5 @@
--- The modelled file tree, and what its calls do (AOSP, init's README, "Commands"; the modes and the refusals are this
--- project's profile). No link is followed. (47 is the slash, 46 the dot.)
+-- The modelled file tree, and what its calls do (AOSP, init's README, "Commands"; the modes, the refusals, and that missing
+-- parents are made are this project's profile). No link is followed. (47 is the slash, 46 the dot.)
 use Rattle.std.specs.Prelude.{ℕ, Bool, true, false, not, ◌&&◌, ◌||◌, ◌==◌, nat_lt, nat_le, List, [], ◌∷◌, length, map, filter, bit_and, Option, Some, None, if◌then◌else◌}
 use Rattle.std.specs.List.{find, fold, list_any, slice_split}
 use Rattle.std.specs.Str.{bytes_eq}
@@ -11,16 +11,17 @@ use Rattle.init_machine.specs.declared.output.FsRefusal.TheVariants.{BadPath, Ab
 use Rattle.init_machine.specs.declared.task.TreeCall.{TreeCall}
 use Rattle.init_machine.specs.declared.task.TreeCall.TheVariants.{Write, Copy, MakeDirectory, Remove, RemoveDirectory, Link as MakeLink, ChangeMode}
 
--- what stands at a path, which is the list of its parts: the root has none
+-- what stands at a path, which is the list of its parts: the root has none; nothing stands there any more where it was
+-- taken away
 pub record Place : Type 0 where
   pub path : List (List ℕ)
-  pub node : Node
+  pub node : Option Node
 
--- The tree: each path once, in the order in which the nodes were made.
+-- The tree: each path at which something was ever made, once, in the order of the first making.
 
 -- the root directory alone; its mode is 0755
 abbrev pub first_tree : List Place
-first_tree = record { path = []; node = Directory 493 } ∷ []
+first_tree = record { path = []; node = Some (Directory 493) } ∷ []
 
 abbrev pub same_path : List (List ℕ) → List (List ℕ) → Bool
 same_path [] [] = true
@@ -30,19 +31,22 @@ same_path (p ∷ ps) (q ∷ qs) = bytes_eq p q && same_path ps qs
 
 abbrev pub node_of : Option Place → Option Node
 node_of None = None
-node_of (Some place) = Some place.node
+node_of (Some place) = place.node
 
 abbrev pub node_at : List Place → List (List ℕ) → Option Node
 node_at tree path = node_of (find (λ place. same_path place.path path) tree)
 
--- a node in the place of the path's old one, or behind all others
+-- a node at the path's place, or behind all others where it has none
 abbrev pub put_node : List Place → List (List ℕ) → Node → List Place
-put_node [] path node = record { path = path; node = node } ∷ []
+put_node [] path node = record { path = path; node = Some node } ∷ []
 put_node (place ∷ rest) path node =
-    if same_path place.path path then record { path = path; node = node } ∷ rest else place ∷ put_node rest path node
+    if same_path place.path path then record { path = path; node = Some node } ∷ rest else place ∷ put_node rest path node
 
+-- nothing stands at the path any more
 abbrev pub without_path : List Place → List (List ℕ) → List Place
-without_path tree path = filter (λ place. not (same_path place.path path)) tree
+without_path [] path = []
+without_path (place ∷ rest) path =
+    if same_path place.path path then record { path = path; node = None } ∷ rest else place ∷ without_path rest path
 
 -- Texts of paths: one begins with a slash, has at most 4,096 bytes, no NUL, and no part `.` or `..`. Empty parts are
 -- dropped.
@@ -90,7 +94,7 @@ above (part ∷ parts) = [] ∷ map (λ prefix. part ∷ prefix) (above parts)
 abbrev pub is_under_other : List Place → List (List ℕ) → Bool
 is_under_other tree path = list_any (λ prefix. is_other (node_at tree prefix)) (above path)
 
--- some path lies below a directory, so that it isn't empty; the root counts as not empty
+-- something stands below a directory, so that it isn't empty; the root counts as not empty
 abbrev pub is_below : List (List ℕ) → List (List ℕ) → Bool
 is_below path [] = false
 is_below [] (q ∷ qs) = true
@@ -101,7 +105,7 @@ is_root [] = true
 is_root (part ∷ parts) = false
 
 abbrev pub is_full : List Place → List (List ℕ) → Bool
-is_full tree path = is_root path || list_any (λ place. is_below path place.path) tree
+is_full tree path = is_root path || list_any (λ place. is_below path place.path && is_there place.node) tree
 
 -- a link, or a file that others than its owner may write (the bits 020 and 002), isn't copied from
 abbrev pub is_insecure : Option Node → Bool

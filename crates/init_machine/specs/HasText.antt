@@ -1,5 +1,5 @@
--- Which reports a run may leave: those in which neither `Spent` nor `NoMemory` stands. (A report with one of them
--- would be printed with its name.)
+-- Which reports have a text: those in which neither `Spent` nor `NoMemory` stands. Those are answers of the library's
+-- calls alone: the numbers of a test store are spent, and want of memory. No run leaves one.
 use Rattle.std.specs.Prelude.{⊤}
 use Rattle.std.specs.List.{AllByRecursion}
 use Rattle.init_machine.specs.declared.output.Cause.{Cause}

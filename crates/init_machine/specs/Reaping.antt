@@ -1,12 +1,13 @@
 -- What the end of a process brings about: restarts, the commands of `onrestart`, critical services, and the end of a wait
--- (AOSP, init's README, "Services", and "Options" for `critical` and `onrestart`; the counting of critical exits is this project's profile).
-use Rattle.std.specs.Prelude.{ℕ, ◌+◌, Bool, true, false, not, ◌||◌, ◌==◌, nat_lt, List, [], ◌∷◌, codes, slice_set, slice_index_or, Option, Some, None, if◌then◌else◌}
+-- (AOSP, init's README, "Services", and "Options" for `critical` and `onrestart`; the counting of critical exits, and that the
+-- state is told before `onrestart` runs, are this project's profile).
+use Rattle.std.specs.Prelude.{ℕ, ◌+◌, Bool, false, not, ◌||◌, ◌==◌, nat_lt, List, [], ◌∷◌, codes, slice_set, slice_index_or, Option, Some, None, if◌then◌else◌}
 use Rattle.std.specs.Str.{bytes_eq}
 use Rattle.init_machine.specs.Changes.{Change, change, behind, nothing, and_then, each}
 use Rattle.init_machine.specs.Effect.{effect}
 use Rattle.init_machine.specs.Matches.{or_empty}
 use Rattle.init_machine.specs.Marks.{service_step}
-use Rattle.init_machine.specs.Services.{Operated, operated, operate, marks_at, with_marks, service_at, place_of, pid_of, tell}
+use Rattle.init_machine.specs.Services.{marks_at, with_marks, service_at, place_of, pid_of, tell}
 use Rattle.init_machine.specs.Setting.{released_lines, still_waits}
 use Rattle.init_machine.specs.State.{State, Rules, Exits, no_exits, value_now}
 use Rattle.init_machine.specs.declared.output.How.{How}
@@ -16,7 +17,6 @@ use Rattle.init_machine.specs.declared.waiting.Waiting.TheVariants.{Child, Prop,
 use Rattle.init_machine.specs.declared.service.Critical.{Critical}
 use Rattle.init_machine.specs.declared.service.Move.{Move}
 use Rattle.init_machine.specs.declared.service.Move.TheVariants as move
-use Rattle.init_machine.specs.declared.service.Op.{Op}
 use Rattle.init_machine.specs.declared.service.Op.TheVariants as op
 use Rattle.init_machine.specs.declared.service.ServiceDef.{ServiceDef}
 
@@ -70,21 +70,6 @@ abbrev pub end_service : Rules → ℕ → Option ServiceDef → State → Chang
 end_service rules at None s = nothing s
 end_service rules at (Some service) s =
     let answer = service_step op.Reaped (marks_at s at) in follow_end rules service at answer.todo (with_marks s at answer.marks)
-
--- any operation on the service at a place, the end of its process among them
-unfoldable pub operate_any : Rules → ℕ → Op → State → Operated
-operate_any rules at op.Start s = operate rules at op.Start s
-operate_any rules at op.ClassStart s = operate rules at op.ClassStart s
-operate_any rules at op.Stop s = operate rules at op.Stop s
-operate_any rules at op.Reset s = operate rules at op.Reset s
-operate_any rules at (op.Restart only_running) s = operate rules at (op.Restart only_running) s
-operate_any rules at (op.ClassRestart only_enabled) s = operate rules at (op.ClassRestart only_enabled) s
-operate_any rules at op.Enable s = operate rules at op.Enable s
-operate_any rules at op.ExecStart s = operate rules at op.ExecStart s
-operate_any rules at op.Timeout s = operate rules at op.Timeout s
-operate_any rules at (op.Spawned pid now) s = operate rules at (op.Spawned pid now) s
-operate_any rules at op.NoPid s = operate rules at op.NoPid s
-operate_any rules at op.Reaped s = operated true (end_service rules at (service_at rules at) s)
 
 -- the child of `exec` belongs to no service
 abbrev pub end_named : Rules → Option ℕ → State → Change

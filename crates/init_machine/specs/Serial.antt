@@ -1,8 +1,10 @@
--- The serial of a value's cell in the property area (bionic's layout): a top byte in bits 56 to 63, the number of the
--- set in bits 1 to 55, and in bit 0 whether the cell is dirty, which is while its body is being replaced.
+-- The serial of a value's cell in the property area (after bionic's prop_area; 64 bits, and the number of the set among all
+-- sets, are this project's profile): a top byte in bits 56 to 63, the number of the set in bits 1 to 55, and in bit 0
+-- whether the cell is dirty, which is while its body is being replaced.
 use Rattle.std.specs.Prelude.{ℕ, Bool, ◌+◌, ◌*◌, ◌/◌, ◌%◌, ◌^◌, ◌==◌, nat_le, List, length, if◌then◌else◌}
 
--- the top byte of a value's serial: its length, or 255 where that is above 91
+-- the top byte of a value's serial: its length (a legal value has 91 bytes at most; 255 stands for a longer one, which no
+-- accepted set gives)
 abbrev pub top_byte : List ℕ → ℕ
 top_byte value = if nat_le (length value) 91 then length value else 255
 

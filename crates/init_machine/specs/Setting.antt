@@ -1,5 +1,6 @@
--- Sets of properties: whether a set is accepted, and what it does (AOSP, system properties; the order of the refusals is
--- this project's profile).
+-- Sets of properties: whether a set is accepted, and what it does (AOSP, system properties; the order of the refusals, the
+-- 91 bytes for `ro.` properties too, and that `ctl.start` and the like are allowed by their own names, for all services at
+-- once, are this project's profile).
 use Rattle.std.specs.Prelude.{ℕ, ◌+◌, Bool, false, not, ◌&&◌, List, [], ◌∷◌, ◌++◌, codes, nat_eq, Option, Some, None, is_none, if◌then◌else◌}
 use Rattle.std.specs.List.{list_any, starts_with}
 use Rattle.std.specs.Str.{bytes_eq}

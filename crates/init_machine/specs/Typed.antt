@@ -1,4 +1,5 @@
--- Which values a property of a type may have (AOSP, the types of property_contexts). The empty value passes each type.
+-- Which values a property of a type may have (after the types of AOSP's property_contexts; that numbers are decimal, and
+-- that `double` and `size` aren't checked, is this project's profile). The empty value passes each type.
 use Rattle.std.specs.Prelude.{ℕ, ◌+◌, ◌-◌, ◌*◌, ◌^◌, Bool, true, false, ◌&&◌, ◌||◌, ◌==◌, nat_le, nat_lt, if◌then◌else◌, List, [], ◌∷◌, length, codes}
 use Rattle.std.specs.List.{fold, list_all, list_any}
 use Rattle.std.specs.Str.{bytes_eq}
@@ -30,7 +31,7 @@ is_int (b ∷ rest) =
 abbrev pub is_one_of : List (List ℕ) → List ℕ → Bool
 is_one_of texts text = list_any (λ one. bytes_eq one text) texts
 
--- the form of a value that isn't empty
+-- the form of a value that isn't empty; Any stands for the types `string`, `double` and `size`, whose values aren't checked
 abbrev pub has_form : TypeKind → List ℕ → Bool
 has_form kind.Any value = true
 has_form kind.Bool value = is_one_of (codes "0" ∷ codes "1" ∷ codes "false" ∷ codes "true" ∷ []) value

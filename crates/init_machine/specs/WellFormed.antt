@@ -59,7 +59,8 @@ is_waiting_word word.Chmod = false
 is_waiting_word word.Mkdir = false
 is_waiting_word (word.Inert noted) = false
 
--- at most 1,000,000 minutes
+-- what each period of a service is bounded by: 1,000,000 minutes, the most of a critical window (an rc file gives periods of
+-- restart and timeout in seconds, and 1,000,000 at most)
 abbrev pub is_period : Millis → Bool
 is_period period = nat_le period.0 60000000000
 

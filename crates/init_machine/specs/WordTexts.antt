@@ -5,7 +5,7 @@ use Rattle.init_machine.specs.declared.word.Word.TheVariants as word
 use Rattle.init_machine.specs.declared.word.InertWord.{InertWord}
 use Rattle.init_machine.specs.declared.word.InertWord.TheVariants as inert
 
--- a command that has no effect
+-- a command that has no effect here (this project's profile)
 unfoldable pub inert_text : InertWord → List ℕ
 inert_text inert.Mount = codes "mount"
 inert_text inert.Umount = codes "umount"

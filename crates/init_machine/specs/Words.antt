@@ -1,6 +1,7 @@
 -- Names in the property area, in words of 64 bits (after bionic's prop_area; the layout is this project's profile): 16
 -- for the head; for each distinct dotted prefix of the names a node, which is five words and its part's bytes, eight to
--- a word; for each name a cell, which is a serial and twelve value words. (46 is the dot.)
+-- a word; for each name a cell, which is a serial and the twelve value words that hold the 91 bytes of any legal value. (46
+-- is the dot.)
 use Rattle.std.specs.Prelude.{ℕ, ◌+◌, ◌-◌, ◌*◌, ◌/◌, Bool, false, ◌||◌, ◌==◌, List, [], ◌∷◌, ◌++◌, length, map, sum, if◌then◌else◌}
 use Rattle.std.specs.List.{flat_map}
 use Rattle.std.specs.Str.{bytes_eq}
