@@ -7,3 +7,4 @@ pub mod Uniqueness
 pub mod Answer
 pub mod Ascending
 pub mod Ranges
+pub mod Runs

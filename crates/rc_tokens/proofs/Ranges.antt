@@ -71,25 +71,25 @@ none_behind xs rest from len inside is same = (
   λ none. eq-eqb from len (omega (arith, length-drop from xs, ap length (sym same ∙ none))),
 )
 
--- ---- a byte more
+-- ---- bytes more
 
-pub byte_spelled : (bytes : List ℕ) (token_from : ℕ) (words : List Range) (line_from : ℕ) (lines : List Mark) (byte : ℕ) (old : Spelling)
+pub bytes_spelled : (bytes : List ℕ) (token_from : ℕ) (words : List Range) (line_from : ℕ) (lines : List Mark) (more : List ℕ) (old : Spelling)
     → spelling_of bytes token_from words line_from lines ≡ old → AreWithin bytes token_from words line_from lines
-    → spelling_of (bytes ++ byte ∷ []) token_from words line_from lines ≡ record old { token = old.token ++ byte ∷ [] }
-byte_spelled bytes token_from words line_from lines byte old is within =
-    let same : words_at (bytes ++ byte ∷ []) words ≡ words_at bytes words = words_more bytes (byte ∷ []) words within.words_within in
-    let token : drop token_from (bytes ++ byte ∷ []) ≡ drop token_from bytes ++ byte ∷ [] = drop-append-le token_from bytes (byte ∷ []) within.token_within in
-    let new : spelling_of (bytes ++ byte ∷ []) token_from words line_from lines
-    ≡ record (spelling_of bytes token_from words line_from lines) { token = drop token_from bytes ++ byte ∷ [] }
+    → spelling_of (bytes ++ more) token_from words line_from lines ≡ record old { token = old.token ++ more }
+bytes_spelled bytes token_from words line_from lines more old is within =
+    let same : words_at (bytes ++ more) words ≡ words_at bytes words = words_more bytes more words within.words_within in
+    let token : drop token_from (bytes ++ more) ≡ drop token_from bytes ++ more = drop-append-le token_from bytes more within.token_within in
+    let new : spelling_of (bytes ++ more) token_from words line_from lines
+    ≡ record (spelling_of bytes token_from words line_from lines) { token = drop token_from bytes ++ more }
     = λ i. record { lines = lines_at (same i) lines; words = drop line_from (same i); token = token i } in
-    new ∙ ap (λ (s : Spelling). record s { token = s.token ++ byte ∷ [] }) is
+    new ∙ ap (λ (s : Spelling). record s { token = s.token ++ more }) is
 
-pub byte_within : (bytes : List ℕ) (token_from : ℕ) (words : List Range) (line_from : ℕ) (lines : List Mark) (byte : ℕ)
-    → AreWithin bytes token_from words line_from lines → AreWithin (bytes ++ byte ∷ []) token_from words line_from lines
-byte_within bytes token_from words line_from lines byte within =
-    let longer : length bytes ≤ length (bytes ++ byte ∷ []) = omega (arith, length-append bytes (byte ∷ [])) in
+pub bytes_within : (bytes : List ℕ) (token_from : ℕ) (words : List Range) (line_from : ℕ) (lines : List Mark) (more : List ℕ)
+    → AreWithin bytes token_from words line_from lines → AreWithin (bytes ++ more) token_from words line_from lines
+bytes_within bytes token_from words line_from lines more within =
+    let longer : length bytes ≤ length (bytes ++ more) = omega (arith, length-append bytes more) in
     record {
-      words_within = all_within_more (length bytes) (length (bytes ++ byte ∷ [])) words longer within.words_within;
+      words_within = all_within_more (length bytes) (length (bytes ++ more)) words longer within.words_within;
       token_within = omega (arith, longer, within.token_within);
       lines_within = within.lines_within;
       line_within = within.line_within;

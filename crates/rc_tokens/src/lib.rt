@@ -10,6 +10,7 @@ mod line;
 mod range;
 mod read;
 mod reader;
+mod run;
 mod spelled;
 
 pub use line::{Line, TokenRefusal, Tokens};

@@ -51,8 +51,9 @@ fn read(alloc: Global, bytes: &[u8]) -> Result<Tokens, NoMemory>
     ensures { IfOk result (λ tokens. tokens ≡ steps.finished (steps.run steps.start bytes.now)) }
 {
     let mut reader = Reader::new(alloc, bytes.len())?;
-    for byte in bytes {
-        reader.take(*byte)?;
+    let mut rest = bytes;
+    while !rest.is_empty() {
+        rest = reader.take_next(rest)?;
     }
     reader.finish(alloc)
 }

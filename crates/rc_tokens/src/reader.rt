@@ -1,11 +1,12 @@
-//! The reader: it takes the bytes of a file one by one. Its steps are `step` and `finished` of
-//! `specs/Code/Steps.antt`.
+//! The reader: it takes the bytes of a file run by run, and one by one where they mean something. Its steps are `step`,
+//! `with_run` and `finished` of `specs/Code/Steps.antt`.
 
-ghost use Rattle.std.specs.Prelude.{◌≡◌, ◌<◌, ◌^◌, ◌-◌, ◌++◌, ◌∷◌, [], IsTrue, OnOk, IfOk};
-ghost use Rattle.rc_tokens.specs.Grammar.{escaped as escaped_lem, is_space as is_space_lem, is_blank as is_blank_lem};
+ghost use Rattle.std.specs.Prelude.{◌≡◌, ◌≢◌, ◌<◌, ◌≤◌, ◌^◌, ◌+◌, ◌-◌, ◌++◌, ◌∷◌, [], IsTrue, OnOk, IfOk, length};
+ghost use Rattle.rc_tokens.specs.Grammar.{escaped as escaped_lem};
 ghost use Rattle.rc_tokens.specs.Code.Steps as steps;
 
 use crate::line::Tokens;
+use crate::run::{blanks, is_blank, is_space, is_token_next, line_feeds, run_len};
 use crate::spelled::Spelled;
 use init_base::NoMemory;
 use std::alloc::Global;
@@ -55,8 +56,57 @@ impl Reader {
         })
     }
 
+    /// Takes a run of bytes and the byte behind it, and answers those that are left.
+    pub fn take_next<'a>(&mut self, bytes: &'a [u8]) -> Result<&'a [u8], NoMemory>
+        requires some { bytes.now ≢ [] }
+        requires number { self.old.number + length bytes.now < 2 ^ 32 }
+        ensures same { IfOk result (λ rest. steps.run self.new rest.now ≡ steps.run self.old bytes.now) }
+        ensures number { IfOk result (λ rest. self.new.number + length rest.now ≤ self.old.number + length bytes.now) }
+        ensures fewer { IfOk result (λ rest. length rest.now < length bytes.now) }
+    {
+        let begun = self.begin(bytes);
+        let (run, behind) = begun.split_at(run_len(self.mode, begun));
+        self.take_run(run)?;
+        let Some((byte, rest)) = behind.split_first() else {
+            return Ok(behind);
+        };
+        self.take(*byte)?;
+        Ok(rest)
+    }
+
+    /// Where no token has begun: passes the blanks at the front, and begins the token behind them, if one stands there.
+    fn begin<'a>(&mut self, bytes: &'a [u8]) -> &'a [u8]
+        ensures same { steps.run self.new result.now ≡ steps.run self.old bytes.now }
+        ensures number { self.new.number ≡ self.old.number }
+        ensures within { length result.now ≤ length bytes.now }
+    {
+        let Mode::Between = self.mode else {
+            return bytes;
+        };
+        let (_, rest) = bytes.split_at(blanks(bytes));
+        if is_token_next(rest) {
+            self.begin_token();
+        }
+        rest
+    }
+
+    /// Takes bytes none of which ends a run.
+    fn take_run(&mut self, run: &[u8]) -> Result<(), NoMemory>
+        requires { self.old.number + length run.now < 2 ^ 32 }
+        ensures { OnOk result (self.new ≡ steps.with_run self.old.mode self.old run.now) }
+    {
+        match self.mode {
+            Mode::Word => self.spelled.extend(run),
+            Mode::Quoted => {
+                self.number += line_feeds(run) as u32;
+                self.spelled.extend(run)
+            }
+            _ => Ok(()),
+        }
+    }
+
     /// Takes the next byte.
-    pub fn take(&mut self, byte: u8) -> Result<(), NoMemory>
+    fn take(&mut self, byte: u8) -> Result<(), NoMemory>
         requires { self.old.number < 2 ^ 32 - 1 }
         ensures { OnOk result (self.new ≡ steps.step self.old byte) }
     {
@@ -280,16 +330,4 @@ fn escaped(byte: u8) -> u8
         b't' => b'\t',
         _ => byte,
     }
-}
-
-fn is_space(byte: u8) -> bool
-    ensures { result ≡ is_space_lem byte }
-{
-    byte == b' ' || byte == b'\t'
-}
-
-fn is_blank(byte: u8) -> bool
-    ensures { result ≡ is_blank_lem byte }
-{
-    is_space(byte) || byte == b'\r'
 }

@@ -5,7 +5,7 @@ ghost use Rattle.std.specs.List.{list_all};
 ghost use Rattle.rc_tokens.specs.Code.Ranges.{is_within, line_at, lines_at, part, words_at};
 
 use crate::line::Line;
-use crate::range::{Mark, Range};
+use crate::range::{Mark, Range, place};
 use init_base::{List, NoMemory, Text};
 use std::alloc::Global;
 use std::marker::Model;
@@ -14,12 +14,12 @@ use std::marker::Model;
 #[derive(Drop)]
 pub struct Spelled {
     /// What all words spell, one behind another, and behind them the present token.
-    bytes: List<u8>,
+    bytes: Vec<u8>,
     /// Where the present token begins in `bytes`.
-    token_from: usize,
+    token_from: u32,
     words: List<Range>,
     /// Where the present line begins in `words`.
-    line_from: usize,
+    line_from: u32,
     lines: List<Mark>,
 }
 
@@ -28,9 +28,9 @@ impl Model for Spelled {
 
     ghost Value = { Spelling };
 
-    ghost view = { λ s. spelling_of s.bytes s.token_from s.words s.line_from s.lines };
+    ghost view = { λ s. spelling_of s.bytes.items s.token_from s.words s.line_from s.lines };
 
-    ghost invariant = { λ s. AreWithin s.bytes s.token_from s.words s.line_from s.lines };
+    ghost invariant = { λ s. AreWithin s.bytes.items s.token_from s.words s.line_from s.lines };
 }
 
 impl Spelled {
@@ -39,7 +39,7 @@ impl Spelled {
         ensures { IfOk result (λ s. s ≡ record { lines = []; words = []; token = [] }) }
     {
         Ok(Spelled {
-            bytes: List::with_capacity(alloc, room)?,
+            bytes: Vec::with_capacity(alloc, room)?,
             token_from: 0,
             words: List::new(alloc),
             line_from: 0,
@@ -55,25 +55,33 @@ impl Spelled {
         Ok(())
     }
 
+    /// Adds bytes to the present token.
+    pub fn extend(&mut self, bytes: &[u8]) -> Result<(), NoMemory>
+        ensures { OnOk result (self.new ≡ record self.old { token = self.old.token ++ bytes.now }) }
+    {
+        self.bytes.extend_from_slice(bytes)?;
+        Ok(())
+    }
+
     /// Whether the present token spells nothing so far.
     pub fn is_token_empty(&self) -> bool
         ensures { IsTrue result ↔ (self.now.token ≡ []) }
     {
-        self.token_from == self.bytes.len()
+        self.token_from as usize == self.bytes.len()
     }
 
     /// Whether no word of the present line has ended.
     pub fn is_line_empty(&self) -> bool
         ensures { IsTrue result ↔ (self.now.words ≡ []) }
     {
-        self.line_from == self.words.len()
+        self.line_from as usize == self.words.len()
     }
 
     /// The present token is a word of the present line.
     pub fn end_word(&mut self) -> Result<(), NoMemory>
         ensures { OnOk result (self.new ≡ record self.old { words = self.old.words ++ self.old.token ∷ []; token = [] }) }
     {
-        let to = self.bytes.len();
+        let to = place(self.bytes.len())?;
         self.words.push(Range {
             from: self.token_from,
             to,
@@ -86,7 +94,7 @@ impl Spelled {
     pub fn end_line(&mut self, number: u32) -> Result<(), NoMemory>
         ensures { OnOk result (self.new ≡ record self.old { lines = self.old.lines ++ record { number = number; words = self.old.words } ∷ []; words = [] }) }
     {
-        let to = self.words.len();
+        let to = place(self.words.len())?;
         let words = Range {
             from: self.line_from,
             to,
@@ -102,7 +110,7 @@ impl Spelled {
     {
         lines_of(
             alloc,
-            &Text::from_vec(self.bytes.into_vec())?,
+            &Text::from_vec(self.bytes)?,
             self.words.items(),
             self.lines.items(),
         )
@@ -133,9 +141,10 @@ fn line_of(alloc: Global, buffer: &Text, words: &[Range], mark: Mark) -> Result<
     requires line { IsTrue (is_within (length words.now) mark.words) }
     ensures { IfOk result (λ line. line ≡ line_at (words_at buffer.now words.now) mark) }
 {
+    let Range { from, to } = mark.words;
     Ok(Line {
         number: mark.number,
-        words: words_of(alloc, buffer, &words[mark.words.from..mark.words.to])?,
+        words: words_of(alloc, buffer, &words[from as usize..to as usize])?,
     })
 }
 
@@ -146,7 +155,7 @@ fn words_of(alloc: Global, buffer: &Text, ranges: &[Range]) -> Result<List<Text>
 {
     let mut words = List::with_capacity(alloc, ranges.len())?;
     for range in ranges {
-        words.push(buffer.slice(range.from, range.to)?)?;
+        words.push(buffer.slice(range.from as usize, range.to as usize)?)?;
     }
     Ok(words)
 }

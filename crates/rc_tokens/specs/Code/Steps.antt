@@ -1,11 +1,12 @@
 -- The steps of the reader, byte by byte. The proof leads from them to the grammar.
-use Rattle.std.specs.Prelude.{ℕ, ◌+◌, ◌==◌, Bool, true, false, ◌||◌, if◌then◌else◌, List, [], ◌∷◌, ◌++◌, Option, Some, None}
+use Rattle.std.specs.Prelude.{ℕ, ◌+◌, ◌==◌, Bool, true, false, ◌||◌, not, if◌then◌else◌, List, [], ◌∷◌, ◌++◌, Option, Some, None}
+use Rattle.std.specs.List.{count_by}
 use Rattle.rc_tokens.specs.declared.reader.Mode.{Mode}
 use Rattle.rc_tokens.specs.declared.reader.Mode.TheVariants as mode
 use Rattle.rc_tokens.specs.declared.reader.Reader.{Reader}
 use Rattle.rc_tokens.specs.declared.line.Line.{Line}
 use Rattle.rc_tokens.specs.declared.line.Tokens.{Tokens}
-use Rattle.rc_tokens.specs.Grammar.{is_space, is_blank, is_line_feed, is_quote, is_backslash, is_hash, escaped}
+use Rattle.rc_tokens.specs.Grammar.{is_space, is_blank, is_line_feed, is_quote, is_backslash, is_hash, is_plain, escaped}
 use Rattle.rc_tokens.specs.Lines.{has_any}
 
 abbrev pub start : Reader
@@ -81,6 +82,30 @@ step r b = record (moved r.mode r b) { number = number_after r.number b }
 abbrev pub run : Reader → List ℕ → Reader
 run r [] = r
 run r (b ∷ bytes) = run (step r b) bytes
+
+-- a byte that begins a token where none has begun
+abbrev pub begins_token : ℕ → Bool
+begins_token b = not (is_blank b || is_line_feed b || is_hash b)
+
+-- a byte that ends a run of bytes which mean nothing of their own in this mode
+abbrev pub ends_run : Mode → ℕ → Bool
+ends_run mode.Between b = not (is_blank b)
+ends_run mode.Comment b = is_line_feed b
+ends_run mode.Word b = not (is_plain b)
+ends_run mode.Quoted b = is_quote b
+ends_run mode.Backslash b = true
+ends_run mode.BackslashReturn b = true
+ends_run mode.Folded b = true
+
+-- bytes more, none of which ends a run
+abbrev pub with_run : Mode → Reader → List ℕ → Reader
+with_run mode.Between r bytes = r
+with_run mode.Comment r bytes = r
+with_run mode.Word r bytes = record r { spelled = record r.spelled { token = r.spelled.token ++ bytes } }
+with_run mode.Quoted r bytes = record r { spelled = record r.spelled { token = r.spelled.token ++ bytes }; number = r.number + count_by is_line_feed bytes }
+with_run mode.Backslash r bytes = r
+with_run mode.BackslashReturn r bytes = r
+with_run mode.Folded r bytes = r
 
 -- the end of the file, where it ends no token in an open quote or after a backslash
 abbrev pub closed : Mode → Reader → Reader

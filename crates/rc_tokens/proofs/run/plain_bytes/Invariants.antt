@@ -1,0 +1,7 @@
+use Rattle.std.proofs.Common.{◌≡◌, ◌+◌, not, drop}
+use Rattle.std.specs.List.{position_or_len}
+use Rattle.rc_tokens.specs.Grammar.{is_plain}
+use Rattle.rc_tokens.proofs.run.plain_bytes.Given as goal
+
+abbrev pub invariant-loop-place : goal.invariant-loop-place
+invariant-loop-place l = l.place + position_or_len (λ b. not (is_plain b)) (drop l.place l.bytes) ≡ position_or_len (λ b. not (is_plain b)) l.bytes
