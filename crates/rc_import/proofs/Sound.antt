@@ -28,7 +28,7 @@ use Rattle.rc_tokens.specs.declared.line.Line.{Line}
 use Rattle.rc_tokens.specs.declared.line.Tokens.{Tokens}
 use Rattle.rc_parse.specs.Commands.{command_of, command_with, command_word, permitted}
 use Rattle.rc_parse.specs.Kept.{Kept, chosen, is_again, is_named, is_not_overridden, kept, kept_behind}
-use Rattle.rc_parse.specs.Lines.{arguments, first_word, is_on, is_service, sections}
+use Rattle.rc_parse.specs.Lines.{Section, arguments, first_word, is_on, is_service, sections}
 use Rattle.rc_parse.specs.Options as options
 use Rattle.rc_parse.specs.Options.{onrestart_of, option_word, seconds_of, set_to, setting_for, setting_with}
 use Rattle.rc_parse.specs.Readings.{values}
@@ -43,7 +43,6 @@ use Rattle.rc_parse.specs.declared.critical.WindowLength.TheVariants as minute
 use Rattle.rc_parse.specs.declared.option_word.OptionWord.{OptionWord}
 use Rattle.rc_parse.specs.declared.option_word.OptionWord.TheVariants as option
 use Rattle.rc_parse.specs.declared.parsed.Parsed.{Parsed}
-use Rattle.rc_parse.specs.declared.section.Section.{Section}
 use Rattle.rc_parse.specs.declared.setting.Setting.{Setting}
 use Rattle.rc_parse.specs.declared.setting.Setting.TheVariants as setting
 use Rattle.rc_parse.specs.declared.trigger.Trigger.{Trigger}

@@ -6,6 +6,7 @@ pub mod NameSets
 pub mod OneName
 pub mod Placed
 pub mod SameFile
+pub mod Headers
 pub mod SectionList
 pub mod Seen
 pub mod Services

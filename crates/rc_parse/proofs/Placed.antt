@@ -9,7 +9,7 @@ use Rattle.init_machine.specs.declared.diagnostic.Diagnostic.{Diagnostic}
 use Rattle.rc_tokens.specs.Lines.{Ascend, numbers as token_numbers}
 use Rattle.rc_tokens.specs.declared.line.Line.{Line}
 use Rattle.rc_tokens.specs.declared.line.Tokens.{Tokens}
-use Rattle.rc_parse.specs.Lines.{sections, is_header, is_on, is_service, lines_before_header}
+use Rattle.rc_parse.specs.Lines.{Section, sections, is_header, is_on, is_service, lines_before_header}
 use Rattle.rc_parse.specs.Places.{section_lines, IsParted, InOrder, end, left_out, taken, numbers, places, ArePlaced}
 use Rattle.rc_parse.specs.Readings.{diagnosed}
 use Rattle.rc_parse.specs.Sections.{Sections, header_args, command_at, setting_at, action_diagnostics, service_diagnostics, import_diagnostics, diagnostics_of, orphan, cut}
@@ -18,7 +18,6 @@ use Rattle.rc_parse.specs.Triggers.{triggers_of}
 use Rattle.rc_parse.specs.Code.Adding.{section_of}
 use Rattle.rc_parse.specs.declared.parsed.Parsed.{Parsed}
 use Rattle.rc_parse.specs.declared.trigger.Triggers.{Triggers}
-use Rattle.rc_parse.specs.declared.section.Section.{Section}
 
 -- ---- each line has its place
 

@@ -11,15 +11,15 @@ use Rattle.init_machine.specs.declared.diagnostic.Diagnostic.{Diagnostic}
 use Rattle.init_machine.specs.declared.service.ServiceDef.{ServiceDef}
 use Rattle.rc_tokens.specs.declared.line.Line.{Line}
 use Rattle.rc_tokens.specs.declared.line.Tokens.{Tokens}
-use Rattle.rc_parse.specs.Lines.{sections, is_header, is_on, is_service, lines_before_header}
+use Rattle.rc_parse.specs.Lines.{Section, sections, is_header, is_on, is_service, lines_before_header}
 use Rattle.rc_parse.specs.Sections.{Sections, header_args, commands_of, has_command, action_under, actions_of, services_of, import_with, imports_of, import_fault, import_diagnostics, diagnostics_of, orphan, cut}
 use Rattle.rc_parse.specs.Triggers.{triggers_of}
-use Rattle.rc_parse.specs.Code.Adding.{section_of, with_diagnostics, with_import, with_open, with_rest, with_section, with_sections}
+use Rattle.rc_parse.specs.Code.Adding.{from_header, section_of, with_diagnostics, with_import, with_section, with_sections}
 use Rattle.rc_parse.specs.Services.{is_service_header}
 use Rattle.rc_parse.specs.declared.parsed.Import.{Import}
 use Rattle.rc_parse.specs.declared.parsed.Parsed.{Parsed}
 use Rattle.rc_parse.specs.declared.trigger.Triggers.{Triggers}
-use Rattle.rc_parse.specs.declared.section.Section.{Section}
+use Rattle.rc_parse.proofs.Headers.{one_section, same_sections, is_first_header}
 
 no_orphans : (file : List ℕ) (parsed : Parsed) → with_diagnostics parsed [] ≡ parsed
 no_orphans file parsed = ap (λ (found : List Diagnostic). record parsed { diagnostics = found }) (append-nil parsed.diagnostics)
@@ -33,67 +33,19 @@ with_first_section file parsed section more = rw (
   append_assoc parsed.diagnostics (diagnostics_of file section) (flat_map (diagnostics_of file) more),
 ) refl
 
--- ---- a line more
+-- ---- section by section
 
-none_before : (line : Line) (lines : List Line) → is_header line ≡ true → lines_before_header (line ∷ lines) ≡ []
-none_before line lines is = ap (λ (b : Bool). take (cond (not b) (1 + position_or_len is_header lines) 0) (line ∷ lines)) is
-
-one_before : (line : Line) (lines : List Line) → is_header line ≡ false → lines_before_header (line ∷ lines) ≡ line ∷ lines_before_header lines
-one_before line lines is =
-    ap (λ (b : Bool). take (cond (not b) (1 + position_or_len is_header lines) 0) (line ∷ lines)) is
-    ∙ ap (λ (n : ℕ). take n (line ∷ lines)) (one-add (position_or_len is_header lines))
-
-one_section : (line : Line) (lines : List Line) → is_header line ≡ true → sections (line ∷ lines) ≡ section_of line (lines_before_header lines) ∷ sections lines
-one_section line lines is = cond-true _ _ _ is
-
-no_section : (line : Line) (lines : List Line) → is_header line ≡ false → sections (line ∷ lines) ≡ sections lines
-no_section line lines is = cond-false _ _ _ is
-
--- a section that a header ends
-pub ended : (file : List ℕ) (parsed next : Parsed) (open_section : Option Section) (line : Line) (rest : List Line) → is_header line ≡ true
-    → next ≡ with_open file parsed open_section
-    → with_rest file next (Some (section_of line [])) rest ≡ with_rest file parsed open_section (line ∷ rest)
-ended file parsed next None line rest is next_is =
-    ap (λ (p : Parsed). with_sections file p (section_of line (lines_before_header rest) ∷ sections rest)) (next_is ∙ sym (no_orphans file parsed))
-    ∙ ap (λ (all : List Section). with_sections file (with_diagnostics parsed []) all) (sym (one_section line rest is))
-    ∙ ap (λ (lines : List Line). with_sections file (with_diagnostics parsed (map (λ l. orphan file l.number) lines)) (sections (line ∷ rest))) (sym (none_before line rest is))
-ended file parsed next (Some section) line rest is next_is =
-    ap (λ (p : Parsed). with_sections file p (section_of line (lines_before_header rest) ∷ sections rest)) next_is
-    ∙ with_first_section file parsed section (section_of line (lines_before_header rest) ∷ sections rest)
-    ∙ ap (λ (all : List Section). with_sections file parsed (section ∷ all)) (sym (one_section line rest is))
-    ∙ ap (λ (body : List Line). with_sections file parsed (record section { body = body } ∷ sections (line ∷ rest)))
-    (sym (append-nil section.body) ∙ ap (λ (lines : List Line). section.body ++ lines) (sym (none_before line rest is)))
-
--- a line in the section that is open
-pub went_on : (file : List ℕ) (parsed : Parsed) (section : Section) (line : Line) (body rest : List Line) → is_header line ≡ false
-    → body ≡ section.body ++ line ∷ []
-    → with_rest file parsed (Some (section_of section.header body)) rest ≡ with_rest file parsed (Some section) (line ∷ rest)
-went_on file parsed section line body rest isnt body_is =
-    ap (λ (lines : List Line). with_sections file parsed (section_of section.header lines ∷ sections rest))
-    (ap (λ (lines : List Line). lines ++ lines_before_header rest) body_is
-    ∙ append_assoc section.body (line ∷ []) (lines_before_header rest)
-    ∙ ap (λ (lines : List Line). section.body ++ lines) (sym (one_before line rest isnt)))
-    ∙ ap (λ (all : List Section). with_sections file parsed (section_of section.header (section.body ++ lines_before_header (line ∷ rest)) ∷ all)) (sym (no_section line rest isnt))
-
--- a line before the first header
-pub was_orphan : (file : List ℕ) (parsed next : Parsed) (line : Line) (rest : List Line) → is_header line ≡ false
-    → next ≡ with_diagnostics parsed (orphan file line.number ∷ [])
-    → with_rest file next None rest ≡ with_rest file parsed None (line ∷ rest)
-was_orphan file parsed next line rest isnt next_is =
-    ap (λ (p : Parsed). with_rest file p None rest) next_is
-    ∙ ap (λ (found : List Diagnostic). with_sections file (record parsed { diagnostics = found }) (sections rest))
-    (append_assoc parsed.diagnostics (orphan file line.number ∷ []) (map (λ l. orphan file l.number) (lines_before_header rest)))
-    ∙ ap (λ (lines : List Line). with_sections file (with_diagnostics parsed (map (λ l. orphan file l.number) lines)) (sections rest)) (sym (one_before line rest isnt))
-    ∙ ap (λ (all : List Section). with_sections file (with_diagnostics parsed (map (λ l. orphan file l.number) (lines_before_header (line ∷ rest)))) all) (sym (no_section line rest isnt))
-
--- ---- all lines
-
--- the section that is open at the end
-pub last_closed : (file : List ℕ) (parsed : Parsed) (open_section : Option Section) → with_rest file parsed open_section [] ≡ with_sections file (with_open file parsed open_section) []
-last_closed file parsed None = ap (λ (p : Parsed). with_sections file p []) (no_orphans file parsed)
-last_closed file parsed (Some section) =
-    ap (λ (body : List Line). with_sections file parsed (record section { body = body } ∷ [])) (append-nil section.body)
-    ∙ sym (with_first_section file parsed section [])
+-- a section more
+pub section_added : (file : List ℕ) (parsed next : Parsed) (lines rest left : List Line) (header : Line)
+    → from_header lines ≡ lines → lines ≡ header ∷ rest → left ≡ from_header rest
+    → next ≡ with_section file parsed (section_of header (lines_before_header rest))
+    → with_sections file next (sections left) ≡ with_sections file parsed (sections lines)
+section_added file parsed next lines rest left header whole lines_are left_is next_is =
+    let first : is_header header ≡ true = is_first_header header rest (ap from_header (sym lines_are) ∙ whole ∙ lines_are) in
+    ap (λ (p : Parsed). with_sections file p (sections left)) next_is
+    ∙ ap (λ (all : List Section). with_sections file (with_section file parsed (section_of header (lines_before_header rest))) all) (ap sections left_is ∙ same_sections rest)
+    ∙ with_first_section file parsed (section_of header (lines_before_header rest)) (sections rest)
+    ∙ ap (λ (all : List Section). with_sections file parsed all) (sym (one_section header rest first) ∙ ap sections (sym lines_are))
 
 abbrev pub nothing : Parsed
 nothing = record { actions = []; services = []; imports = []; diagnostics = [] }
@@ -122,18 +74,18 @@ all_added file tokens begun parsed last begun_is left last_is = record {
 }
 
 -- the same, where no lines are left
-pub none_left : (file : List ℕ) (tokens : Tokens) (first parsed closed last : Parsed) (open_section : Option Section) (left : List Line)
-    → first ≡ nothing → left ≡ []
-    → with_rest file parsed open_section left ≡ with_rest file first None tokens.lines
-    → closed ≡ with_open file parsed open_section → last ≡ with_diagnostics closed (cut file tokens.dropped)
+pub none_left : (file : List ℕ) (tokens : Tokens) (first begun parsed last : Parsed) (lines left none : List Line)
+    → first ≡ nothing → lines ≡ tokens.lines
+    → begun ≡ with_diagnostics first (map (λ line. orphan file line.number) (lines_before_header lines)) → left ≡ from_header lines
+    → with_sections file parsed (sections none) ≡ with_sections file begun (sections left) → none ≡ []
+    → last ≡ with_diagnostics parsed (cut file tokens.dropped)
     → Sections file tokens last
-none_left file tokens first parsed closed last open_section left first_is none left_decides closed_is last_is =
-    all_added file tokens (with_diagnostics nothing (map (λ line. orphan file line.number) (lines_before_header tokens.lines))) closed last refl
-    (ap (λ (p : Parsed). with_sections file p []) closed_is
-    ∙ sym (last_closed file parsed open_section)
-    ∙ sym (ap (λ (lines : List Line). with_rest file parsed open_section lines) none)
-    ∙ left_decides
-    ∙ ap (λ (p : Parsed). with_rest file p None tokens.lines) first_is)
+none_left file tokens first begun parsed last lines left none first_is lines_are begun_is left_is left_decides none_is last_is =
+    all_added file tokens begun parsed last
+    (begun_is ∙ ap (λ (p : Parsed). with_diagnostics p (map (λ line. orphan file line.number) (lines_before_header lines))) first_is
+    ∙ ap (λ (all : List Line). with_diagnostics nothing (map (λ line. orphan file line.number) (lines_before_header all))) lines_are)
+    (ap (λ (all : List Line). with_sections file parsed (sections all)) (sym none_is) ∙ left_decides
+    ∙ ap (λ (all : List Section). with_sections file begun all) (ap sections left_is ∙ same_sections lines ∙ ap sections lines_are))
     last_is
 
 -- ---- each action has a command
@@ -165,12 +117,12 @@ parsed_have file tokens parsed are = ap (λ (actions : List Action). list_all ha
 -- ---- imports
 
 -- what an import and the lines behind it add
-pub import_added : (file : List ℕ) (old between last : Parsed) (section : Section) (words : List (List ℕ)) (lines : List Line)
+pub import_added : (file : List ℕ) (old between last : Parsed) (section : Section) (words : List (List ℕ))
     → is_on section.header ≡ false → is_service section.header ≡ false
-    → words ≡ header_args section → lines ≡ section.body → between ≡ with_import file old section.header.number words
-    → last ≡ with_diagnostics between (map (λ line. orphan file line.number) lines)
+    → words ≡ header_args section → between ≡ with_import file old section.header.number words
+    → last ≡ with_diagnostics between (map (λ line. orphan file line.number) section.body)
     → last ≡ with_section file old section
-import_added file old between last section words lines other import words_are lines_are between_is last_is =
+import_added file old between last section words other import words_are between_is last_is =
     let no_actions : actions_of file section ≡ [] = cond-false _ _ _ other in
     let no_services : services_of file section ≡ [] = cond-false _ _ _ (ap (λ (b : Bool). b && is_service_header (header_args section)) import) in
     let the_import : imports_of section ≡ import_with section.header.number (header_args section) = cond-false _ _ _ other ∙ cond-false _ _ _ import in
@@ -186,7 +138,6 @@ import_added file old between last section words lines other import words_are li
       diagnostics = all_diagnostics i;
     } in
     last_is
-    ∙ ap (λ (p : Parsed). with_diagnostics p (map (λ line. orphan file line.number) lines)) between_is
-    ∙ ap (λ (w : List (List ℕ)). with_diagnostics (with_import file old section.header.number w) (map (λ line. orphan file line.number) lines)) words_are
-    ∙ ap (λ (body : List Line). with_diagnostics (with_import file old section.header.number (header_args section)) (map (λ line. orphan file line.number) body)) lines_are
+    ∙ ap (λ (p : Parsed). with_diagnostics p (map (λ line. orphan file line.number) section.body)) between_is
+    ∙ ap (λ (w : List (List ℕ)). with_diagnostics (with_import file old section.header.number w) (map (λ line. orphan file line.number) section.body)) words_are
     ∙ whole

@@ -8,7 +8,7 @@ use Rattle.init_machine.specs.declared.action.Action.{Action}
 use Rattle.init_machine.specs.declared.diagnostic.Diagnostic.{Diagnostic}
 use Rattle.init_machine.specs.declared.service.ServiceDef.{ServiceDef}
 use Rattle.rc_tokens.specs.declared.line.Line.{Line}
-use Rattle.rc_parse.specs.Code.Adding.{section_of, with_section}
+use Rattle.rc_parse.specs.Code.Adding.{section_of, setting_diagnostics, with_section}
 use Rattle.rc_parse.specs.Lines.{arguments, is_on, is_service}
 use Rattle.rc_parse.specs.Readings.{diagnosed}
 use Rattle.rc_parse.specs.Sections.{actions_of, services_of, imports_of, diagnostics_of, setting_at, settings_of}
@@ -58,16 +58,13 @@ pub settings_make : (file : List ℕ) (line : ℕ) (args : List (List ℕ)) (set
     → with_settings (service_with file line args []) settings ≡ service_with file line args settings
 settings_make file line args settings = all_settings (service_with file line args []) settings
 
-abbrev settings_diagnosed : List ℕ → List Line → List Diagnostic
-settings_diagnosed file body = flat_map (λ line. diagnosed file line.number (setting_at file line)) body
-
 -- a section that gives a service
 pub service_added : (file : List ℕ) (old : Parsed) (header : Line) (body : List Line) (fresh made : ServiceDef)
     (services : List ServiceDef) (diagnostics : List Diagnostic)
     → is_on header ≡ false → is_service header ≡ true → is_service_header (arguments header.words) ≡ true
     → fresh ≡ service_with file header.number (arguments header.words) []
     → made ≡ with_settings fresh (settings_of file body) → services ≡ old.services ++ made ∷ []
-    → diagnostics ≡ old.diagnostics ++ settings_diagnosed file body
+    → diagnostics ≡ old.diagnostics ++ setting_diagnostics file body
     → record { actions = old.actions; services = services; imports = old.imports; diagnostics = diagnostics }
     ≡ with_section file old (section_of header body)
 service_added file old header body fresh made services diagnostics other one good fresh_is made_is services_are diagnostics_are =
@@ -77,7 +74,7 @@ service_added file old header body fresh made services diagnostics other one goo
     let no_imports : imports_of section ≡ [] = cond-false _ _ _ other ∙ cond-true _ _ _ one in
     let the_service : services_of file section ≡ service_with file header.number (arguments header.words) settings ∷ [] =
     cond-true _ _ _ (and_from (is_service header) (is_service_header (arguments header.words)) one good) in
-    let the_diagnostics : diagnostics_of file section ≡ settings_diagnosed file body =
+    let the_diagnostics : diagnostics_of file section ≡ setting_diagnostics file body =
     cond-false _ _ _ other ∙ cond-true _ _ _ one ∙ cond-true _ _ _ good in
     let whole : made ≡ service_with file header.number (arguments header.words) settings =
     made_is ∙ ap (λ (service : ServiceDef). with_settings service settings) fresh_is

@@ -3,7 +3,6 @@ use Rattle.std.specs.Prelude.{ℕ, Bool, ◌||◌, if◌then◌else◌, List, []
 use Rattle.std.specs.List.{before_first}
 use Rattle.std.specs.Str.{bytes_eq}
 use Rattle.rc_tokens.specs.declared.line.Line.{Line}
-use Rattle.rc_parse.specs.declared.section.Section.{Section}
 
 -- the first of some words; a line that had none would begin with the empty word
 abbrev pub first_word : List (List ℕ) → List ℕ
@@ -34,6 +33,11 @@ is_header line = is_on line || is_service line || is_import line
 -- the lines before the first header, or all where there is none
 abbrev pub lines_before_header : List Line → List Line
 lines_before_header lines = before_first is_header lines
+
+-- a header, and the lines up to the next one
+pub record Section : Type 0 where
+  pub header : Line
+  pub body : List Line
 
 -- the sections of a file: one for each header, with the lines up to the next one
 abbrev pub sections : List Line → List Section

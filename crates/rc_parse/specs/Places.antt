@@ -4,10 +4,9 @@ use Rattle.std.specs.List.{flat_map}
 use Rattle.init_machine.specs.declared.diagnostic.Diagnostic.{Diagnostic}
 use Rattle.rc_tokens.specs.declared.line.Line.{Line}
 use Rattle.rc_tokens.specs.declared.line.Tokens.{Tokens}
-use Rattle.rc_parse.specs.Lines.{sections, lines_before_header}
+use Rattle.rc_parse.specs.Lines.{Section, sections, lines_before_header}
 use Rattle.rc_parse.specs.Sections.{cut}
 use Rattle.rc_parse.specs.declared.parsed.Parsed.{Parsed}
-use Rattle.rc_parse.specs.declared.section.Section.{Section}
 
 -- the lines of a section
 abbrev pub section_lines : Section → List Line

@@ -10,7 +10,7 @@ use Rattle.init_machine.specs.declared.diagnostic.Diagnostic.{Diagnostic}
 use Rattle.init_machine.specs.declared.service.ServiceDef.{ServiceDef}
 use Rattle.rc_tokens.specs.declared.line.Line.{Line}
 use Rattle.rc_tokens.specs.declared.line.Tokens.{Tokens}
-use Rattle.rc_parse.specs.Lines.{arguments, is_on, is_service, sections, lines_before_header}
+use Rattle.rc_parse.specs.Lines.{Section, arguments, is_on, is_service, sections, lines_before_header}
 use Rattle.rc_parse.specs.Readings.{diagnostic, values, diagnosed}
 use Rattle.rc_parse.specs.Commands.{command_of}
 use Rattle.rc_parse.specs.Options.{setting_of}
@@ -20,7 +20,6 @@ use Rattle.rc_parse.specs.declared.parsed.Import.{Import}
 use Rattle.rc_parse.specs.declared.parsed.Parsed.{Parsed}
 use Rattle.rc_parse.specs.declared.setting.Setting.{Setting}
 use Rattle.rc_parse.specs.declared.trigger.Triggers.{Triggers}
-use Rattle.rc_parse.specs.declared.section.Section.{Section}
 
 -- the words behind the first one of a section's header
 abbrev pub header_args : Section → List (List ℕ)

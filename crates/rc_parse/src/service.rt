@@ -1,17 +1,16 @@
 //! Service sections.
 
 ghost use Rattle.std.specs.Prelude.{◌≡◌, ◌++◌, ◌∷◌, [], true, false, IfOk, OnOk};
-ghost use Rattle.std.specs.List.{flat_map};
-ghost use Rattle.rc_parse.specs.Code.Adding.{with_section};
-ghost use Rattle.rc_parse.specs.Lines.{arguments as arguments_lem, is_on, is_service};
+ghost use Rattle.rc_parse.specs.Code.Adding.{from_header, section_of, setting_diagnostics, with_section};
+ghost use Rattle.rc_parse.specs.Lines.{arguments as arguments_lem, is_on, is_service, lines_before_header};
 ghost use Rattle.rc_parse.specs.Readings.{diagnosed, values};
 ghost use Rattle.rc_parse.specs.Sections.{setting_at, settings_of};
 ghost use Rattle.rc_parse.specs.Services.{is_service_header as is_service_header_lem, is_service_name as is_service_name_lem, service_with};
 ghost use Rattle.rc_parse.specs.Code.Settings.{with_setting, with_settings};
 
 use crate::fault::Fault;
+use crate::lines::Lines;
 use crate::parsed::{Parsed, diagnose};
-use crate::section::Section;
 use crate::setting::{Setting, read_setting};
 use crate::words::{arguments, is_legal_name, take_first, without_first};
 use init_base::{List, Millis, NoMemory, Text};
@@ -104,40 +103,43 @@ fn set_option(
     }
 }
 
-/// Sets the options of these lines. What is wrong in them is added to the diagnostics.
+/// Sets the options of the lines before the next header. What is wrong in them is added to the diagnostics.
 fn set_options(
     service: &mut ServiceDef,
     alloc: Global,
     file: &Text,
-    lines: List<Line>,
+    lines: &mut Lines,
     diagnostics: &mut List<Diagnostic>,
 ) -> Result<(), NoMemory>
-    ensures service { OnOk result (service.new ≡ with_settings service.old (settings_of file.now lines)) }
-    ensures diagnostics { OnOk result (diagnostics.new ≡ diagnostics.old ++ flat_map (λ line. diagnosed file.now line.number (setting_at file.now line)) lines) }
+    ensures service { OnOk result (service.new ≡ with_settings service.old (settings_of file.now (lines_before_header lines.old))) }
+    ensures diagnostics { OnOk result (diagnostics.new ≡ diagnostics.old ++ setting_diagnostics file.now (lines_before_header lines.old)) }
+    ensures lines { OnOk result (lines.new ≡ from_header lines.old) }
 {
-    for line in lines.into_vec() {
+    while let Some(line) = lines.pop_in_section() {
         set_option(service, alloc, file, line, diagnostics)?;
     }
     Ok(())
 }
 
-/// Adds a `service` section.
+/// Adds the `service` section with this header and the lines before the next one.
 pub fn add_service(
     parsed: &mut Parsed,
     alloc: Global,
     file: &Text,
-    section: Section,
+    header: Line,
+    lines: &mut Lines,
 ) -> Result<(), NoMemory>
-    requires other { is_on section.header ≡ false }
-    requires service { is_service section.header ≡ true }
-    ensures { OnOk result (parsed.new ≡ with_section file.now parsed.old section) }
+    requires other { is_on header ≡ false }
+    requires service { is_service header ≡ true }
+    ensures section { OnOk result (parsed.new ≡ with_section file.now parsed.old (section_of header (lines_before_header lines.old))) }
+    ensures lines { OnOk result (lines.new ≡ from_header lines.old) }
 {
-    let Section { header, body } = section;
     if !is_service_header(arguments(header.words.items())) {
+        lines.skip_section();
         let kind = DiagKind::BadService;
         return diagnose(&mut parsed.diagnostics, file, header.number, kind);
     }
     let mut service = new_service(alloc, file, header)?;
-    set_options(&mut service, alloc, file, body, &mut parsed.diagnostics)?;
+    set_options(&mut service, alloc, file, lines, &mut parsed.diagnostics)?;
     parsed.services.push(service)
 }

@@ -1,22 +1,29 @@
 -- What the code adds, section by section. The proof leads from it to `Sections`.
-use Rattle.std.specs.Prelude.{ℕ, ◌==◌, if◌then◌else◌, List, [], ◌∷◌, ◌++◌, length, map, Option, Some, None}
-use Rattle.std.specs.List.{flat_map}
+use Rattle.std.specs.Prelude.{ℕ, ◌==◌, if◌then◌else◌, List, [], ◌∷◌, ◌++◌, length, drop}
+use Rattle.std.specs.List.{flat_map, position_or_len}
 use Rattle.init_machine.specs.declared.diagnostic.DiagKind.TheVariants.{BadImport}
 use Rattle.init_machine.specs.declared.diagnostic.Diagnostic.{Diagnostic}
 use Rattle.rc_tokens.specs.declared.line.Line.{Line}
-use Rattle.rc_parse.specs.Lines.{sections, lines_before_header}
+use Rattle.rc_parse.specs.Lines.{Section, is_header}
 use Rattle.rc_parse.specs.Readings.{diagnosed, diagnostic}
-use Rattle.rc_parse.specs.Sections.{command_at, commands_of, if_has_commands, actions_of, services_of, import_with, imports_of, orphan, diagnostics_of}
+use Rattle.rc_parse.specs.Sections.{command_at, setting_at, commands_of, if_has_commands, actions_of, services_of, import_with, imports_of, diagnostics_of}
 use Rattle.rc_parse.specs.declared.parsed.Parsed.{Parsed}
 use Rattle.rc_parse.specs.declared.trigger.Triggers.{Triggers}
-use Rattle.rc_parse.specs.declared.section.Section.{Section}
 
 abbrev pub section_of : Line → List Line → Section
 section_of header body = record { header = header; body = body }
 
+-- the lines from the first header on
+abbrev pub from_header : List Line → List Line
+from_header lines = drop (position_or_len is_header lines) lines
+
 -- what is wrong in lines of commands
 abbrev pub command_diagnostics : List ℕ → List Line → List Diagnostic
 command_diagnostics file lines = flat_map (λ line. diagnosed file line.number (command_at file line)) lines
+
+-- what is wrong in lines of options
+abbrev pub setting_diagnostics : List ℕ → List Line → List Diagnostic
+setting_diagnostics file lines = flat_map (λ line. diagnosed file line.number (setting_at file line)) lines
 
 abbrev pub with_diagnostics : Parsed → List Diagnostic → Parsed
 with_diagnostics parsed more = record parsed { diagnostics = parsed.diagnostics ++ more }
@@ -52,15 +59,3 @@ with_import file parsed line words = record parsed {
   imports = parsed.imports ++ import_with line words;
   diagnostics = parsed.diagnostics ++ (if length words == 1 then [] else diagnostic file line BadImport ∷ []);
 }
-
--- with the section that is open, if one is
-abbrev pub with_open : List ℕ → Parsed → Option Section → Parsed
-with_open file parsed None = parsed
-with_open file parsed (Some section) = with_section file parsed section
-
--- with what the lines that are left give, the first of which belong to the section that is open
-abbrev pub with_rest : List ℕ → Parsed → Option Section → List Line → Parsed
-with_rest file parsed None rest =
-    with_sections file (with_diagnostics parsed (map (λ line. orphan file line.number) (lines_before_header rest))) (sections rest)
-with_rest file parsed (Some section) rest =
-    with_sections file parsed (record section { body = section.body ++ lines_before_header rest } ∷ sections rest)

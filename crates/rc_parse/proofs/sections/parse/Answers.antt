@@ -1,14 +1,30 @@
-use Rattle.std.proofs.Common.{◌≡◌, [], arith}
-use Rattle.std.proofs.lemmas.List.{nil_from_length}
-use Rattle.rc_parse.proofs.SectionList.{none_left, parsed_have}
+use Rattle.std.proofs.Common.{refl, sym, ap, ◌∙◌}
+use Rattle.rc_parse.specs.Code.Adding.{from_header}
+use Rattle.rc_parse.proofs.Headers.{headed}
+use Rattle.rc_parse.proofs.SectionList.{section_added, none_left, parsed_have}
 use Rattle.rc_parse.proofs.sections.parse.Goals as goal
+
+pub loop-header-init : goal.loop-header-init
+loop-header-init c = record {
+  left_decides = refl;
+  headed = ap from_header c.in_ok-add_orphans.ensures.lines ∙ headed c.of-lines.result ∙ sym c.in_ok-add_orphans.ensures.lines;
+}
+
+pub loop-header-preserved : goal.loop-header-preserved
+loop-header-preserved c = record {
+  left_decides =
+      section_added c.args.file.now c.loop-header.parsed c.add_section.new.parsed c.loop-header.lines c.pop.new.self c.add_section.new.lines c.in-Some.header
+      c.loop-header.invariant.headed c.in-Some.ensures c.in_ok-add_section.ensures.lines c.in_ok-add_section.ensures.section
+      ∙ c.loop-header.invariant.left_decides;
+  headed = ap from_header c.in_ok-add_section.ensures.lines ∙ headed c.pop.new.self ∙ sym c.in_ok-add_section.ensures.lines;
+}
 
 pub returns-clause-sections : goal.returns-clause-sections
 returns-clause-sections c =
-    let left = c.loop-line.line-iterator.rest.items in
-    let none : left ≡ [] = nil_from_length left (omega (arith, c.in-None.ensures.steps.0)) in
-    none_left c.args.file.now c.args.tokens c.new-parsed.result c.loop-line.parsed c.close.new.parsed c.add_cut.new.parsed c.loop-line.current left
-    c.new-parsed.ensures none c.loop-line.invariant c.in_ok-close.ensures c.in_ok-add_cut.ensures
+    none_left c.args.file.now c.args.tokens c.new-parsed.result c.add_orphans.new.parsed c.loop-header.parsed c.add_cut.new.parsed
+    c.of-lines.result c.add_orphans.new.lines c.loop-header.lines
+    c.new-parsed.ensures c.of-lines.ensures c.in_ok-add_orphans.ensures.orphans c.in_ok-add_orphans.ensures.lines
+    c.loop-header.invariant.left_decides c.in_default.ensures.0 c.in_ok-add_cut.ensures
 
 pub returns-clause-commands : goal.returns-clause-commands
 returns-clause-commands c = parsed_have c.args.file.now c.args.tokens c.add_cut.new.parsed (returns-clause-sections c)
