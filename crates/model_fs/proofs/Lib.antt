@@ -1,3 +1,11 @@
+pub mod Above
+pub mod Below
+pub mod Calls
+pub mod Children
+pub mod Kept
 pub mod Parts
-pub mod Places
+pub mod Positions
 pub mod Same
+pub mod Shown
+pub mod Steps
+pub mod Trees

@@ -4,7 +4,7 @@ use Rattle.std.proofs.Math.Seq.{take-length}
 use Rattle.std.proofs.lemmas.List.{append-nil, get_or-take, length-take-le, take-append-drop}
 use Rattle.std.specs.List.{list_all, slice_split, onto_first}
 use Rattle.std.specs.Str.{bytes_eq}
-use Rattle.init_machine.specs.FileTree.{parts_of, same_path, is_below, is_root}
+use Rattle.init_machine.specs.FileTree.{parts_of, same_path, is_below}
 use Rattle.model_fs.specs.Paths.{is_no_slash}
 
 -- the first part is there
@@ -103,52 +103,13 @@ cut_at t (suc s) within part slash =
     ∙ ap (λ ps. ps ++ drop (suc s) t ∷ []) (sym (parts-trimmed t (suc s) (omega arith) (omega arith) here))
     ∙ ap (λ ys. parts_of (take (suc s) t) ++ ys ∷ []) (sym rest)
 
--- The same by their ends.
-
-and_assoc : (a b c : Bool) → (a && b) && c ≡ a && (b && c)
-and_assoc true b c = refl
-and_assoc false b c = refl
+-- What is below, by its last part.
 
 and_comm : (a b : Bool) → (a && b) ≡ (b && a)
 and_comm true true = refl
 and_comm true false = refl
 and_comm false true = refl
 and_comm false false = refl
-
-same-nothing : (ps : List (List ℕ)) (p : List ℕ) → same_path (ps ++ p ∷ []) [] ≡ false
-same-nothing [] p = refl
-same-nothing (x ∷ ps) p = refl
-
-nothing-same : (qs : List (List ℕ)) (q : List ℕ) → same_path [] (qs ++ q ∷ []) ≡ false
-nothing-same [] q = refl
-nothing-same (x ∷ qs) q = refl
-
-one-same : (p q : List ℕ) (qs : List (List ℕ)) (y : List ℕ) → bytes_eq p q && same_path [] (qs ++ y ∷ []) ≡ bytes_eq p y && false
-one-same p q qs y = ap (λ b. bytes_eq p q && b) (nothing-same qs y) ∙ and_comm (bytes_eq p q) false ∙ and_comm false (bytes_eq p y)
-
-same-last : (ps qs : List (List ℕ)) (p q : List ℕ) → same_path (ps ++ p ∷ []) (qs ++ q ∷ []) ≡ bytes_eq p q && same_path ps qs
-same-last [] [] p q = refl
-same-last [] (y ∷ qs) p q = one-same p y qs q
-same-last (x ∷ ps) [] p q =
-    ap (λ b. bytes_eq x q && b) (same-nothing ps p) ∙ and_comm (bytes_eq x q) false ∙ and_comm false (bytes_eq p q)
-same-last (x ∷ ps) (y ∷ qs) p q =
-    ap (λ b. bytes_eq x y && b) (same-last ps qs p q)
-    ∙ sym (and_assoc (bytes_eq x y) (bytes_eq p q) (same_path ps qs))
-    ∙ ap (λ b. b && same_path ps qs) (and_comm (bytes_eq x y) (bytes_eq p q))
-    ∙ and_assoc (bytes_eq p q) (bytes_eq x y) (same_path ps qs)
-
-pub same_by_last : (ps qs fs gs : List (List ℕ)) (p q : List ℕ) → ps ≡ fs ++ p ∷ [] → qs ≡ gs ++ q ∷ [] → same_path ps qs ≡ bytes_eq p q && same_path fs gs
-same_by_last ps qs fs gs p q is is' = ap (λ xs. same_path xs qs) is ∙ ap (same_path (fs ++ p ∷ [])) is' ∙ same-last fs gs p q
-
-pub same_as_none : (ps qs fs : List (List ℕ)) (p : List ℕ) → ps ≡ fs ++ p ∷ [] → qs ≡ [] → same_path ps qs ≡ false
-same_as_none ps qs fs p is none = ap (λ xs. same_path xs qs) is ∙ ap (same_path (fs ++ p ∷ [])) none ∙ same-nothing fs p
-
-none-root : (qs : List (List ℕ)) → same_path [] qs ≡ is_root qs
-none-root [] = refl
-none-root (q ∷ qs) = refl
-
-pub none_as_root : (ps qs : List (List ℕ)) → ps ≡ [] → is_root qs ≡ same_path ps qs
-none_as_root ps qs none = sym (ap (λ xs. same_path xs qs) none ∙ none-root qs)
 
 below_nothing : (ps : List (List ℕ)) → is_below ps [] ≡ false
 below_nothing [] = refl

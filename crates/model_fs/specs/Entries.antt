@@ -1,10 +1,95 @@
--- What the entries of a tree stand for.
-use Rattle.std.specs.Prelude.{List, map}
-use Rattle.init_machine.specs.FileTree.{Place, parts_of}
-use Rattle.model_fs.specs.declared.entry.Entry.{Entry}
+-- The entries of a tree: what stands at each place, and how much stands right below it.
+use Rattle.std.specs.Prelude.{◌≡◌, ℕ, ◌+◌, ◌-◌, Bool, true, false, ◌&&◌, List, [], ◌∷◌, ◌++◌, length, position, count_by, slice_get, slice_index_or, slice_set, nat_lt, Option, Some, None, is_some, if◌then◌else◌}
+use Rattle.std.specs.List.{list_any}
+use Rattle.std.specs.Str.{bytes_eq}
+use Rattle.init_machine.specs.FileTree.{Place, same_path, node_of, node_at, with_mode, is_there, is_directory, is_below, is_root}
+use Rattle.init_machine.specs.declared.node.Node.{Node}
+use Rattle.model_fs.specs.Steps.{place_of, AreDistinct}
+use Rattle.model_fs.specs.declared.entries.Entry.{Entry}
 
-abbrev pub place_of : Entry → Place
-place_of entry = record { path = parts_of entry.path; node = entry.node }
+-- what stands at paths, by their entries
+abbrev pub shown : List (List (List ℕ)) → List Entry → List Place
+shown [] entries = []
+shown (path ∷ paths) [] = []
+shown (path ∷ paths) (entry ∷ entries) = record { path = path; node = entry.node } ∷ shown paths entries
 
-abbrev pub shown : List Entry → List Place
-shown entries = map place_of entries
+-- the place of a path in a tree
+abbrev pub place_in : List Place → List (List ℕ) → Option ℕ
+place_in tree path = position (λ place. same_path place.path path) tree
+
+-- a place more at the end, at which nothing stands yet, unless the path has one
+abbrev pub with_place : List Place → List (List ℕ) → List Place
+with_place tree path = if is_some (place_in tree path) then tree else tree ++ record { path = path; node = None } ∷ []
+
+-- what stands at a place
+abbrev pub node_in : List Place → ℕ → Option Node
+node_in tree at = node_of (slice_get tree at)
+
+-- whether something stands below a path
+abbrev pub has_below : List Place → List (List ℕ) → Bool
+has_below tree path = list_any (λ place. is_below path place.path && is_there place.node) tree
+
+-- the other path is that of one part more
+abbrev pub is_child : List (List ℕ) → List (List ℕ) → Bool
+is_child path [] = false
+is_child [] (q ∷ qs) = is_root qs
+is_child (p ∷ ps) (q ∷ qs) = bytes_eq p q && is_child ps qs
+
+-- how many nodes stand right below a path
+abbrev pub children_of : List Place → List (List ℕ) → ℕ
+children_of tree path = count_by (λ place. is_child path place.path && is_there place.node) tree
+
+-- each node stands in a directory, but the root's
+abbrev pub IsReached : List Place → Type 0
+IsReached tree =
+    (i : ℕ) (place : Place) → slice_get tree i ≡ Some place → is_there place.node ≡ true
+    → (front : List (List ℕ)) (last : List ℕ) → place.path ≡ front ++ last ∷ [] → is_directory (node_at tree front) ≡ true
+
+-- what the entries of paths keep: the root is a directory and has the first place, each node stands in a directory, and
+-- the nodes right below each place are counted
+pub record IsKept (paths : List (List (List ℕ))) (entries : List Entry) : Type 0 where
+  pub long : length entries ≡ length paths
+  pub distinct : AreDistinct paths
+  pub root : place_of paths [] ≡ Some 0
+  pub rooted : is_directory (node_at (shown paths entries) []) ≡ true
+  pub reached : IsReached (shown paths entries)
+  pub counted : (i : ℕ) (entry : Entry) → slice_get entries i ≡ Some entry → entry.children ≡ children_of (shown paths entries) (slice_index_or paths i [])
+
+-- Entries when the node at a place was changed, right below another place.
+
+abbrev pub no_entry : Entry
+no_entry = record { node = None; children = 0 }
+
+abbrev pub entry_at : List Entry → ℕ → Entry
+entry_at entries at = slice_index_or entries at no_entry
+
+-- an entry more, where the place is the next one
+abbrev pub grown : List Entry → ℕ → List Entry
+grown entries at = if nat_lt at (length entries) then entries else entries ++ no_entry ∷ []
+
+abbrev pub with_children : List Entry → ℕ → ℕ → List Entry
+with_children entries at count = slice_set entries at (record { node = (entry_at entries at).node; children = count })
+
+-- one node more is to stand right below, where none stands at the place yet
+abbrev pub one_more : List Entry → ℕ → ℕ → List Entry
+one_more entries at parent =
+    if is_there (entry_at entries at).node then entries else with_children entries parent ((entry_at entries parent).children + 1)
+
+-- one node fewer is to stand right below, where one stands at the place
+abbrev pub one_fewer : List Entry → ℕ → ℕ → List Entry
+one_fewer entries at parent =
+    if is_there (entry_at entries at).node then with_children entries parent ((entry_at entries parent).children - 1) else entries
+
+abbrev pub with_node : List Entry → ℕ → Option Node → List Entry
+with_node entries at node = slice_set entries at (record { node = node; children = (entry_at entries at).children })
+
+abbrev pub with_entry : List Entry → ℕ → ℕ → Option Node → List Entry
+with_entry entries at parent node = with_node (one_more (grown entries at) at parent) at node
+
+abbrev pub without_entry : List Entry → ℕ → ℕ → List Entry
+without_entry entries at parent = with_node (one_fewer entries at parent) at None
+
+-- what stands, if anything, with another mode
+abbrev pub mode_changed : ℕ → Option Node → Option Node
+mode_changed mode None = None
+mode_changed mode (Some node) = Some (with_mode mode node)

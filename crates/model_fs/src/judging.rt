@@ -4,44 +4,43 @@ ghost use Rattle.std.specs.Prelude.{◌≡◌, ℕ, List as Items};
 ghost use Rattle.std.specs.Result.{result_err};
 ghost use Rattle.init_machine.specs.FileTree.{tree_refusal};
 ghost use Rattle.init_machine.specs.declared.task.TreeCall.TheVariants as call;
-ghost use Rattle.model_fs.specs.Entries.{shown};
 
-use crate::entry::{Entry, is_full, is_under_other, node_at};
+use crate::entries::Entries;
 use crate::node::{is_directory, is_insecure, is_other, is_there};
 use crate::path::is_path;
 use init_machine::FsRefusal;
 
 #[tactic(auto, unfolding(init_machine::specs::FileTree::tree_refusal))]
-pub fn judge_write(entries: &[Entry], path: &[u8]) -> Result<(), FsRefusal>
-    ensures { (content : Items ℕ) → result_err result ≡ tree_refusal (shown entries.now) (call.Write path.now content) }
+pub fn judge_write(entries: &Entries, path: &[u8]) -> Result<(), FsRefusal>
+    ensures { (content : Items ℕ) → result_err result ≡ tree_refusal entries.now (call.Write path.now content) }
 {
     if !is_path(path) {
         return Err(FsRefusal::BadPath);
     }
-    if is_directory(node_at(entries, path)) {
+    if is_directory(entries.node_at(path)) {
         return Err(FsRefusal::IsDir);
     }
-    if is_under_other(entries, path) {
+    if entries.is_under_other(path) {
         return Err(FsRefusal::NotDir);
     }
     Ok(())
 }
 
 #[tactic(auto, unfolding(init_machine::specs::FileTree::tree_refusal))]
-pub fn judge_copy(entries: &[Entry], from: &[u8], to: &[u8]) -> Result<(), FsRefusal>
-    ensures { result_err result ≡ tree_refusal (shown entries.now) (call.Copy from.now to.now) }
+pub fn judge_copy(entries: &Entries, from: &[u8], to: &[u8]) -> Result<(), FsRefusal>
+    ensures { result_err result ≡ tree_refusal entries.now (call.Copy from.now to.now) }
 {
     if !is_path(from) || !is_path(to) {
         return Err(FsRefusal::BadPath);
     }
-    let copied = node_at(entries, from);
+    let copied = entries.node_at(from);
     if !is_there(copied) {
         return Err(FsRefusal::Absent);
     }
-    if is_directory(copied) || is_directory(node_at(entries, to)) {
+    if is_directory(copied) || is_directory(entries.node_at(to)) {
         return Err(FsRefusal::IsDir);
     }
-    if is_under_other(entries, to) {
+    if entries.is_under_other(to) {
         return Err(FsRefusal::NotDir);
     }
     if is_insecure(copied) {
@@ -51,45 +50,45 @@ pub fn judge_copy(entries: &[Entry], from: &[u8], to: &[u8]) -> Result<(), FsRef
 }
 
 #[tactic(auto, unfolding(init_machine::specs::FileTree::tree_refusal))]
-pub fn judge_make_directory(entries: &[Entry], path: &[u8]) -> Result<(), FsRefusal>
-    ensures { (mode : ℕ) → result_err result ≡ tree_refusal (shown entries.now) (call.MakeDirectory path.now mode) }
+pub fn judge_make_directory(entries: &Entries, path: &[u8]) -> Result<(), FsRefusal>
+    ensures { (mode : ℕ) → result_err result ≡ tree_refusal entries.now (call.MakeDirectory path.now mode) }
 {
     if !is_path(path) {
         return Err(FsRefusal::BadPath);
     }
-    if is_under_other(entries, path) {
+    if entries.is_under_other(path) {
         return Err(FsRefusal::NotDir);
     }
-    if is_other(node_at(entries, path)) {
+    if is_other(entries.node_at(path)) {
         return Err(FsRefusal::Exists);
     }
     Ok(())
 }
 
 #[tactic(auto, unfolding(init_machine::specs::FileTree::tree_refusal))]
-pub fn judge_link(entries: &[Entry], path: &[u8]) -> Result<(), FsRefusal>
-    ensures { (target : Items ℕ) → result_err result ≡ tree_refusal (shown entries.now) (call.Link target path.now) }
+pub fn judge_link(entries: &Entries, path: &[u8]) -> Result<(), FsRefusal>
+    ensures { (target : Items ℕ) → result_err result ≡ tree_refusal entries.now (call.Link target path.now) }
 {
     if !is_path(path) {
         return Err(FsRefusal::BadPath);
     }
-    if is_under_other(entries, path) {
+    if entries.is_under_other(path) {
         return Err(FsRefusal::NotDir);
     }
-    if is_there(node_at(entries, path)) {
+    if is_there(entries.node_at(path)) {
         return Err(FsRefusal::Exists);
     }
     Ok(())
 }
 
 #[tactic(auto, unfolding(init_machine::specs::FileTree::tree_refusal))]
-pub fn judge_remove(entries: &[Entry], path: &[u8]) -> Result<(), FsRefusal>
-    ensures { result_err result ≡ tree_refusal (shown entries.now) (call.Remove path.now) }
+pub fn judge_remove(entries: &Entries, path: &[u8]) -> Result<(), FsRefusal>
+    ensures { result_err result ≡ tree_refusal entries.now (call.Remove path.now) }
 {
     if !is_path(path) {
         return Err(FsRefusal::BadPath);
     }
-    let node = node_at(entries, path);
+    let node = entries.node_at(path);
     if !is_there(node) {
         return Err(FsRefusal::Absent);
     }
@@ -100,33 +99,33 @@ pub fn judge_remove(entries: &[Entry], path: &[u8]) -> Result<(), FsRefusal>
 }
 
 #[tactic(auto, unfolding(init_machine::specs::FileTree::tree_refusal))]
-pub fn judge_remove_directory(entries: &[Entry], path: &[u8]) -> Result<(), FsRefusal>
-    ensures { result_err result ≡ tree_refusal (shown entries.now) (call.RemoveDirectory path.now) }
+pub fn judge_remove_directory(entries: &Entries, path: &[u8]) -> Result<(), FsRefusal>
+    ensures { result_err result ≡ tree_refusal entries.now (call.RemoveDirectory path.now) }
 {
     if !is_path(path) {
         return Err(FsRefusal::BadPath);
     }
-    let node = node_at(entries, path);
+    let node = entries.node_at(path);
     if !is_there(node) {
         return Err(FsRefusal::Absent);
     }
     if is_other(node) {
         return Err(FsRefusal::NotDir);
     }
-    if is_full(entries, path) {
+    if entries.is_full(path) {
         return Err(FsRefusal::NotEmpty);
     }
     Ok(())
 }
 
 #[tactic(auto, unfolding(init_machine::specs::FileTree::tree_refusal))]
-pub fn judge_change_mode(entries: &[Entry], path: &[u8]) -> Result<(), FsRefusal>
-    ensures { (mode : ℕ) → result_err result ≡ tree_refusal (shown entries.now) (call.ChangeMode mode path.now) }
+pub fn judge_change_mode(entries: &Entries, path: &[u8]) -> Result<(), FsRefusal>
+    ensures { (mode : ℕ) → result_err result ≡ tree_refusal entries.now (call.ChangeMode mode path.now) }
 {
     if !is_path(path) {
         return Err(FsRefusal::BadPath);
     }
-    if !is_there(node_at(entries, path)) {
+    if !is_there(entries.node_at(path)) {
         return Err(FsRefusal::Absent);
     }
     Ok(())

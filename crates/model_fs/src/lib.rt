@@ -5,10 +5,11 @@
 #![tactic(auto)]
 
 mod changing;
-mod entry;
+mod entries;
 mod judging;
 mod node;
 mod path;
+mod places;
 #[cfg(test)]
 mod tests;
 mod tree;

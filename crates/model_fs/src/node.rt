@@ -6,7 +6,6 @@ ghost use Rattle.init_machine.specs.FileTree.{is_there as is_there_lem, is_direc
 
 use init_base::{NoMemory, Text};
 use init_machine::Node;
-use std::alloc::Global;
 
 /// The mode of a directory that is made as a parent.
 pub const DIRECTORY_MODE: u16 = 0o755;
@@ -58,7 +57,7 @@ pub fn mode_for(node: Option<&Node>) -> u16
 }
 
 /// The content of a file.
-pub fn content_of(alloc: Global, node: Option<&Node>) -> Result<Text, NoMemory>
+pub fn content_of(node: Option<&Node>) -> Result<Text, NoMemory>
     ensures { IfOk result (λ content. content ≡ content_of_lem (option_copied node.entry)) }
 {
     match node {

@@ -2,7 +2,7 @@
 
 ghost use Rattle.std.specs.Prelude.{◌≡◌, ◌≢◌, ◌-◌, ◌<◌, ◌≤◌, ◌++◌, ◌∷◌, [], true, length, take, drop, slice_index, MatchOption};
 ghost use Rattle.std.specs.List.{list_any, list_all};
-ghost use Rattle.init_machine.specs.FileTree.{parts_of, is_path as is_path_lem, is_dots as is_dots_lem, same_path, is_below as is_below_lem, is_root as is_root_lem, begins_with_slash as begins_with_slash_lem};
+ghost use Rattle.init_machine.specs.FileTree.{parts_of, is_path as is_path_lem, is_dots as is_dots_lem, is_root as is_root_lem, begins_with_slash as begins_with_slash_lem};
 ghost use Rattle.model_fs.specs.Paths.{is_no_slash};
 
 /// Whether the text is that of a path.
@@ -42,29 +42,6 @@ pub fn is_root(text: &[u8]) -> bool
     ensures { result ≡ is_root_lem (parts_of text.now) }
 {
     split_last(text).is_none()
-}
-
-/// Whether two texts have the same parts.
-pub fn is_same(text: &[u8], other: &[u8]) -> bool
-    ensures { result ≡ same_path (parts_of text.now) (parts_of other.now) }
-{
-    let Some((front, part)) = split_last(text) else {
-        return is_root(other);
-    };
-    let Some((other_front, other_part)) = split_last(other) else {
-        return false;
-    };
-    part == other_part && is_same(front, other_front)
-}
-
-/// Whether the other text begins with the parts of this one, and has more.
-pub fn is_below(text: &[u8], other: &[u8]) -> bool
-    ensures { result ≡ is_below_lem (parts_of text.now) (parts_of other.now) }
-{
-    match split_last(other) {
-        Some((front, _)) => is_same(text, front) || is_below(text, front),
-        None => false,
-    }
 }
 
 /// A text with the parts before the last one, and the last one. None exactly where there is no part.

@@ -8,24 +8,25 @@ ghost use Rattle.model_fs.specs.Calls.{IsDone, IsRefused, as_refusal};
 use crate::changing::{
     change_mode, copy, link, make_directory, remove_directory, remove_file, write,
 };
-use crate::entry::{Entry, node_at};
+use crate::entries::Entries;
 use crate::judging::{
     judge_change_mode, judge_copy, judge_link, judge_make_directory, judge_remove,
     judge_remove_directory, judge_write,
 };
-use crate::node::{DIRECTORY_MODE, is_there};
+use crate::node::is_there;
 use crate::path::is_path;
 use init_base::{NoMemory, Text};
-use init_machine::{FsRefusal, Node};
+use init_machine::FsRefusal;
 use std::alloc::Global;
 use std::marker::Model;
 
 /// A tree of directories, files and links. No link is followed.
 ///
-/// A call that is refused changes nothing. After `NoMemory` the tree isn't used again.
+/// A call that is refused changes nothing. After `NoMemory` the tree isn't used again. It keeps the allocator that its
+/// constructor was given.
 #[derive(Drop)]
 pub struct Tree {
-    entries: Vec<Entry>,
+    entries: Entries,
 }
 
 impl Model for Tree {
@@ -34,9 +35,7 @@ impl Model for Tree {
 
     ghost Value = { List Place };
 
-    ghost use Rattle.model_fs.specs.Entries.{shown};
-
-    ghost view = { λ t. shown t.entries.items };
+    ghost view = { λ t. t.entries };
 }
 
 impl Tree {
@@ -44,12 +43,7 @@ impl Tree {
     pub fn new(alloc: Global) -> Result<Tree, NoMemory>
         ensures { IfOk result (λ t. t ≡ first_tree) }
     {
-        let mut entries = Vec::new(alloc);
-        let mode = DIRECTORY_MODE;
-        entries.push(Entry {
-            path: Text::of(alloc, b"/")?,
-            node: Node::Directory { mode },
-        })?;
+        let entries = Entries::new(alloc)?;
         Ok(Tree { entries })
     }
 
@@ -57,43 +51,43 @@ impl Tree {
     pub fn has(&self, path: &[u8]) -> bool
         ensures { result ≡ has_node self.now path.now }
     {
-        is_path(path) && is_there(node_at(self.entries.as_slice(), path))
+        is_path(path) && is_there(self.entries.node_at(path))
     }
 
     /// Makes or replaces a file.
-    pub fn write(&mut self, alloc: Global, path: &[u8], content: Text) -> Result<(), FsRefusal>
+    pub fn write(&mut self, _: Global, path: &[u8], content: Text) -> Result<(), FsRefusal>
         ensures done { OnOk result (IsDone self.old (call.Write path.now content) self.new) }
         ensures refused { IfErr result (IsRefused self.old (call.Write path.now content) self.new) }
     {
-        judge_write(self.entries.as_slice(), path)?;
-        or_refused(write(alloc, &mut self.entries, path, content))
+        judge_write(&self.entries, path)?;
+        or_refused(write(&mut self.entries, path, content))
     }
 
     /// Makes or replaces a file, with the content of another one.
-    pub fn copy(&mut self, alloc: Global, from: &[u8], to: &[u8]) -> Result<(), FsRefusal>
+    pub fn copy(&mut self, _: Global, from: &[u8], to: &[u8]) -> Result<(), FsRefusal>
         ensures done { OnOk result (IsDone self.old (call.Copy from.now to.now) self.new) }
         ensures refused { IfErr result (IsRefused self.old (call.Copy from.now to.now) self.new) }
     {
-        judge_copy(self.entries.as_slice(), from, to)?;
-        or_refused(copy(alloc, &mut self.entries, from, to))
+        judge_copy(&self.entries, from, to)?;
+        or_refused(copy(&mut self.entries, from, to))
     }
 
     /// Makes a directory, or gives one another mode.
-    pub fn mkdir(&mut self, alloc: Global, path: &[u8], mode: u16) -> Result<(), FsRefusal>
+    pub fn mkdir(&mut self, _: Global, path: &[u8], mode: u16) -> Result<(), FsRefusal>
         ensures done { OnOk result (IsDone self.old (call.MakeDirectory path.now mode) self.new) }
         ensures refused { IfErr result (IsRefused self.old (call.MakeDirectory path.now mode) self.new) }
     {
-        judge_make_directory(self.entries.as_slice(), path)?;
-        or_refused(make_directory(alloc, &mut self.entries, path, mode))
+        judge_make_directory(&self.entries, path)?;
+        or_refused(make_directory(&mut self.entries, path, mode))
     }
 
     /// Makes a link. Its target is kept as it is given.
-    pub fn symlink(&mut self, alloc: Global, target: Text, path: &[u8]) -> Result<(), FsRefusal>
+    pub fn symlink(&mut self, _: Global, target: Text, path: &[u8]) -> Result<(), FsRefusal>
         ensures done { OnOk result (IsDone self.old (call.Link target path.now) self.new) }
         ensures refused { IfErr result (IsRefused self.old (call.Link target path.now) self.new) }
     {
-        judge_link(self.entries.as_slice(), path)?;
-        or_refused(link(alloc, &mut self.entries, target, path))
+        judge_link(&self.entries, path)?;
+        or_refused(link(&mut self.entries, target, path))
     }
 
     /// Takes a file or a link away.
@@ -101,7 +95,7 @@ impl Tree {
         ensures done { OnOk result (IsDone self.old (call.Remove path.now) self.new) }
         ensures refused { IfErr result (IsRefused self.old (call.Remove path.now) self.new) }
     {
-        judge_remove(self.entries.as_slice(), path)?;
+        judge_remove(&self.entries, path)?;
         remove_file(&mut self.entries, path);
         Ok(())
     }
@@ -111,7 +105,7 @@ impl Tree {
         ensures done { OnOk result (IsDone self.old (call.RemoveDirectory path.now) self.new) }
         ensures refused { IfErr result (IsRefused self.old (call.RemoveDirectory path.now) self.new) }
     {
-        judge_remove_directory(self.entries.as_slice(), path)?;
+        judge_remove_directory(&self.entries, path)?;
         remove_directory(&mut self.entries, path);
         Ok(())
     }
@@ -121,7 +115,7 @@ impl Tree {
         ensures done { OnOk result (IsDone self.old (call.ChangeMode mode path.now) self.new) }
         ensures refused { IfErr result (IsRefused self.old (call.ChangeMode mode path.now) self.new) }
     {
-        judge_change_mode(self.entries.as_slice(), path)?;
+        judge_change_mode(&self.entries, path)?;
         change_mode(&mut self.entries, path, mode);
         Ok(())
     }

@@ -1,0 +1,78 @@
+//! The places of paths: each path at which something was ever made has one, by the order of the first making.
+//!
+//! A path is found from the root on, by two look-ups for each of its parts, so in time of its length.
+
+use indexmap::IndexSet;
+use init_base::NoMemory;
+use std::alloc::Global;
+use std::marker::Model;
+use text_index::TextIndex;
+
+/// How a path is reached: from the place of its parent, by its last part. The root has no parent, and no part: its
+/// number stands for nothing.
+#[derive(Clone, Copy, PartialEq, Eq, Hash)]
+struct Step {
+    parent: Option<usize>,
+    name: usize,
+}
+
+/// Paths that differ, each behind its parent. The root is the first.
+#[derive(Drop)]
+pub struct Places {
+    names: TextIndex,
+    steps: IndexSet<Step>,
+}
+
+impl Model for Places {
+    ghost use Rattle.std.specs.Prelude.{ℕ, List};
+
+    ghost Value = { List (List (List ℕ)) };
+
+    ghost use Rattle.model_fs.specs.Steps.{paths_of, IsNumbered};
+
+    ghost view = { λ places. paths_of places.names places.steps.keys };
+
+    ghost invariant = { λ places. IsNumbered places.names places.steps.keys };
+}
+
+impl Places {
+    ghost use Rattle.std.specs.Prelude.{◌≡◌, ◌<◌, ℕ, List as Items, [], ◌∷◌, ◌++◌, length, Some, None, OnOk, OnErr, IfOk};
+    ghost use Rattle.model_fs.specs.Steps.{place_of, with_path, AreDistinct};
+
+    /// The place of the root alone.
+    pub fn new(alloc: Global) -> Result<Places, NoMemory>
+        ensures { IfOk result (λ places. places ≡ [] ∷ []) }
+    {
+        let names = TextIndex::new(alloc);
+        let mut steps = IndexSet::new(alloc);
+        steps.insert(Step {
+            parent: None,
+            name: 0,
+        })?;
+        Ok(Places { names, steps })
+    }
+
+    /// The place of the path that is a part behind the path of a place. A path behind one that has no place has none.
+    pub fn child(&self, parent: Option<usize>, part: &[u8]) -> Option<usize>
+        ensures place { (front : Items (Items ℕ)) → place_of self.now front ≡ parent → result ≡ place_of self.now (front ++ part.now ∷ []) }
+        ensures none { parent ≡ None → result ≡ None }
+    {
+        let (names, steps) = (&self.names, &self.steps);
+        let parent = Some(parent?);
+        let name = names.place(part)?;
+        steps.get_index_of(&Step { parent, name })
+    }
+    /// Gives a place to the path that is a part behind the path of a place, unless it has one, and answers its place.
+    pub fn add(&mut self, parent: usize, part: &[u8]) -> Result<usize, NoMemory>
+        requires { parent < length self.old }
+        ensures paths { OnOk result ((front : Items (Items ℕ)) → place_of self.old front ≡ Some parent → self.new ≡ with_path self.old (front ++ part.now ∷ [])) }
+        ensures place { IfOk result (λ place. (front : Items (Items ℕ)) → place_of self.old front ≡ Some parent → place_of self.new (front ++ part.now ∷ []) ≡ Some place) }
+        ensures err { OnErr result (self.new ≡ self.old) }
+        ensures distinct { OnOk result (AreDistinct self.new) }
+    {
+        let name = self.names.add(part)?;
+        let parent = Some(parent);
+        let (place, _) = self.steps.insert_full(Step { parent, name })?;
+        Ok(place)
+    }
+}
