@@ -1,2 +1,5 @@
-pub mod Lists
+pub mod Answered
+pub mod Entries
+pub mod Listed
+pub mod Pids
 pub mod PlanPlaces

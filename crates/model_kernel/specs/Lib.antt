@@ -1,2 +1,3 @@
 pub mod Kernel
+pub mod Living
 pub mod Parts

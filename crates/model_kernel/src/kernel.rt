@@ -1,5 +1,6 @@
 //! The kernel.
 
+use crate::living::Living;
 use crate::plans::Plans;
 use crate::process::Process;
 use crate::reaped::Reaped;
@@ -21,7 +22,7 @@ pub struct Kernel {
     plans: Plans,
     clock: u64,
     next_pid: u32,
-    processes: Vec<Process>,
+    living: Living,
 }
 
 impl Model for Kernel {
@@ -31,11 +32,11 @@ impl Model for Kernel {
 
     ghost Value = { KernelView };
 
-    ghost use Rattle.model_kernel.specs.Parts.{processes_of};
+    ghost use Rattle.model_kernel.specs.Living.{AreBelow};
 
-    ghost view = { λ k. record { plans = k.plans; kernel = record { clock = k.clock; next_pid = k.next_pid; processes = processes_of k.processes.items } } };
+    ghost view = { λ k. record { plans = k.plans; kernel = record { clock = k.clock; next_pid = k.next_pid; processes = k.living } } };
 
-    ghost invariant = { λ k. k.clock ≤ last_time };
+    ghost invariant = { λ k. (k.clock ≤ last_time) × AreBelow k.next_pid k.living };
 }
 
 impl Kernel {
@@ -54,7 +55,7 @@ impl Kernel {
             plans: Plans::new(alloc, plans)?,
             clock: 0,
             next_pid: first,
-            processes: Vec::new(alloc),
+            living: Living::new(alloc),
         })
     }
 
@@ -73,14 +74,13 @@ impl Kernel {
             return Err(SpawnRefusal::NoPid);
         }
         let pid = self.next_pid;
-        let alloc = *self.processes.allocator();
         let process = Process {
             pid,
             name: name.share()?,
             end: self.plans.end(self.clock, path),
             killed: false,
         };
-        push(&mut self.processes, process)?;
+        self.living.push(process)?;
         self.next_pid += 1;
         Ok(Pid(pid))
     }
@@ -89,7 +89,7 @@ impl Kernel {
     pub fn kill(&mut self, pid: Pid)
         ensures { self.new ≡ killed self.old pid }
     {
-        kill_all(self.processes.as_mut_slice(), pid.0);
+        self.living.kill(pid.0);
     }
 
     /// Takes away the process of a name with the least pid. None exactly where there is none.
@@ -97,8 +97,8 @@ impl Kernel {
         ensures pid { result ≡ exiting self.old name.now }
         ensures kernel { self.new ≡ exited self.old name.now }
     {
-        let pid = first_named(self.processes.as_slice(), name)?;
-        remove_pid(&mut self.processes, pid);
+        let pid = self.living.first_named(name)?;
+        self.living.remove(pid as usize);
         Some(Pid(pid))
     }
 
@@ -118,8 +118,9 @@ impl Kernel {
             return Err(TickRefusal::TooFar);
         }
         let now = self.clock + ms;
-        let reaped = reaped_at(alloc, self.processes.as_slice(), now)?;
-        remove_ended(&mut self.processes, now);
+        let ended = self.living.ended(alloc, now)?;
+        let reaped = told(alloc, &self.living, ended.items())?;
+        bury(&mut self.living, ended.items());
         self.clock = now;
         Ok(reaped)
     }
@@ -132,61 +133,28 @@ impl Kernel {
     }
 }
 
-ghost use Rattle.std.specs.Prelude.{◌≡◌, ◌==◌, ◌++◌, ◌∷◌, [], IfOk, OnOk, OnErr, filter, find, map, not};
-ghost use Rattle.std.specs.Option.{option_map};
-ghost use Rattle.std.specs.Str.{bytes_eq};
-ghost use Rattle.init_machine.specs.Kernel.{has_ended, marked};
+ghost use Rattle.std.specs.Prelude.{◌≡◌, IfOk, fold, map};
 ghost use Rattle.model_kernel.specs.Kernel.{reaped_of};
-ghost use Rattle.model_kernel.specs.Parts.{processes_of};
+ghost use Rattle.model_kernel.specs.Living.{found, without_pid};
 
-/// Marks the process with a pid as killed.
-fn kill_all(processes: &mut [Process], pid: u32)
-    ensures { processes_of processes.new ≡ map (marked pid) (processes_of processes.old) }
-{
-    for process in processes.iter_mut() {
-        process.killed |= process.pid == pid;
-    }
-}
-
-fn push(processes: &mut Vec<Process>, process: Process) -> Result<(), NoMemory>
-    ensures ok { OnOk result (processes.new.items ≡ processes.old.items ++ process ∷ []) }
-    ensures err { OnErr result (processes.new.items ≡ processes.old.items) }
-{
-    processes.push(process)?;
-    Ok(())
-}
-
-fn remove_pid(processes: &mut Vec<Process>, pid: u32)
-    ensures { processes_of processes.new.items ≡ filter (λ p. not (p.pid == pid)) (processes_of processes.old.items) }
-{
-    processes.retain(|process| process.pid != pid);
-}
-
-fn remove_ended(processes: &mut Vec<Process>, now: u64)
-    ensures { processes_of processes.new.items ≡ filter (λ p. not (has_ended now p)) (processes_of processes.old.items) }
-{
-    processes.retain(|process| !process.has_ended(now));
-}
-
-fn first_named(processes: &[Process], name: &[u8]) -> Option<u32>
-    ensures { result ≡ option_map (λ p. p.pid) (find (λ p. bytes_eq p.name name.now) (processes_of processes.now)) }
-{
-    for process in processes {
-        if process.name.is(name) {
-            return Some(process.pid);
-        }
-    }
-    None
-}
-
-fn reaped_at(alloc: Global, processes: &[Process], now: u64) -> Result<List<Reaped>, NoMemory>
-    ensures { IfOk result (λ reaped. reaped ≡ map reaped_of (filter (has_ended now) (processes_of processes.now))) }
+/// What is told of the processes of these pids.
+fn told(alloc: Global, living: &Living, pids: &[usize]) -> Result<List<Reaped>, NoMemory>
+    ensures { IfOk result (λ reaped. reaped ≡ map reaped_of (found living.now pids.now)) }
 {
     let mut reaped = List::new(alloc);
-    for process in processes {
-        if process.has_ended(now) {
+    for pid in pids {
+        if let Some(process) = living.get(*pid) {
             reaped.push(process.reaped(alloc)?)?;
         }
     }
     Ok(reaped)
+}
+
+/// Takes the processes of these pids away.
+fn bury(living: &mut Living, pids: &[usize])
+    ensures { living.new ≡ fold without_pid living.old pids.now }
+{
+    for pid in pids {
+        living.remove(*pid);
+    }
 }

@@ -6,6 +6,7 @@
 #![tactic(auto)]
 
 mod kernel;
+mod living;
 mod plans;
 mod process;
 mod reaped;

@@ -28,24 +28,32 @@ fn assert_reaped(rt: &impl Abort, reaped: &List<Reaped>, at: usize, pid: u32, ho
 }
 
 #[test]
-fn calls_succeed(rt: HostRuntime) -> Result<(), Fail> {
+fn process_ends_as_planned(rt: HostRuntime) -> Result<(), Fail> {
     let alloc = rt.alloc();
     let mut plans = List::new(alloc);
     plans.push(plan(alloc, b"/bin/x")?)?;
     let mut kernel = Kernel::new(alloc, 100, plans)?;
-    let (a, b) = (Text::of(alloc, b"a")?, Text::of(alloc, b"b")?);
-    assert!(rt; kernel.spawn(&a, b"/bin/x")? == Pid(100));
-    assert!(rt; kernel.spawn(&b, b"/bin/y")? == Pid(101));
-    assert!(rt; kernel.spawn(&b, b"/bin/x")? == Pid(102));
+    let name = Text::of(alloc, b"a")?;
+    assert!(rt; kernel.spawn(&name, b"/bin/x")? == Pid(100));
     assert!(rt; kernel.tick(alloc, 9)?.is_empty());
-    kernel.kill(Pid(102));
     let reaped = kernel.tick(alloc, 1)?;
-    assert_eq!(rt; reaped.len(), 2);
     assert_reaped(&rt, &reaped, 0, 100, How::Exit(3));
-    assert_reaped(&rt, &reaped, 1, 102, How::Killed);
-    assert!(rt; kernel.exit(b"b") == Some(Pid(101)));
-    assert!(rt; kernel.exit(b"b") == None);
     assert!(rt; kernel.now() == Millis(10));
+    Ok(())
+}
+
+#[test]
+fn processes_are_killed_and_exit(rt: HostRuntime) -> Result<(), Fail> {
+    let alloc = rt.alloc();
+    let mut kernel = Kernel::new(alloc, 100, List::new(alloc))?;
+    let name = Text::of(alloc, b"a")?;
+    assert!(rt; kernel.spawn(&name, b"/x")? == Pid(100));
+    assert!(rt; kernel.spawn(&name, b"/x")? == Pid(101));
+    kernel.kill(Pid(101));
+    let reaped = kernel.tick(alloc, 0)?;
+    assert_reaped(&rt, &reaped, 0, 101, How::Killed);
+    assert!(rt; kernel.exit(b"a") == Some(Pid(100)));
+    assert!(rt; kernel.exit(b"a") == None);
     Ok(())
 }
 
