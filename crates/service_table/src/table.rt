@@ -1,6 +1,6 @@
 //! The table.
 
-use crate::class::places_of;
+use crate::class::{Classes, copied, index_classes};
 use crate::fresh::{first_marks, index_names};
 use init_base::{List, NoMemory};
 use init_machine::{Marks, ServiceDef};
@@ -14,6 +14,7 @@ pub struct Table {
     defs: List<ServiceDef>,
     marks: Vec<Marks>,
     names: TextIndex,
+    classes: Classes,
 }
 
 impl Model for Table {
@@ -22,11 +23,12 @@ impl Model for Table {
     ghost Value = { TableView };
 
     ghost use Rattle.std.specs.Prelude.{◌≡◌, length};
+    ghost use Rattle.service_table.specs.Classes.{AreClasses};
     ghost use Rattle.service_table.specs.Table.{names_of};
 
     ghost view = { λ table. record { defs = table.defs; marks = table.marks.items } };
 
-    ghost invariant = { λ table. (table.names ≡ names_of table.defs) × (length table.marks.items ≡ length table.defs) };
+    ghost invariant = { λ table. (table.names ≡ names_of table.defs) × (length table.marks.items ≡ length table.defs) × AreClasses table.defs table.classes };
 }
 
 impl Table {
@@ -41,7 +43,13 @@ impl Table {
     {
         let names = index_names(alloc, defs.items())?;
         let marks = first_marks(alloc, defs.items())?;
-        Ok(Table { defs, marks, names })
+        let classes = index_classes(alloc, defs.items())?;
+        Ok(Table {
+            defs,
+            marks,
+            names,
+            classes,
+        })
     }
 
     /// The number of services.
@@ -63,7 +71,7 @@ impl Table {
     pub fn of_class(&self, alloc: Global, class: &[u8]) -> Result<List<usize>, NoMemory>
         ensures { IfOk result (λ places. places ≡ places_of_class self.now class.now) }
     {
-        places_of(alloc, self.defs.items(), class)
+        copied(alloc, self.classes.find(class))
     }
 
     /// The marks of the service at a place.
