@@ -133,38 +133,58 @@ fn take(
     Ok(())
 }
 
-#[test]
-fn boots_and_restarts(rt: HostRuntime) -> Result<(), Fail> {
-    let alloc = rt.alloc();
-    let policy = Policy::read(alloc, b"* default_prop\n", b"allow shell default_prop\n")?;
-    let store = ListStore::new(alloc, 1_000_000)?;
-    let mut core = Core::new(alloc, config(alloc)?, policy, store)?;
+fn boots(rt: &impl Abort, core: &mut Core<ListStore>) -> Result<(), Fail> {
+    take(rt, core, Input::Boot, 1)?;
+    assert_put(rt, core.outputs(), 0, 1, (b"true", b"true"));
+    take(rt, core, Input::Next, 6)?;
+    assert_spawn(rt, core.outputs(), 3, 100);
+    assert_put(rt, core.outputs(), 4, 2, (b"init.svc.d", b"running"));
+    Ok(())
+}
 
-    take(&rt, &mut core, Input::Boot, 1)?;
-    assert_put(&rt, core.outputs(), 0, 1, (b"true", b"true"));
-    take(&rt, &mut core, Input::Next, 6)?;
-    assert_spawn(&rt, core.outputs(), 3, 100);
-    assert_put(&rt, core.outputs(), 4, 2, (b"init.svc.d", b"running"));
-
-    take(&rt, &mut core, Input::Tick { ms: 200 }, 2)?;
+/// The process exits as planned, and the service is restarted five seconds after its start.
+fn restarts(rt: &impl Abort, core: &mut Core<ListStore>) -> Result<(), Fail> {
+    take(rt, core, Input::Tick { ms: 200 }, 2)?;
     match core.outputs().at(0) {
         Some(Output::Reap { how, .. }) => assert!(rt; *how == How::Exit(0)),
         _ => assert!(rt; false),
     }
-    assert_put(&rt, core.outputs(), 1, 3, (b"init.svc.d", b"restarting"));
-    take(&rt, &mut core, Input::Tick { ms: 4799 }, 0)?;
-    take(&rt, &mut core, Input::Tick { ms: 1 }, 2)?;
-    assert_spawn(&rt, core.outputs(), 0, 101);
-    assert_put(&rt, core.outputs(), 1, 4, (b"init.svc.d", b"running"));
+    assert_put(rt, core.outputs(), 1, 3, (b"init.svc.d", b"restarting"));
+    take(rt, core, Input::Tick { ms: 4799 }, 0)?;
+    take(rt, core, Input::Tick { ms: 1 }, 2)?;
+    assert_spawn(rt, core.outputs(), 0, 101);
+    assert_put(rt, core.outputs(), 1, 4, (b"init.svc.d", b"running"));
+    Ok(())
+}
 
+fn takes_sets(rt: &impl Abort, alloc: Global, core: &mut Core<ListStore>) -> Result<(), Fail> {
     let set = Input::Set {
         who: ClientId(1),
         name: Text::of(alloc, b"x")?,
         value: Text::of(alloc, b"1")?,
     };
-    take(&rt, &mut core, set, 2)?;
-    assert_put(&rt, core.outputs(), 0, 5, (b"x", b"1"));
-    assert!(rt; !core.saving());
-    assert!(rt; core.saved().is_empty());
+    take(rt, core, set, 2)?;
+    assert_put(rt, core.outputs(), 0, 5, (b"x", b"1"));
+    assert!(rt; !core.saving() && core.saved().is_empty());
     Ok(())
+}
+
+fn core(alloc: Global) -> Result<Core<ListStore>, Fail> {
+    let config = config(alloc)?;
+    let policy = Policy::read(alloc, b"* default_prop\n", b"allow shell default_prop\n")?;
+    let store = ListStore::new(alloc, 1_000_000)?;
+    Ok(Core::new(alloc, config, policy, store)?)
+}
+
+fn run_all(rt: &impl Abort, alloc: Global, core: &mut Core<ListStore>) -> Result<(), Fail> {
+    boots(rt, core)?;
+    restarts(rt, core)?;
+    takes_sets(rt, alloc, core)
+}
+
+#[test]
+fn boots_and_restarts(rt: HostRuntime) -> Result<(), Fail> {
+    let alloc = rt.alloc();
+    let mut core = core(alloc)?;
+    run_all(&rt, alloc, &mut core)
 }
