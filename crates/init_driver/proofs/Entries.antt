@@ -1,18 +1,17 @@
 -- One input: the core takes it, the keeper is given its text, and its entry is printed.
-use Rattle.std.proofs.Common.{◌≡◌, ℕ, Bool, true, false, IsTrue, if◌then◌else◌, List, [], ◌∷◌, ◌++◌, Option, Result, Ok, Err, append-nil, append_assoc, refl, sym, ap, ◌∙◌, subst}
+use Rattle.std.proofs.Common.{◌≡◌, ℕ, Bool, true, false, IsTrue, if◌then◌else◌, List, [], ◌∷◌, ◌++◌, Option, Result, Ok, Err, append-nil, refl, sym, ap, ◌∙◌, subst}
 use Rattle.std.specs.Result.{OnOk}
 use Rattle.std.specs.Io.KnownBytes.{append_known}
 use Rattle.std.proofs.lemmas.Bool.{false≢true}
 use Rattle.init_core.specs.Core.{step_of}
-use Rattle.init_machine.specs.Changes.{Change, change}
-use Rattle.init_machine.specs.State.{State}
+use Rattle.init_machine.specs.Changes.{change}
 use Rattle.init_machine.specs.declared.input.Input.{Input}
 use Rattle.init_machine.specs.declared.output.Output.{Output}
 use Rattle.init_machine.specs.declared.report.Entry.{Entry}
 use Rattle.init_trace.specs.Report.{EntriesText, EntryText}
 use Rattle.init_trace.specs.Written.{Added, TakesFront}
 use Rattle.init_trace.proofs.Adding.{added_nothing, added_then}
-use Rattle.init_driver.specs.Course.{Leads, Place, Prints, Saves, Stops, Takes, Unprinted, Unsaved, Untaken, place_of}
+use Rattle.init_driver.specs.Course.{Leads, Place, Prints, Saves, Takes, Unprinted, Unsaved, Untaken, place_of}
 use Rattle.init_driver.specs.Run.{sink_failed}
 use Rattle.init_driver.specs.Stored.{given_at, has_stored, Keeps}
 use Rattle.init_driver.specs.declared.refusal.DriveRefusal.{DriveRefusal}

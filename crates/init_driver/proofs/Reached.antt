@@ -6,7 +6,7 @@ use Rattle.init_machine.specs.Changes.{Change}
 use Rattle.init_machine.specs.History.{after, after_from, inputs_of}
 use Rattle.init_machine.specs.Pairs.{is_before}
 use Rattle.init_machine.specs.Policy.{PolicyLines}
-use Rattle.init_machine.specs.State.{Opening, State, first_state}
+use Rattle.init_machine.specs.State.{State, first_state}
 use Rattle.init_machine.specs.Step.{step}
 use Rattle.init_machine.specs.WellFormed.{ascend, IsWellFormed}
 use Rattle.init_machine.specs.declared.config.Config.{Config}
@@ -20,7 +20,6 @@ use Rattle.init_machine.specs.declared.report.Entry.{Entry}
 use Rattle.init_machine.specs.declared.report.Reading.{Reading}
 use Rattle.init_machine.specs.declared.report.Report.{Report}
 use Rattle.machine_laws.specs.Histories.{history_from, history_of}
-use Rattle.machine_laws.specs.Saved.{can_be_printed}
 use Rattle.machine_laws.proofs.Legal.{history_is_legal, inputs_of_history, same_after, same_step}
 use Rattle.machine_laws.proofs.Stored.{stores_while_saving}
 use Rattle.machine_laws.proofs.Printable.{saved_pairs_print, saved_pairs_ascend}

@@ -1,7 +1,6 @@
 -- The answers of a printer, as those of a run.
-use Rattle.std.proofs.Common.{◌≡◌, ℕ, Bool, false, List, [], ◌++◌, Option, Result, Ok, Err, append-nil, append_assoc, refl, sym, ap, ◌∙◌, subst}
+use Rattle.std.proofs.Common.{◌≡◌, ℕ, false, List, [], ◌++◌, Option, Result, Ok, Err, append_assoc, refl, sym, ap, ◌∙◌, subst}
 use Rattle.std.specs.Result.{OnOk}
-use Rattle.std.specs.Io.KnownBytes.{append_known}
 use Rattle.init_base.specs.Faults.{Counted, write_failed}
 use Rattle.init_base.specs.declared.outside.refusal.IoRefusal.{IoRefusal}
 use Rattle.init_base.specs.declared.outside.refusal.IoRefusal.TheVariants as io

@@ -1,17 +1,15 @@
 -- The text of a report: its head, the entries that were taken, and its tail.
-use Rattle.std.proofs.Common.{◌≡◌, ℕ, List, [], ◌∷◌, ◌++◌, Option, Result, Ok, Err, append-nil, append_assoc, refl, sym, ap, ◌∙◌, subst}
+use Rattle.std.proofs.Common.{◌≡◌, ℕ, List, [], ◌∷◌, ◌++◌, Option, Result, Ok, Err, append-nil, append_assoc, sym, ap, ◌∙◌, subst}
 use Rattle.std.proofs.lemmas.List.Concat.{flat_map-append}
 use Rattle.std.specs.Io.KnownBytes.{append_known}
-use Rattle.init_machine.specs.declared.diagnostic.Diagnostic.{Diagnostic}
 use Rattle.init_machine.specs.declared.input.Input.{Input}
-use Rattle.init_machine.specs.declared.report.Entry.{Entry}
 use Rattle.init_machine.specs.declared.report.Report.{Report}
 use Rattle.init_trace.specs.Report.{EntriesText, EntryText, HeadText, TailText, TextOf}
 use Rattle.init_trace.specs.Written.{Added, TakesFront}
-use Rattle.init_trace.proofs.Adding.{added_then, front_of_more, front_then, taken_then}
+use Rattle.init_trace.proofs.Adding.{front_of_more, front_then, taken_then}
 use Rattle.init_trace.proofs.Texts.{text_parts}
 use Rattle.init_driver.specs.Course.{entries_at, Leads, Place, Prints, Unprinted, Untaken}
-use Rattle.init_driver.specs.Run.{WritesBefore, WritesPart, WritesReport}
+use Rattle.init_driver.specs.Run.{WritesPart, WritesReport}
 use Rattle.init_driver.specs.declared.refusal.DriveRefusal.{DriveRefusal}
 use Rattle.init_driver.specs.declared.refusal.DriveRefusal.TheVariants as refusal
 use Rattle.init_driver.proofs.Sinks.{prints_then}

@@ -1,5 +1,5 @@
 -- What acts tell the clients, one act after another.
-use Rattle.std.proofs.Common.{◌≡◌, ℕ, zero, suc, ◌+◌, ◌-◌, ◌<◌, ◌≤◌, ◌==◌, Bool, true, false, if◌then◌else◌, List, [], ◌∷◌, ◌++◌, length, map, Option, Some, None, Result, Ok, Err, append-nil, append_assoc, refl, sym, ap, ◌∙◌, subst, arith, get_or, drop, eq-eqb}
+use Rattle.std.proofs.Common.{◌≡◌, ℕ, zero, suc, ◌+◌, ◌-◌, ◌<◌, ◌≤◌, ◌==◌, Bool, true, false, if◌then◌else◌, List, [], ◌∷◌, ◌++◌, length, Some, None, Result, Ok, Err, append-nil, append_assoc, refl, sym, ap, ◌∙◌, arith, get_or, drop, eq-eqb}
 use Rattle.std.proofs.lemmas.List.{at_drop_more}
 use Rattle.std.specs.Result.{OnOk}
 use Rattle.std.proofs.Math.ListN.{set}

@@ -1,5 +1,5 @@
 -- The course of a run: what stands between two inputs. No promise of the crate cites these definitions.
-use Rattle.std.specs.Prelude.{◌≡◌, ℕ, ◌+◌, ⊤, IsTrue, List, [], ◌∷◌, ◌++◌, Option, Result, Ok, Err}
+use Rattle.std.specs.Prelude.{◌≡◌, ℕ, ◌+◌, IsTrue, List, [], ◌∷◌, ◌++◌, Option, Result, Ok, Err}
 use Rattle.std.specs.Io.KnownBytes.{append_known}
 use Rattle.init_base.specs.declared.outside.refusal.IoRefusal.{IoRefusal}
 use Rattle.init_base.specs.declared.outside.refusal.IoRefusal.TheVariants as io
@@ -17,7 +17,6 @@ use Rattle.init_machine.specs.declared.report.Entry.{Entry}
 use Rattle.init_trace.specs.Report.{EntriesText}
 use Rattle.init_trace.specs.Written.{Added, TakesFront}
 use Rattle.machine_laws.specs.Histories.{history_from}
-use Rattle.script_lang.specs.Inputs.{act_inputs}
 use Rattle.script_lang.specs.declared.script.Act.{Act}
 use Rattle.init_driver.specs.Readings.{readings_from, told_by}
 use Rattle.init_driver.specs.Stored.{given_at, given_from, has_stored, Keeps}

@@ -1,5 +1,5 @@
 -- A run of a script on one thread: the report that it writes, and what stands where it ends early.
-use Rattle.std.specs.Prelude.{◌≡◌, ℕ, ⊤, Bool, true, false, IsTrue, All, List, [], ◌∷◌, ◌++◌, length, Option, Result, Ok, Err}
+use Rattle.std.specs.Prelude.{◌≡◌, ℕ, Bool, true, false, IsTrue, All, List, [], ◌∷◌, ◌++◌, length, Option, Result, Ok, Err}
 use Rattle.std.specs.Io.KnownBytes.{append_known}
 use Rattle.init_machine.specs.History.{after_from}
 use Rattle.init_machine.specs.Policy.{PolicyLines}

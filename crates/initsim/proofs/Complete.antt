@@ -1,6 +1,6 @@
 -- What can be done is refused by a fault alone, or for want of memory.
-use Rattle.std.proofs.Common.{◌≡◌, ℕ, ◌<◌, ◌≤◌, Bool, true, false, List, [], length, Option, Some, None, Result, Ok, Err, refl, sym, subst, ap, inl, inr, ◌∙◌}
-use Rattle.std.specs.Prelude.{IfSome, IsSomeAnd}
+use Rattle.std.proofs.Common.{◌≡◌, ℕ, ◌<◌, ◌≤◌, Bool, true, false, List, length, Option, Some, None, Result, Ok, Err, ap, inl, inr}
+use Rattle.std.specs.Prelude.{IfSome}
 use native.Mathlib.Omega.{arith}
 use Rattle.init_base.specs.Tree.{file_at}
 use Rattle.init_machine.specs.Policy.{PolicyLines}
@@ -19,11 +19,11 @@ use Rattle.rc_import.specs.declared.loaded.LoadRefusal.TheVariants.{NoInit}
 use Rattle.script_lang.proofs.OneReading.{script_or_line, within_no_limit}
 use Rattle.initsim.specs.Check.{IsCheckStatus}
 use Rattle.initsim.specs.Counts.{AreCounted, Counts, IsDoneUnlessRisen}
-use Rattle.initsim.specs.Policy.{HasPolicy, IsBadLine}
+use Rattle.initsim.specs.Policy.{IsBadLine}
 use Rattle.initsim.specs.Prepared.{IsRunStatus}
 use Rattle.initsim.specs.Script.{HasScript, ScriptLimitSays, ScriptSays}
 use Rattle.initsim.specs.Store.{HasStore, StoreSays}
-use Rattle.initsim.specs.Texts.{AreShort, IsOneLong, Tree, allow_text, contexts_text}
+use Rattle.initsim.specs.Texts.{AreShort, IsOneLong, allow_text, contexts_text}
 use Rattle.initsim.specs.Top.{CanBeDone}
 use Rattle.initsim.specs.Tree.{HasNoRoot, IsBadPolicyFor, IsFitFor, IsPolicyTooLargeFor, IsTreeTooLarge, TreeSays}
 use Rattle.initsim.specs.declared.status.Status.{Status}

@@ -1,5 +1,5 @@
 -- What a job that was run says and leaves, and what a stop does.
-use Rattle.std.proofs.Common.{◌≡◌, ℕ, ◌+◌, ◌-◌, ◌^◌, ◌≤◌, min, List, [], Option, Some, None, refl, sym, subst, inl, inr, ap, ◌∙◌}
+use Rattle.std.proofs.Common.{◌≡◌, ℕ, List, [], Option, Some, refl, subst, inl, inr, ap}
 use native.Mathlib.Omega.{arith}
 use Rattle.init_base.specs.Faults.{Rose}
 use Rattle.init_driver.specs.Stored.{Keeps}

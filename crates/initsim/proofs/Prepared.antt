@@ -1,5 +1,5 @@
 -- What is prepared of a run.
-use Rattle.std.proofs.Common.{◌≡◌, ℕ, Bool, List, Option, Some, None, Result, Ok, Err, refl, sym, subst, inl, inr, ap, ◌∙◌}
+use Rattle.std.proofs.Common.{◌≡◌, ℕ, List, refl, sym, subst, inr, ◌∙◌}
 use Rattle.init_base.specs.Faults.{Counted}
 use Rattle.init_machine.specs.declared.config.Pair.{Pair}
 use Rattle.rc_import.specs.World.{World}

@@ -1,7 +1,6 @@
 -- Reading the texts of a tree that aren't rc files.
-use Rattle.std.proofs.Common.{◌≡◌, ℕ, ◌+◌, ◌<◌, ◌≤◌, ◌⊎◌, List, [], ◌++◌, length, Option, Some, None, Result, Ok, Err, Bool, true, false, refl, sym, subst, inl, inr, ap, ◌∙◌}
+use Rattle.std.proofs.Common.{◌≡◌, ℕ, ◌+◌, ◌<◌, ◌≤◌, ◌⊎◌, List, ◌++◌, length, Option, Some, None, Ok, Err, true, false, refl, sym, subst, inl, inr, ◌∙◌}
 use Rattle.std.specs.Prelude.{IfSome, IsSomeAnd}
-use native.Mathlib.Omega.{arith}
 use Rattle.init_base.specs.Outside.{ReadsFile}
 use Rattle.init_base.specs.Tree.{file_at}
 use Rattle.init_base.specs.declared.outside.refusal.ReadRefusal.{ReadRefusal}
@@ -16,10 +15,9 @@ use Rattle.prop_contexts.specs.declared.refusal.PolicyRefusal.{PolicyRefusal}
 use Rattle.prop_contexts.specs.declared.refusal.PolicyRefusal.TheVariants as policy
 use Rattle.rc_import.specs.World.{World}
 use Rattle.initsim.specs.Check.{IsCheckStatus}
-use Rattle.initsim.specs.Policy.{IsPolicyOf}
 use Rattle.initsim.specs.Stops.{AreBuildFiles, GivesBuildFile, GivesBuildFiles, GivesPolicy, GivesText, IsOfTree, policy_stop, reading_stop, status_of}
 use Rattle.initsim.specs.Texts.{Tree, allow_text, build_text, bytes_or, contexts_text, system_path, vendor_path}
-use Rattle.initsim.specs.Tree.{IsTreeTooLarge, TreeLimitSays, TreeSays}
+use Rattle.initsim.specs.Tree.{IsTreeTooLarge, TreeLimitSays}
 use Rattle.initsim.specs.declared.stop.Stop.{Stop}
 use Rattle.initsim.specs.declared.stop.Stop.TheVariants as stop
 use Rattle.initsim.specs.declared.words.Form.TheVariants.{Run}

@@ -1,7 +1,7 @@
 -- What the readers give makes a well-formed configuration.
-use Rattle.std.proofs.Common.{◌≡◌, ◌≢◌, ℕ, zero, suc, ◌<◌, ◌≤◌, Bool, true, false, not, ◌&&◌, ◌||◌, List, [], ◌∷◌, length, map, All, AllPairs, refl, sym, subst, ap, ◌∙◌}
+use Rattle.std.proofs.Common.{◌≡◌, ◌≢◌, ℕ, suc, ◌≤◌, Bool, true, false, not, ◌&&◌, ◌||◌, List, [], ◌∷◌, length, map, All, AllPairs, refl, sym, subst, ap, ◌∙◌}
 use Rattle.std.specs.Prelude.{IsTrue, nat_le}
-use Rattle.std.specs.List.{AllPass, list_all, list_any}
+use Rattle.std.specs.List.{list_all, list_any}
 use Rattle.std.specs.Str.{bytes_eq}
 use Rattle.std.proofs.lemmas.Bool.{le-leb}
 use Rattle.std.proofs.lemmas.List.Sums.{list_all-from_AllPass}
@@ -10,7 +10,6 @@ use native.Mathlib.Omega.{arith}
 use Rattle.init_machine.specs.Pairs.{is_before}
 use Rattle.init_machine.specs.Setting.{is_persistent}
 use Rattle.init_machine.specs.WellFormed.{IsWellFormed, are_distinct, ascend, is_well_formed_action, is_well_formed_plan, is_well_formed_service}
-use Rattle.init_machine.specs.declared.config.Config.{Config}
 use Rattle.init_machine.specs.declared.config.Pair.{Pair}
 use Rattle.init_machine.specs.declared.config.Plan.{Plan}
 use Rattle.persist_file.specs.Store.{are_saved, is_saved, names_ascend}

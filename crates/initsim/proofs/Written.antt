@@ -1,9 +1,8 @@
 -- What is written of a check and of a run.
-use Rattle.std.proofs.Common.{◌≡◌, ℕ, List, Option, Some, None, refl, sym, subst, inl, inr}
+use Rattle.std.proofs.Common.{ℕ, List, Option, refl, inr}
 use Rattle.init_machine.specs.declared.config.Config.{Config}
 use Rattle.init_machine.specs.declared.diagnostic.Diagnostic.{Diagnostic}
 use Rattle.init_trace.specs.Report.{DiagnosticsText}
-use Rattle.init_trace.specs.Written.{TakesFront}
 use Rattle.rc_import.specs.World.{World}
 use Rattle.initsim.specs.Check.{CheckWrites, IsCheckText}
 use Rattle.initsim.specs.Prepared.{WritesDiagnostics}

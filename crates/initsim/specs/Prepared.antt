@@ -10,7 +10,6 @@ use Rattle.init_machine.specs.declared.diagnostic.Diagnostic.{Diagnostic}
 use Rattle.init_trace.specs.Report.{DiagnosticsText}
 use Rattle.init_trace.specs.Written.{TakesFront}
 use Rattle.rc_import.specs.World.{World}
-use Rattle.rc_import.specs.declared.loaded.Loaded.{Loaded}
 use Rattle.script_lang.specs.Laws.{MeetsConditions}
 use Rattle.script_lang.specs.Script.{IsScript}
 use Rattle.script_lang.specs.declared.script.Script.{Script}

@@ -1,7 +1,6 @@
 -- The events of a boot, one after another.
 use Rattle.std.proofs.Common.{◌≡◌, ◌++◌, ℕ, Bool, true, List, [], ◌∷◌, append_assoc, ap, ◌∙◌, codes}
 use Rattle.action_queue.specs.Queue.{QueueView}
-use Rattle.init_machine.specs.declared.event.Event.{Event}
 use Rattle.init_machine.specs.declared.event.Event.TheVariants.{Named, Mark}
 use Rattle.machine_parts.specs.Schedule.{ScheduleView, booted, with_event}
 

@@ -1,12 +1,11 @@
 -- What calls do, one after another.
-use Rattle.std.proofs.Common.{◌≡◌, ◌++◌, ℕ, List, [], ◌∷◌, Option, Some, None, refl, sym, ap, ◌∙◌, subst, append_assoc, append-nil}
+use Rattle.std.proofs.Common.{◌≡◌, ◌++◌, ℕ, List, [], Option, Some, None, refl, sym, ap, ◌∙◌, subst, append_assoc, append-nil}
 use Rattle.std.proofs.lemmas.List.Concat.{flat_map-append}
-use Rattle.init_machine.specs.Changes.{Change, change, behind, nothing, and_then, unless_over}
+use Rattle.init_machine.specs.Changes.{Change, change, behind, nothing}
 use Rattle.init_machine.specs.History.{set_in, sets_in}
 use Rattle.init_machine.specs.Props.{Props, more_sets}
 use Rattle.init_machine.specs.Setting.{unset_lines}
 use Rattle.init_machine.specs.State.{Rules, State}
-use Rattle.init_machine.specs.declared.action.Action.{Action}
 use Rattle.init_machine.specs.declared.output.Output.{Output}
 use Rattle.init_machine.specs.declared.output.SetRefusal.{SetRefusal}
 use Rattle.machine_parts.specs.Parts.{Does, actions_of, rules_of, state_of}

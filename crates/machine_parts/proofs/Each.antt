@@ -1,5 +1,5 @@
 -- Operations on services at some places, one after another.
-use Rattle.std.proofs.Common.{◌≡◌, ◌++◌, ℕ, List, [], ◌∷◌, Option, Some, None, refl, sym, ap, ◌∙◌, subst, append_assoc, append-nil}
+use Rattle.std.proofs.Common.{◌≡◌, ℕ, List, [], ◌∷◌, Option, Some, None, refl, sym, ap, ◌∙◌, subst, append_assoc, append-nil}
 use Rattle.init_machine.specs.Changes.{Change, behind, change, each, nothing, unless_over}
 use Rattle.init_machine.specs.Props.{Props}
 use Rattle.init_machine.specs.Services.{operate, operate_each}

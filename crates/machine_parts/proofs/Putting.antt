@@ -4,7 +4,6 @@ use Rattle.init_machine.specs.History.{sets_in}
 use Rattle.init_machine.specs.Pairs.{with_saved}
 use Rattle.init_machine.specs.Props.{Props, more_sets, with_set}
 use Rattle.init_machine.specs.Setting.{awaits, change_event, is_persistent, put_line, put_property, released_lines, still_waits}
-use Rattle.init_machine.specs.State.{State}
 use Rattle.init_machine.specs.declared.config.Pair.{Pair}
 use Rattle.init_machine.specs.declared.output.Output.{Output}
 use Rattle.init_machine.specs.declared.output.Output.TheVariants as output

@@ -1,5 +1,5 @@
 -- Operations on services, by what was done before and what is told then.
-use Rattle.std.proofs.Common.{◌≡◌, ◌++◌, ℕ, ◌<◌, Bool, true, false, List, [], ◌∷◌, Option, Some, None, Result, Ok, Err, ◌↔◌, refl, sym, ap, ◌∙◌, subst, codes}
+use Rattle.std.proofs.Common.{◌≡◌, ◌++◌, ℕ, Bool, true, false, List, [], ◌∷◌, Option, Some, None, Result, Ok, Err, ◌↔◌, refl, sym, ap, ◌∙◌, subst, codes}
 use Rattle.std.specs.List.{slice_get}
 use Rattle.init_base.specs.declared.units.Pid.{Pid}
 use Rattle.init_machine.specs.Changes.{Change, change, behind, nothing}
@@ -8,7 +8,7 @@ use Rattle.init_machine.specs.Kernel.{has_pid}
 use Rattle.init_machine.specs.Marks.{service_step}
 use Rattle.init_machine.specs.Props.{Props, more_sets}
 use Rattle.init_machine.specs.Services.{follow, kill_process, marks_at, not_spawned, operate, operate_on, operated, pid_of, spawn, spawned, spawn_line, state_name, tell, with_spawned}
-use Rattle.init_machine.specs.Setting.{Judged, set_property, told_refusal, unset_lines}
+use Rattle.init_machine.specs.Setting.{set_property, told_refusal, unset_lines}
 use Rattle.init_machine.specs.State.{Rules, State}
 use Rattle.init_machine.specs.declared.output.Output.{Output}
 use Rattle.init_machine.specs.declared.output.Output.TheVariants as output

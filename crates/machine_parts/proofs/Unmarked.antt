@@ -1,7 +1,7 @@
 -- Taking events from a queue in which no mark waits leaves none.
-use Rattle.std.proofs.Common.{◌≡◌, ℕ, zero, suc, ◌+◌, Bool, true, false, ◌||◌, ◌&&◌, nat_lt, nat_le, cond, List, [], ◌∷◌, ◌++◌, length, drop, refl, sym, ap, ◌∙◌, arith}
+use Rattle.std.proofs.Common.{◌≡◌, ℕ, zero, suc, ◌+◌, Bool, false, ◌&&◌, nat_lt, nat_le, cond, List, [], ◌∷◌, length, drop, refl, ap, ◌∙◌, arith}
 use Rattle.std.specs.List.{list_any, position_or_len}
-use Rattle.init_machine.specs.Taking.{Taken, taken_now, taken_from, events_to_take, past_mark, is_mark, is_matched}
+use Rattle.init_machine.specs.Taking.{taken_now, taken_from, events_to_take, past_mark, is_mark, is_matched}
 use Rattle.init_machine.specs.declared.action.Action.{Action}
 use Rattle.init_machine.specs.declared.action.Command.{Command}
 use Rattle.init_machine.specs.declared.event.Event.{Event}

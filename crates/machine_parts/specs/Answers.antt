@@ -1,5 +1,5 @@
 -- What the calls answer, by their definitions.
-use Rattle.std.specs.Prelude.{◌≡◌, ⊤, Option, Some, None, Result, Ok, Err, if◌then◌else◌, Bool, true, false}
+use Rattle.std.specs.Prelude.{◌≡◌, ⊤, Option, Some, None, Result, Ok, Err, Bool, true, false}
 use Rattle.init_machine.specs.declared.output.SetRefusal.{SetRefusal}
 use Rattle.init_machine.specs.declared.output.SetRefusal.TheVariants as refusal
 

@@ -5,7 +5,6 @@ use Rattle.init_machine.specs.History.{sets_in}
 use Rattle.init_machine.specs.Props.{Props, more_sets}
 use Rattle.init_machine.specs.State.{State, Rules}
 use Rattle.init_machine.specs.declared.action.Action.{Action}
-use Rattle.init_machine.specs.declared.output.Output.{Output}
 use Rattle.machine_parts.specs.declared.parts.Parts.{Parts}
 
 -- the state of the machine, where the store means these properties

@@ -1,5 +1,5 @@
 -- A tree as a whole.
-use Rattle.std.proofs.Common.{◌≡◌, ℕ, zero, suc, ◌<◌, Bool, true, false, List, [], ◌∷◌, ◌++◌, ◌+◌, ◌≤◌, length, drop, drop-cons, get_or, map, Bor, Option, Some, None, is_some, Result, Ok, Err, refl, sym, ap, ◌∙◌, subst, arith}
+use Rattle.std.proofs.Common.{◌≡◌, ℕ, zero, suc, ◌<◌, Bool, true, false, List, [], ◌∷◌, ◌+◌, ◌≤◌, drop, drop-cons, get_or, map, Bor, Option, Some, None, is_some, Result, Ok, Err, refl, sym, ap, ◌∙◌, subst, arith}
 use Rattle.std.specs.List.{flat_map}
 use Rattle.std.proofs.lemmas.List.{drop_all}
 use Rattle.init_base.specs.Tree.{file_at}
@@ -7,7 +7,7 @@ use Rattle.rc_import.specs.Answers.{IsAnswer}
 use Rattle.rc_import.specs.Limits.{SoFar, loaded, loaded_from, loaded_of, nothing, onward, with_all}
 use Rattle.rc_import.specs.Order.{Met, at_file, at_first, at_target, directories, in_directory, order, root_file}
 use Rattle.rc_import.specs.World.{IsWorld, World}
-use Rattle.rc_import.specs.Code.Steps.{Follows, FollowsFile, Reaches, ReachesFile, Stands, Stops}
+use Rattle.rc_import.specs.Code.Steps.{Follows, FollowsFile, Stands, Stops}
 use Rattle.rc_import.specs.declared.loaded.Loaded.{Loaded}
 use Rattle.rc_import.specs.declared.loaded.LoadRefusal.{LoadRefusal}
 use Rattle.rc_import.specs.declared.loaded.LoadRefusal.TheVariants.{NoInit, ReadFault, TooLarge, TooMany, NoMemory}

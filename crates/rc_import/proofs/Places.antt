@@ -10,7 +10,7 @@ use Rattle.init_machine.specs.declared.output.Cause.{Cause}
 use Rattle.rc_parse.specs.declared.parsed.Import.{Import}
 use Rattle.rc_import.specs.Limits.{SoFar, onward, with_all, with_met}
 use Rattle.rc_import.specs.Names.{in_byte_order}
-use Rattle.rc_import.specs.Order.{Met, File, Listing, at_directory, at_expanded, at_file, at_import, at_path, at_target, fault}
+use Rattle.rc_import.specs.Order.{Met, File, at_directory, at_expanded, at_file, at_import, at_path, at_target, fault}
 use Rattle.rc_import.specs.Paths.{bare, file_in, is_absolute}
 use Rattle.rc_import.specs.World.{IsWorld, World}
 use Rattle.rc_import.specs.Code.Listings.{HasNames, ListsInOrder}

@@ -1,5 +1,5 @@
 -- A store that one call keeps after another.
-use Rattle.std.proofs.Common.{◌≡◌, ℕ, List, Option, refl, ◌∙◌}
+use Rattle.std.proofs.Common.{ℕ, List, Option, refl, ◌∙◌}
 use Rattle.init_machine.specs.Props.{Props}
 use Rattle.rc_import.specs.Stores.{IsKept}
 

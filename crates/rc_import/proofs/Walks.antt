@@ -1,17 +1,10 @@
 -- Steps one after another.
-use Rattle.std.proofs.Common.{◌≡◌, ℕ, zero, suc, ◌-◌, ◌<◌, Bool, true, false, if◌then◌else◌, List, [], ◌∷◌, ◌++◌, length, Option, Some, None, is_some, Result, Ok, Err, refl, sym, ap, ◌∙◌, subst, arith}
+use Rattle.std.proofs.Common.{◌≡◌, ℕ, List, [], ◌∷◌, ◌++◌, Option, Result, Ok, Err, refl, sym, ap, ◌∙◌, subst}
 use Rattle.std.specs.List.{flat_map}
-use Rattle.init_base.specs.Tree.{file_at, has_name, is_dir, names_in}
-use Rattle.init_machine.specs.declared.diagnostic.DiagKind.{DiagKind}
-use Rattle.init_machine.specs.declared.diagnostic.DiagKind.TheVariants.{Loop, NoFile, TooDeep}
-use Rattle.rc_parse.specs.declared.parsed.Import.{Import}
 use Rattle.rc_import.specs.Limits.{SoFar, onward, with_all, with_met}
-use Rattle.rc_import.specs.Names.{in_byte_order}
-use Rattle.rc_import.specs.Order.{Met, File, Listing, at_directory, at_file, at_import, at_target, fault}
-use Rattle.rc_import.specs.Paths.{file_in}
+use Rattle.rc_import.specs.Order.{Met}
 use Rattle.rc_import.specs.World.{IsWorld, World}
-use Rattle.rc_import.specs.Code.Listings.{ListsInOrder}
-use Rattle.rc_import.specs.Code.Steps.{Continues, Follows, IsFile, Reaches, ReachesImports, Stands, Stops, imports_at}
+use Rattle.rc_import.specs.Code.Steps.{Continues, Follows, Reaches, Stops}
 use Rattle.rc_import.specs.declared.loaded.LoadRefusal.{LoadRefusal}
 use Rattle.rc_import.specs.declared.loaded.LoadRefusal.TheVariants.{NoInit, ReadFault, TooLarge, TooMany, NoMemory}
 use Rattle.rc_import.specs.declared.loading.Loading.{Loading}

@@ -1,5 +1,5 @@
 -- Each tree has a world, since the bytes of each file have a meaning.
-use Rattle.std.proofs.Common.{◌≡◌, ℕ, List, ◌++◌, Option, Some, refl}
+use Rattle.std.proofs.Common.{ℕ, List, ◌++◌, Option, Some, refl}
 use Rattle.std.proofs.Common.{map}
 use Rattle.std.specs.List.{flat_map}
 use Rattle.rc_tokens.specs.Lines.{Lines}

@@ -4,7 +4,7 @@
 --
 -- Files and diagnostics stand in one list here, with the directories that are listed, since the limits on what is read
 -- are judged in this order too (`Limits`). The list itself knows no limit but that on the depth of imports.
-use Rattle.std.specs.Prelude.{ℕ, zero, suc, Bool, if◌then◌else◌, List, [], ◌∷◌, ◌++◌, length, codes, Option, Some, None, Result, Ok, Err}
+use Rattle.std.specs.Prelude.{ℕ, zero, suc, if◌then◌else◌, List, [], ◌∷◌, ◌++◌, length, codes, Option, Some, None, Result, Ok, Err}
 use Rattle.std.specs.List.{flat_map}
 use Rattle.init_base.specs.Tree.{file_at, has_name, is_dir, names_in}
 use Rattle.init_machine.specs.Expand.{expand}

@@ -10,7 +10,7 @@ use Rattle.init_machine.specs.Step.{due_time, has_timed_out, is_due, is_timed_ou
 use Rattle.init_machine.specs.declared.service.Marks.{Marks}
 use Rattle.init_machine.specs.declared.service.ServiceDef.{ServiceDef}
 use Rattle.restart_policy.specs.Times.{has_come, place_if_come, places_due}
-use Rattle.services.specs.Services.{ServicesView, place_if_now, places_now, places_due as places_due_of, places_timed_out}
+use Rattle.services.specs.Services.{ServicesView, places_now, places_due as places_due_of, places_timed_out}
 use Rattle.services.specs.Times.{restart_time, time_at, times_of, timeout_time}
 
 -- as many values as there are others

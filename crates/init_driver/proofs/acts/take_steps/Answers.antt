@@ -1,7 +1,6 @@
 use Rattle.std.proofs.Common.{◌∙◌, [], ◌∷◌, ◌-◌, ◌+◌, replicate, refl, arith}
 use Rattle.std.proofs.lemmas.Result.{err_from_is_err_and}
 use Rattle.init_machine.specs.declared.input.Input.TheVariants as Input
-use Rattle.init_driver.specs.Course.{place_of}
 use Rattle.init_driver.proofs.Courses.{all_left, gone, going_begins, going_on, going_stops, next_left, none_left}
 use Rattle.init_driver.proofs.Reached.{reached_within}
 use Rattle.init_driver.proofs.acts.take_steps.Goals as goal

@@ -1,4 +1,4 @@
-use Rattle.std.proofs.Common.{[], ◌++◌, append-nil}
+use Rattle.std.proofs.Common.{[], append-nil}
 use Rattle.std.proofs.lemmas.Result.{err_from_is_err_and}
 use Rattle.init_trace.specs.Report.{TailText}
 use Rattle.init_driver.proofs.Sinks.{prints_then}

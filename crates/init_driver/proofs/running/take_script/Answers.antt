@@ -1,10 +1,10 @@
-use Rattle.std.proofs.Common.{◌∙◌, [], ◌∷◌, refl, ap}
+use Rattle.std.proofs.Common.{◌∙◌, [], ◌∷◌, refl}
 use Rattle.std.specs.List.{flat_map}
 use Rattle.std.proofs.lemmas.Result.{err_from_is_err_and}
 use Rattle.init_machine.specs.History.{after_from}
 use Rattle.init_machine.specs.declared.input.Input.TheVariants as Input
 use Rattle.script_lang.specs.Inputs.{act_inputs, InOrder}
-use Rattle.init_driver.specs.Course.{place_of, told_from}
+use Rattle.init_driver.specs.Course.{place_of}
 use Rattle.init_driver.proofs.Courses.{leads_then, takes_none, untaken_less, untaken_then}
 use Rattle.init_driver.proofs.Reached.{reached_more}
 use Rattle.init_driver.proofs.Told.{told_of_opened}

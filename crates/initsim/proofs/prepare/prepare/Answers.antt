@@ -1,4 +1,3 @@
-use Rattle.initsim.specs.Counts.{Counts}
 use Rattle.initsim.specs.Prepared.{ArePrepared, GivesSaved, GivesSetup, ScriptOfJob}
 use Rattle.initsim.specs.declared.words.Form.TheVariants.{Run}
 use Rattle.initsim.proofs.Prepared.{setup_of_job, store_stop_counts, tree_fits}

@@ -1,7 +1,7 @@
 use Rattle.std.proofs.Common.{◌∙◌}
 use Rattle.initsim.specs.Stops.{GivesPolicy}
 use Rattle.initsim.proofs.Says.{err_is, told}
-use Rattle.initsim.proofs.TreeTexts.{policy_read, policy_refused, read_as, refused_by_policy, unread_allow, unread_contexts}
+use Rattle.initsim.proofs.TreeTexts.{policy_read, policy_refused, read_as, unread_allow, unread_contexts}
 use Rattle.initsim.proofs.texts.read_policy.Goals as goal
 
 pub returns-in_err-contexts-clause-policy : goal.returns-in_err-contexts-clause-policy

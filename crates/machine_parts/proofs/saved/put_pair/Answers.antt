@@ -1,7 +1,6 @@
 -- A pair takes the place of the name's old one, or its own.
 use Rattle.std.proofs.Common.{◌∙◌, ap}
 use Rattle.std.proofs.lemmas.Result.{on_ok_weaker}
-use Rattle.std.specs.Str.{bytes_eq}
 use Rattle.machine_parts.proofs.SavedPairs.{inserts, place, replaces}
 use Rattle.machine_parts.proofs.saved.put_pair.Goals as goal
 use Rattle.machine_parts.proofs.saved.put_pair.Goals.{in_default-via-in-Some+else-is, in_default-via-in_default}

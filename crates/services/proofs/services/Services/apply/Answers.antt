@@ -1,5 +1,5 @@
 -- The times at that place are those of its new marks.
-use Rattle.std.proofs.Common.{◌≡◌, ◌<◌, false, length, set, subst, sym, ap, ◌∙◌}
+use Rattle.std.proofs.Common.{◌<◌, false, length, set, subst, sym, ap, ◌∙◌}
 use Rattle.std.proofs.lemmas.Option.{get_or_from_slice_get}
 use Rattle.init_machine.specs.Marks.{first_marks, service_step}
 use Rattle.services.specs.Services.{ServicesView, marks_of, with_op}

@@ -1,5 +1,5 @@
 -- Each part has as many as there are services, and no time is kept.
-use Rattle.std.proofs.Common.{◌≡◌, ℕ, List, length, map, replicate, Option, None, refl, sym, ap, ◌∙◌}
+use Rattle.std.proofs.Common.{ℕ, length, replicate, Option, None, sym, ap, ◌∙◌}
 use Rattle.std.proofs.lemmas.List.{length-replicate}
 use Rattle.init_machine.specs.State.{no_exits}
 use Rattle.services.specs.Times.{restart_time, times_of, timeout_time}
