@@ -1,0 +1,10 @@
+pub mod Choices
+pub mod Cuts
+pub mod Drafts
+pub mod Frames
+pub mod LinesRead
+pub mod OutputsRead
+pub mod RefusalsRead
+pub mod Runs
+pub mod Serials
+pub mod Spells

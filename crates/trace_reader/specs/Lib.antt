@@ -1,0 +1,9 @@
+pub mod Drafts
+pub mod Held
+pub mod Lines
+pub mod Outputs
+pub mod Reading
+pub mod Refusals
+pub mod Reports
+pub mod Split
+pub mod Words
