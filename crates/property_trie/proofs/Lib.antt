@@ -11,3 +11,14 @@ pub mod Frames
 pub mod Walks
 pub mod Cells
 pub mod Tries
+pub mod WordOrder
+pub mod PartsLeft
+pub mod Walking
+pub mod LegalNames
+pub mod Needing
+pub mod Growing
+pub mod Additional
+pub mod Standing
+pub mod Loads
+pub mod Stored
+pub mod Placed

@@ -9,7 +9,7 @@ use Rattle.property_trie.specs.Tree.{Tree, by_order, at_last, find, depth, Exten
 use Rattle.property_trie.specs.Tree.Tree.{leaf, node}
 use Rattle.property_trie.specs.Places.{link_to, LiesFrom, IsRising, InNode, Takes, IsApart}
 use Rattle.property_trie.specs.TreeWords.{TreeHolds, link_at, missing_part}
-use Rattle.property_trie.specs.Walk.{WalksTo, EndsAt}
+use Rattle.property_trie.specs.Walk.{WalksTo, Stands, EndsAt}
 use Rattle.property_trie.proofs.Orders.{at_less, at_equal, at_greater}
 use Rattle.property_trie.proofs.Lies.{lies-lower}
 
@@ -22,7 +22,7 @@ walk_begins leaf top parts = (refl, refl)
 walk_begins (node at part l r c cell) top [] = (refl, refl)
 walk_begins (node at part l r c cell) top (p ∷ ps) = inl (refl, refl)
 
-chosen_on : (o : Ordering) (x y z x' y' z' : Type 0) → (o ≡ Less → x → x') → (o ≡ Equal → y → y') → (o ≡ Greater → z → z') → by_order o x y z → by_order o x' y' z'
+pub chosen_on : (o : Ordering) (x y z x' y' z' : Type 0) → (o ≡ Less → x → x') → (o ≡ Equal → y → y') → (o ≡ Greater → z → z') → by_order o x y z → by_order o x' y' z'
 chosen_on Less x y z x' y' z' f g h = f refl
 chosen_on Equal x y z x' y' z' f g h = g refl
 chosen_on Greater x y z x' y' z' f g h = h refl
@@ -64,6 +64,7 @@ pub record Reached (t : Tree) (top : ℕ) (parts : Parts) (link : ℕ) (rest : P
   pub above : LiesFrom (link + 1) below
   pub on : (link' : ℕ) (rest' : Parts) → WalksTo below link rest link' rest' → WalksTo t top parts link' rest'
   pub ends : (cell_link : ℕ) → EndsAt below rest cell_link → EndsAt t parts cell_link
+  pub stands : (place : ℕ) (own : List ℕ) (rest' : Parts) → Stands below rest place own rest' → Stands t parts place own rest'
 
 here : (t : Tree) (top : ℕ) (parts : Parts) (link : ℕ) (rest : Parts) (words : List ℕ) → link ≡ top → rest ≡ parts
     → get_or words top 0 ≡ link_to t → TreeHolds words t → IsApart t → IsRising t → LiesFrom (top + 1) t → Reached t top parts link rest words
@@ -81,6 +82,7 @@ here t top parts link rest words l r is holds apart rising above =
       above = above;
       on = λ link' rest' w. w;
       ends = λ cell_link e. e;
+      stands = λ place own rest' w. w;
     }
 
 -- siblings lie above the links of a node: all that lies from its place on and is apart from it lies behind it
@@ -95,7 +97,7 @@ behind at part (node place q l r c cell) lies apart = (
   behind at part c lies.3 (λ word own is. apart word own (inr (inr (inr (inr is))))),
 )
 
-unchosen : (o : Ordering) (x y z : Type 0) → by_order o x y z → ((o ≡ Less) × x) ⊎ (((o ≡ Equal) × y) ⊎ ((o ≡ Greater) × z))
+pub unchosen : (o : Ordering) (x y z : Type 0) → by_order o x y z → ((o ≡ Less) × x) ⊎ (((o ≡ Equal) × y) ⊎ ((o ≡ Greater) × z))
 unchosen Less x y z h = inl (refl, h)
 unchosen Equal x y z h = inr (inl (refl, h))
 unchosen Greater x y z h = inr (inr (refl, h))
@@ -118,6 +120,7 @@ module _ (at : ℕ) (part : List ℕ) (l r c : Tree) (cell top link : ℕ) (p : 
     above = k.above;
     on = λ link' rest' w. inr (subst (λ (o : Ordering). by_order o (WalksTo l (at + 1) (p ∷ ps) link' rest') (at_last ps ⊥ (WalksTo c (at + 3) ps link' rest')) (WalksTo r (at + 2) (p ∷ ps) link' rest')) (sym e) (k.on link' rest' w));
     ends = λ cell_link w. subst (λ (o : Ordering). by_order o (EndsAt l (p ∷ ps) cell_link) (at_last ps (cell_link ≡ at + 4) (EndsAt c ps cell_link)) (EndsAt r (p ∷ ps) cell_link)) (sym e) (k.ends cell_link w);
+    stands = λ place own rest' w. inr (subst (λ (o : Ordering). by_order o (Stands l (p ∷ ps) place own rest') (at_last ps ⊥ (Stands c ps place own rest')) (Stands r (p ∷ ps) place own rest')) (sym e) (k.stands place own rest' w));
   }
 
   reached_right : compare_parts p part ≡ Greater → Reached r (at + 2) (p ∷ ps) link rest words → Reached whole top (p ∷ ps) link rest words
@@ -134,6 +137,7 @@ module _ (at : ℕ) (part : List ℕ) (l r c : Tree) (cell top link : ℕ) (p : 
     above = k.above;
     on = λ link' rest' w. inr (subst (λ (o : Ordering). by_order o (WalksTo l (at + 1) (p ∷ ps) link' rest') (at_last ps ⊥ (WalksTo c (at + 3) ps link' rest')) (WalksTo r (at + 2) (p ∷ ps) link' rest')) (sym e) (k.on link' rest' w));
     ends = λ cell_link w. subst (λ (o : Ordering). by_order o (EndsAt l (p ∷ ps) cell_link) (at_last ps (cell_link ≡ at + 4) (EndsAt c ps cell_link)) (EndsAt r (p ∷ ps) cell_link)) (sym e) (k.ends cell_link w);
+    stands = λ place own rest' w. inr (subst (λ (o : Ordering). by_order o (Stands l (p ∷ ps) place own rest') (at_last ps ⊥ (Stands c ps place own rest')) (Stands r (p ∷ ps) place own rest')) (sym e) (k.stands place own rest' w));
   }
 
 module _ (at : ℕ) (part : List ℕ) (l r c : Tree) (cell top link : ℕ) (p y : List ℕ) (ys rest : Parts) (words : List ℕ) where
@@ -151,6 +155,7 @@ module _ (at : ℕ) (part : List ℕ) (l r c : Tree) (cell top link : ℕ) (p y 
     above = k.above;
     on = λ link' rest' w. inr (subst (λ (o : Ordering). by_order o (WalksTo l (at + 1) (p ∷ y ∷ ys) link' rest') (WalksTo c (at + 3) (y ∷ ys) link' rest') (WalksTo r (at + 2) (p ∷ y ∷ ys) link' rest')) (sym e) (k.on link' rest' w));
     ends = λ cell_link w. subst (λ (o : Ordering). by_order o (EndsAt l (p ∷ y ∷ ys) cell_link) (EndsAt c (y ∷ ys) cell_link) (EndsAt r (p ∷ y ∷ ys) cell_link)) (sym e) (k.ends cell_link w);
+    stands = λ place own rest' w. inr (subst (λ (o : Ordering). by_order o (Stands l (p ∷ y ∷ ys) place own rest') (Stands c (y ∷ ys) place own rest') (Stands r (p ∷ y ∷ ys) place own rest')) (sym e) (k.stands place own rest' w));
   }
 
 -- what a load of a link on the path finds

@@ -5,3 +5,6 @@ pub mod Places
 pub mod TreeWords
 pub mod Walk
 pub mod Laws
+pub mod TrieSteps
+pub mod Additions
+pub mod Held

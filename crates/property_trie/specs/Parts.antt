@@ -1,5 +1,5 @@
 -- The parts of a name, which are what stands between its dots (46 is the dot), and their order.
-use Rattle.std.specs.Prelude.{ℕ, ◌+◌, ◌/◌, ◌==◌, List, [], ◌∷◌, length, if◌then◌else◌}
+use Rattle.std.specs.Prelude.{ℕ, ◌+◌, ◌/◌, ◌==◌, List, [], ◌∷◌, drop, length, if◌then◌else◌}
 use Rattle.std.specs.Cmp.Lexicographic.{slice_cmp}
 use Rattle.std.specs.Ordering.{nat_cmp}
 use Rattle.std.specs.declared.cmp.Ordering.{Ordering}
@@ -13,6 +13,10 @@ onto_first b (part ∷ parts) = (b ∷ part) ∷ parts
 abbrev pub parts_of : List ℕ → List (List ℕ)
 parts_of [] = [] ∷ []
 parts_of (b ∷ rest) = let parts = parts_of rest in if b == 46 then [] ∷ parts else onto_first b parts
+
+-- the parts behind the first part, which has n bytes
+abbrev pub parts_behind : ℕ → List ℕ → List (List ℕ)
+parts_behind n rest = if n == length rest then [] else parts_of (drop (n + 1) rest)
 
 -- the first order decides, and where it is equal the second
 abbrev pub first_order : Ordering → Ordering → Ordering

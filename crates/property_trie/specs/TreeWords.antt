@@ -1,11 +1,18 @@
 -- How a tree lies in words: a node is the length of its part, the links to the siblings before and behind it, to its children
 -- and to its property, and the words of its part.
 use Rattle.std.specs.Prelude.{◌≡◌, ℕ, ◌+◌, ◌/◌, ◌<◌, List, [], ◌∷◌, length, slice_index}
+use Rattle.std.specs.Int.{w64, swap_bytes}
+use Rattle.std.specs.Ordering.{nat_cmp}
+use Rattle.std.specs.declared.cmp.Ordering.{Ordering}
 use Rattle.serial_value.specs.Words.{text_word}
 use Rattle.property_trie.specs.Parts.{compare_parts}
 use Rattle.property_trie.specs.Tree.{Tree, by_order, at_last}
 use Rattle.property_trie.specs.Tree.Tree.{leaf, node}
 use Rattle.property_trie.specs.Places.{link_to}
+
+-- the order of two words by their bytes, of which the first is the lowest
+unfoldable pub word_order : ℕ → ℕ → Ordering
+word_order a b = nat_cmp (swap_bytes w64 a) (swap_bytes w64 b)
 
 -- the words of a node's part
 abbrev pub part_words : List ℕ → ℕ

@@ -16,6 +16,17 @@ WalksTo (node place part left right children cell) top (p ∷ ps) link rest =
     (at_last ps ⊥ (WalksTo children (place + 3) ps link rest))
     (WalksTo right (place + 2) (p ∷ ps) link rest)
 
+-- the walk stands at the node at this place, of this part, with these parts left
+abbrev pub Stands : Tree → List (List ℕ) → ℕ → List ℕ → List (List ℕ) → Type 0
+Stands leaf parts at own rest = ⊥
+Stands (node place part left right children cell) [] at own rest = ⊥
+Stands (node place part left right children cell) (p ∷ ps) at own rest =
+    ((at ≡ place) × (own ≡ part) × (rest ≡ p ∷ ps))
+    ⊎ by_order (compare_parts p part)
+    (Stands left (p ∷ ps) at own rest)
+    (at_last ps ⊥ (Stands children ps at own rest))
+    (Stands right (p ∷ ps) at own rest)
+
 -- the walk ends at the node of the last part, which has its property's link at this place
 abbrev pub EndsAt : Tree → List (List ℕ) → ℕ → Type 0
 EndsAt leaf parts link = ⊥

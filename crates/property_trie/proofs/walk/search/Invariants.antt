@@ -1,0 +1,28 @@
+use Rattle.std.proofs.Common.{◌≡◌, ◌+◌, ◌-◌, ◌<◌, ◌≤◌, length, drop, []}
+use Rattle.property_trie.specs.Parts.{parts_of}
+use Rattle.property_trie.specs.TrieSteps.{LeadsTo}
+use Rattle.property_trie.proofs.Walking.{Walked}
+use Rattle.property_trie.proofs.walk.search.Given as goal
+
+abbrev pub ghosts-find_node : goal.ghosts-find_node
+ghosts-find_node g a = record { name = g.Q.Sought.name; rest = parts_of a.rest.now; link = 0; index = 0 }
+
+abbrev pub ghosts-end_at_node : goal.ghosts-end_at_node
+ghosts-end_at_node g a = record { name = g.Q.Sought.name; rest = []; link = 0; index = 0 }
+
+abbrev pub invariant-parts : goal.invariant-parts
+invariant-parts g l =
+    let R = g.R.TrieRule in
+    let v = l.initial.seat.me.0 in
+    record {
+      table : l.seat.table_id ≡ l.initial.seat.table_id;
+      id : l.seat.id ≡ l.initial.seat.id;
+      rights : l.seat.me.1 ≡ l.initial.seat.me.1;
+      walked : Walked R.trie R.with_trie v l.seat.me.0;
+      leads : LeadsTo (R.trie l.seat.me.0) g.Q.Sought.name l.link (parts_of (drop l.from l.name));
+      inside : l.link < l.table.shared.table_id.words;
+      within : l.from ≤ length l.name;
+    }
+
+abbrev pub decreases-parts : goal.decreases-parts
+decreases-parts g l = length l.name + 1 - l.from
