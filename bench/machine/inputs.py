@@ -228,6 +228,14 @@ def device(shape, daemons=2000, actions=20_000, rounds=100, steps=4200):
     shape.script(WIDE + plans + f"step {steps}\ntick 700\n" * rounds)
 
 
+def script_of_most_bytes(shape, lines=99_998):
+    """A script of nearly 16 MiB and 100,000 lines: reads, and the notes between them."""
+    shape.root("on early-init", "    setprop ro.kind a")
+    note = "# " + "what the next line asks for, as a person would note it; " * 5 + "\n"
+    pair = [f"@u read vendor.unit_{{}}.state\n", note]
+    shape.script("client u shell\n" + "".join(pair[k % 2].format(k) for k in range(lines)) + "step 1\n")
+
+
 SHAPES = dict([
     *read_trees(),
     *many_actions(),
@@ -241,6 +249,7 @@ SHAPES = dict([
     ("property_loop", property_loop),
     ("setprop_900", setprop_900),
     ("device", device),
+    ("script_mib_16", script_of_most_bytes),
 ])
 
 
