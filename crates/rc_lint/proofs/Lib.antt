@@ -1,0 +1,11 @@
+pub mod Outcomes
+pub mod Loads
+pub mod Worlds
+pub mod ReadLines
+pub mod Headers
+pub mod Bodies
+pub mod Judged
+pub mod Pages
+pub mod Digits
+pub mod Placed
+pub mod Said

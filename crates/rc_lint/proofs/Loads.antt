@@ -1,0 +1,118 @@
+-- Reading the build files and the rc files.
+use Rattle.std.proofs.Common.{◌≡◌, ℕ, ◌+◌, ◌<◌, ◌≤◌, ◌⊎◌, Bool, true, false, List, [], ◌++◌, length, Option, Some, None, Result, Ok, Err, refl, sym, subst, ap, inl, inr, ◌∙◌, arith}
+use Rattle.std.specs.Prelude.{if◌then◌else◌, nat_lt}
+use Rattle.std.proofs.lemmas.Bool.Decides.{nat_tests}
+use Rattle.init_machine.specs.declared.config.Pair.{Pair}
+use Rattle.init_machine.specs.declared.diagnostic.Diagnostic.{Diagnostic}
+use Rattle.prop_rules.specs.Build.{IsBuildFile}
+use Rattle.prop_rules.specs.View.{view}
+use Rattle.prop_rules.specs.declared.build.BuildProps.{BuildProps}
+use Rattle.rc_import.specs.Answers.{IsAnswer}
+use Rattle.rc_import.specs.Limits.{loaded as rc_files_of, onward}
+use Rattle.rc_import.specs.World.{IsWorld, World}
+use Rattle.rc_import.specs.declared.loaded.Loaded.{Loaded}
+use Rattle.rc_import.specs.declared.loaded.LoadRefusal.{LoadRefusal}
+use Rattle.rc_import.specs.declared.loaded.LoadRefusal.TheVariants as why
+use Rattle.rc_lint.specs.Code.Steps.{AreBuildFiles, GivesBuildFile, GivesBuildFiles, GivesText, IsTooLong, RefusesText, RefusesVendor}
+use Rattle.rc_lint.specs.Loads.{IsWorldOf, Tree, behind_build_file, build_text, bytes_or_none, faults_of, loaded, pairs_of, system_path, vendor_path, with_build_files}
+
+-- ---- build files
+
+pub build_file_read : (tree : Tree) (path text : List ℕ) (props : BuildProps)
+    → GivesText tree path (Ok text) → IsBuildFile path text props → GivesBuildFile tree path (Ok props)
+build_file_read tree path text props gives is =
+    (subst (λ t. IsBuildFile path t props) gives.0 is, subst (λ t. length t ≤ 1048576) gives.0 gives.1)
+
+pub build_files_read : (tree : Tree) (one other both : BuildProps)
+    → GivesBuildFile tree system_path (Ok one) → GivesBuildFile tree vendor_path (Ok other)
+    → both.pairs ≡ one.pairs ++ other.pairs → both.diagnostics ≡ one.diagnostics ++ other.diagnostics
+    → AreBuildFiles tree both
+build_files_read tree one other both first second pairs diagnostics =
+    let one_pairs = first.0.pairs_are in
+    let other_pairs = second.0.pairs_are in
+    let one_diagnostics = first.0.diagnostics_are in
+    let other_diagnostics = second.0.diagnostics_are in
+    record { system = first.1; vendor = second.1; pairs_are = cc; diagnostics_are = cc }
+
+-- ---- limits
+
+behind_short : {A : Type 0} (n : ℕ) (refused next : Result A LoadRefusal) → n ≤ 1048576 → (if nat_lt 1048576 n then refused else next) ≡ next
+behind_short n refused next short = grind (arith, nat_tests)
+
+behind_long : {A : Type 0} (n : ℕ) (refused next : Result A LoadRefusal) → 1048576 < n → (if nat_lt 1048576 n then refused else next) ≡ refused
+behind_long n refused next long = grind (arith, nat_tests)
+
+both_short : {A : Type 0} (tree : Tree) (next : Result A LoadRefusal)
+    → length (build_text tree system_path) ≤ 1048576 → length (build_text tree vendor_path) ≤ 1048576
+    → behind_build_file tree system_path (behind_build_file tree vendor_path next) ≡ next
+both_short tree next system vendor =
+    behind_short (length (build_text tree system_path)) _ _ system ∙ behind_short (length (build_text tree vendor_path)) _ _ vendor
+
+too_long : {A : Type 0} (path file : List ℕ) (number : ℕ) (r : Result A LoadRefusal) → r ≡ Err (why.TooLarge path 1048577)
+    → file ≡ path → number ≡ 1048577 → r ≡ Err (why.TooLarge file number)
+too_long path file number r is same one = cc
+
+pub system_refused : (world : World) (refusal : LoadRefusal) → RefusesText world.tree system_path refusal → IsAnswer (Err refusal) (loaded world)
+system_refused world why.NoInit refused = absurd refused
+system_refused world why.ReadFault refused = tt
+system_refused world (why.TooLarge file number) refused =
+    too_long system_path file number (loaded world) (behind_long (length (build_text world.tree system_path)) _ _ refused.long) refused.path_is refused.number_is
+system_refused world (why.TooMany file number) refused = absurd refused
+system_refused world why.NoMemory refused = tt
+
+vendor_refused : (world : World) (refusal : LoadRefusal) → length (build_text world.tree system_path) ≤ 1048576
+    → RefusesText world.tree vendor_path refusal → IsAnswer (Err refusal) (loaded world)
+vendor_refused world why.NoInit short refused = absurd refused
+vendor_refused world why.ReadFault short refused = tt
+vendor_refused world (why.TooLarge file number) short refused =
+    too_long vendor_path file number (loaded world)
+    (behind_short (length (build_text world.tree system_path)) _ _ short ∙ behind_long (length (build_text world.tree vendor_path)) _ _ refused.long)
+    refused.path_is refused.number_is
+vendor_refused world (why.TooMany file number) short refused = absurd refused
+vendor_refused world why.NoMemory short refused = tt
+
+pub build_files_refused : (world : World) (refusal : LoadRefusal) → GivesBuildFiles world.tree (Err refusal) → IsAnswer (Err refusal) (loaded world)
+build_files_refused world refusal (inl system) = system_refused world refusal system
+build_files_refused world refusal (inr vendor) = vendor_refused world refusal vendor.system vendor.vendor
+
+-- ---- rc files
+
+-- no call changes the tree, and the view of the build files' pairs is that of the world
+pub world_viewed : (told now : Option Tree) (look_up : List ℕ → Option (List ℕ)) (pairs : List Pair) (world : World)
+    → now ≡ told → ((name : List ℕ) → look_up name ≡ view pairs name) → pairs ≡ pairs_of world.tree
+    → IsWorldOf told world → IsWorld now look_up world
+world_viewed told now look_up pairs world same shows are is = record {
+  tree_is = same ∙ is.tree_is;
+  look_up_is = λ name. shows name ∙ ap (λ p. view p name) are ∙ is.look_up_is name;
+  means_are = is.means_are;
+}
+
+behind_rc_files : World → Result Loaded LoadRefusal → Result Loaded LoadRefusal
+behind_rc_files world rc_files = onward rc_files (λ rc. Ok (with_build_files world.tree rc))
+
+rc_files_decide : (world : World) (props : BuildProps) → AreBuildFiles world.tree props → loaded world ≡ behind_rc_files world (rc_files_of world)
+unfolding behind_rc_files
+rc_files_decide world props files = both_short world.tree (onward (rc_files_of world) (λ rc. Ok (with_build_files world.tree rc))) files.system files.vendor
+
+pub rc_files_refused : (world : World) (props : BuildProps) (refusal : LoadRefusal)
+    → AreBuildFiles world.tree props → IsAnswer (Err refusal) (rc_files_of world) → IsAnswer (Err refusal) (loaded world)
+unfolding behind_rc_files
+rc_files_refused world props why.NoInit files answer = rc_files_decide world props files ∙ ap (behind_rc_files world) answer
+rc_files_refused world props why.ReadFault files answer = tt
+rc_files_refused world props (why.TooLarge path number) files answer = rc_files_decide world props files ∙ ap (behind_rc_files world) answer
+rc_files_refused world props (why.TooMany path number) files answer = rc_files_decide world props files ∙ ap (behind_rc_files world) answer
+rc_files_refused world props why.NoMemory files answer = tt
+
+pub rc_files_loaded : (world : World) (props : BuildProps) (rc : Loaded) (pairs : List Pair) (diagnostics all : List Diagnostic)
+    → AreBuildFiles world.tree props → pairs ≡ props.pairs → diagnostics ≡ props.diagnostics → all ≡ diagnostics ++ rc.diagnostics
+    → IsAnswer (Ok rc) (rc_files_of world)
+    → loaded world ≡ Ok (record { config = record rc.config { pairs = pairs }; diagnostics = all })
+unfolding behind_rc_files
+rc_files_loaded world props rc pairs diagnostics all files same_pairs same_diagnostics both answer =
+    let p = files.pairs_are in
+    let d = files.diagnostics_are in
+    let these : pairs_of world.tree ≡ pairs = cc in
+    let those : faults_of world.tree ++ rc.diagnostics ≡ all = cc in
+    rc_files_decide world props files ∙ ap (behind_rc_files world) answer
+    ∙ ap (λ (ps : List Pair). Ok (record { config = record rc.config { pairs = ps }; diagnostics = faults_of world.tree ++ rc.diagnostics })) these
+    ∙ ap (λ (ds : List Diagnostic). Ok (record { config = record rc.config { pairs = pairs }; diagnostics = ds })) those

@@ -1,0 +1,10 @@
+use Rattle.std.proofs.Common.{◌≡◌, ◌++◌, drop}
+use Rattle.rc_lint.specs.Code.Steps.{is_excused_at}
+use Rattle.rc_lint.specs.Excused.{numbers_of}
+use Rattle.rc_lint.proofs.excuse.add_lines.Given as goal
+
+-- what is left decides
+abbrev pub invariant-loop-line : goal.invariant-loop-line
+invariant-loop-line l =
+    l.numbers ++ numbers_of (is_excused_at l.part l.allowed) (drop l.line-index l.lines)
+    ≡ l.initial.numbers ++ numbers_of (is_excused_at l.part l.allowed) l.lines

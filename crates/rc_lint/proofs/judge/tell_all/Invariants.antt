@@ -1,0 +1,17 @@
+use Rattle.std.proofs.Common.{◌≡◌, ◌++◌, drop}
+use Rattle.rc_lint.specs.Code.Sources.{AreSourcesOf}
+use Rattle.rc_lint.specs.Excused.{errors_among}
+use Rattle.rc_lint.specs.Findings.{errors_of}
+use Rattle.rc_lint.specs.Told.{IsTold, Told}
+use Rattle.rc_lint.proofs.judge.tell_all.Given as goal
+
+-- what is left decides, the lines that were read are those of the tree, and no call failed
+abbrev pub invariant-loop-diagnostic : goal.invariant-loop-diagnostic
+invariant-loop-diagnostic g l = record {
+  told : (told : Told) → IsTold (g.F.Files.tree l.initial.files) told →
+      errors_of l.findings ++ errors_among l.request.allowed told (drop l.diagnostic-index l.diagnostics)
+      ≡ errors_among l.request.allowed told l.diagnostics;
+  sources : (told : Told) → IsTold (g.F.Files.tree l.initial.files) told → AreSourcesOf l.request.allowed told l.sources.sources;
+  tree : g.F.Files.tree l.files ≡ g.F.Files.tree l.initial.files;
+  faults : g.F.Files.fault_count l.files ≡ g.F.Files.fault_count l.initial.files;
+}

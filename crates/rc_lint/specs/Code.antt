@@ -1,0 +1,6 @@
+-- What private functions say of themselves. No promise of the program cites it, and a reader needn't believe it.
+pub mod Steps
+pub mod Sources
+pub mod Judged
+pub mod Reported
+pub mod Counts

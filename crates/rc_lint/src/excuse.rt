@@ -1,0 +1,269 @@
+//! Which lines of a file another init takes. The rule is `all_taken_elsewhere` of `specs/Excused.antt`.
+
+ghost use Rattle.std.specs.Prelude.{◌≡◌, ◌++◌, ◌∷◌, [], map, position, is_ok, IfOk, OnOk};
+ghost use Rattle.init_base.specs.Tree.{has_name};
+ghost use Rattle.rc_parse.specs.Lines.{is_header as is_header_lem, lines_before_header};
+ghost use Rattle.rc_parse.specs.Triggers.{is_equals_sign, triggers_of};
+ghost use Rattle.rc_lint.specs.Code.Steps.{HasNumbers, is_excused_at as is_excused_at_lem};
+ghost use Rattle.rc_lint.specs.Excused.{all_taken_elsewhere, as_equal as as_equal_lem, good_header, is_excused_command as is_excused_command_lem, is_excused_in_action as is_excused_in_action_lem, is_excused_in_service as is_excused_in_service_lem, is_excused_option as is_excused_option_lem, number_if, numbers_of, taken_elsewhere as taken_elsewhere_lem, without_bang as without_bang_lem};
+
+use crate::lines::{arguments, first_word, is_header, is_on, is_service};
+use crate::not_modelled::{is_command_not_modelled, is_option_not_modelled};
+use init_base::{List, NoMemory, Text};
+use rc_parse::parse;
+use rc_tokens::{Line, Tokens};
+use std::alloc::Global;
+use std::collections::HashSet;
+
+const ON_PROPERTY: &[u8] = b"property:";
+
+/// A section whose lines have words of their own.
+#[derive(Clone, Copy, Debug, PartialEq, Eq)]
+pub enum Part {
+    Action,
+    Service,
+}
+
+fn is_allowed(allowed: &List<Text>, word: &[u8]) -> bool
+    ensures { result ≡ has_name allowed.now word.now }
+{
+    allowed.items().iter().any(|text| text.is(word))
+}
+
+fn is_excused_command(allowed: &List<Text>, word: &[u8]) -> bool
+    ensures { result ≡ is_excused_command_lem allowed.now word.now }
+{
+    is_command_not_modelled(word) || is_allowed(allowed, word)
+}
+
+fn is_excused_option(allowed: &List<Text>, word: &[u8]) -> bool
+    ensures { result ≡ is_excused_option_lem allowed.now word.now }
+{
+    is_option_not_modelled(word) || is_allowed(allowed, word)
+}
+
+fn is_excused_in_action(allowed: &List<Text>, line: &Line) -> bool
+    ensures { result ≡ is_excused_in_action_lem allowed.now line.now }
+{
+    is_excused_command(allowed, first_word(line.words.items()))
+}
+
+fn is_excused_in_service(allowed: &List<Text>, line: &Line) -> bool
+    ensures { result ≡ is_excused_in_service_lem allowed.now line.now }
+{
+    let words = line.words.items();
+    let word = first_word(words);
+    if word == b"onrestart".as_slice() {
+        is_excused_command(allowed, first_word(arguments(words)))
+    } else {
+        is_excused_option(allowed, word)
+    }
+}
+
+/// Whether another init takes a line of a section.
+fn is_excused_at(part: Part, allowed: &List<Text>, line: &Line) -> bool
+    ensures { result ≡ is_excused_at_lem part allowed.now line.now }
+{
+    match part {
+        Part::Action => is_excused_in_action(allowed, line),
+        Part::Service => is_excused_in_service(allowed, line),
+    }
+}
+
+/// The place of the first `=`.
+fn equals_sign(text: &[u8]) -> Option<usize>
+    ensures { result ≡ position is_equals_sign text.now }
+{
+    text.iter().position(|byte| *byte == b'=')
+}
+
+/// The text without the `!` before its first `=`.
+fn without_bang(alloc: Global, text: &Text) -> Result<Text, NoMemory>
+    ensures { IfOk result (λ equal. equal ≡ without_bang_lem (position is_equals_sign text.now) text.now) }
+{
+    let bytes = text.bytes();
+    let Some(at) = equals_sign(bytes) else {
+        return text.share();
+    };
+    if !bytes[..at].ends_with(b"!") {
+        return text.share();
+    }
+    let mut kept = Vec::from_slice(alloc, &bytes[..at - 1])?;
+    kept.extend_from_slice(&bytes[at..])?;
+    Text::from_vec(kept)
+}
+
+/// `property:NAME!=VALUE` read as `property:NAME=VALUE`.
+fn as_equal(alloc: Global, word: &Text) -> Result<Text, NoMemory>
+    ensures { IfOk result (λ equal. equal ≡ as_equal_lem word.now) }
+{
+    if word.bytes().starts_with(ON_PROPERTY) {
+        without_bang(alloc, word)
+    } else {
+        word.share()
+    }
+}
+
+/// `on`, and behind it the words with each `!=` read as `=`.
+fn equal_words(alloc: Global, words: &[Text]) -> Result<List<Text>, NoMemory>
+    ensures { IfOk result (λ equal. equal ≡ (111 ∷ 110 ∷ []) ∷ map as_equal_lem words.now) }
+{
+    let mut equal = List::with_capacity(alloc, words.len())?;
+    equal.push(Text::of(alloc, b"on")?)?;
+    for word in words {
+        equal.push(as_equal(alloc, word)?)?;
+    }
+    Ok(equal)
+}
+
+/// Whether the triggers behind `on` are well-formed where each `!=` is read as `=`.
+#[tactic(auto, using(crate::proofs::Headers::good_alone))]
+fn is_good_as_equal(alloc: Global, words: &[Text]) -> Result<bool, NoMemory>
+    ensures { IfOk result (λ good. good ≡ is_ok (triggers_of (map as_equal_lem words.now))) }
+{
+    let mut lines = List::new(alloc);
+    lines.push(Line {
+        number: 1,
+        words: equal_words(alloc, words)?,
+    })?;
+    let tokens = Tokens {
+        lines,
+        dropped: None,
+    };
+    let parsed = parse(alloc, &Text::empty(), tokens)?;
+    Ok(parsed.diagnostics.is_empty())
+}
+
+/// The lines up to the next header.
+#[tactic(auto, using(crate::proofs::Bodies::before_place, crate::proofs::Bodies::before_none))]
+fn before_header(lines: &[Line]) -> &[Line]
+    ensures { result.now ≡ lines_before_header lines.entry.now }
+{
+    match header_place(lines) {
+        Some(at) => &lines[..at],
+        None => lines,
+    }
+}
+
+/// The place of the next header.
+fn header_place(lines: &[Line]) -> Option<usize>
+    ensures { result ≡ position is_header_lem lines.now }
+{
+    lines.iter().position(|line| is_header(line))
+}
+
+/// Adds the number of a line that another init takes.
+fn add_line(
+    numbers: &mut List<u32>,
+    part: Part,
+    allowed: &List<Text>,
+    line: &Line,
+) -> Result<(), NoMemory>
+    ensures { OnOk result (numbers.new ≡ numbers.old ++ number_if (is_excused_at_lem part allowed.now) line.now) }
+{
+    if is_excused_at(part, allowed, line) {
+        numbers.push(line.number)
+    } else {
+        Ok(())
+    }
+}
+
+/// Adds the numbers of the lines that another init takes.
+fn add_lines(
+    numbers: &mut List<u32>,
+    part: Part,
+    allowed: &List<Text>,
+    lines: &[Line],
+) -> Result<(), NoMemory>
+    ensures { OnOk result (numbers.new ≡ numbers.old ++ numbers_of (is_excused_at_lem part allowed.now) lines.now) }
+{
+    for line in lines {
+        add_line(numbers, part, allowed, line)?;
+    }
+    Ok(())
+}
+
+/// Adds the number of the header of an action, where another init takes its triggers.
+fn add_header(alloc: Global, numbers: &mut List<u32>, header: &Line) -> Result<(), NoMemory>
+    ensures { OnOk result (numbers.new ≡ numbers.old ++ good_header (record { header = header.now; body = [] })) }
+{
+    if is_good_as_equal(alloc, arguments(header.words.items()))? {
+        numbers.push(header.number)
+    } else {
+        Ok(())
+    }
+}
+
+/// Adds the numbers of the lines of a section that another init takes. Its body are the lines up to the next header.
+fn add_section(
+    alloc: Global,
+    numbers: &mut List<u32>,
+    allowed: &List<Text>,
+    header: &Line,
+    behind: &[Line],
+) -> Result<(), NoMemory>
+    ensures { OnOk result (numbers.new ≡ numbers.old
+        ++ taken_elsewhere_lem allowed.now (record { header = header.now; body = lines_before_header behind.now })) }
+{
+    if is_on(header) {
+        add_header(alloc, numbers, header)?;
+        add_lines(numbers, Part::Action, allowed, before_header(behind))
+    } else if is_service(header) {
+        add_lines(numbers, Part::Service, allowed, before_header(behind))
+    } else {
+        Ok(())
+    }
+}
+
+/// Adds the numbers of the lines of a section that another init takes, where the first line is its header.
+#[tactic(auto, using(crate::proofs::Bodies::section_more, crate::proofs::Bodies::section_same))]
+fn add_first(
+    alloc: Global,
+    numbers: &mut List<u32>,
+    allowed: &List<Text>,
+    first: &Line,
+    behind: &[Line],
+) -> Result<(), NoMemory>
+    ensures { OnOk result (numbers.new ++ all_taken_elsewhere allowed.now behind.now ≡ numbers.old ++ all_taken_elsewhere allowed.now (first.now ∷ behind.now)) }
+{
+    if is_header(first) {
+        add_section(alloc, numbers, allowed, first, behind)
+    } else {
+        Ok(())
+    }
+}
+
+/// The numbers of the lines that another init takes, in order.
+fn lines_taken_elsewhere(
+    alloc: Global,
+    allowed: &List<Text>,
+    lines: &[Line],
+) -> Result<List<u32>, NoMemory>
+    ensures { IfOk result (λ numbers. numbers ≡ all_taken_elsewhere allowed.now lines.now) }
+{
+    let mut numbers = List::new(alloc);
+    let mut rest = lines;
+    while let [first, behind @ ..] = rest {
+        add_first(alloc, &mut numbers, allowed, first, behind)?;
+        rest = behind;
+    }
+    Ok(numbers)
+}
+
+fn set_of(alloc: Global, numbers: List<u32>) -> Result<HashSet<u32>, NoMemory>
+    ensures { IfOk result (λ set. HasNumbers set.keys numbers) }
+{
+    Ok(numbers.into_vec().into_iter().collect(alloc)?)
+}
+
+/// The numbers of the lines that another init takes, as a set.
+pub fn taken_elsewhere(
+    alloc: Global,
+    allowed: &List<Text>,
+    lines: &[Line],
+) -> Result<HashSet<u32>, NoMemory>
+    ensures { IfOk result (λ numbers. HasNumbers numbers.keys (all_taken_elsewhere allowed.now lines.now)) }
+{
+    let numbers = lines_taken_elsewhere(alloc, allowed, lines)?;
+    set_of(alloc, numbers)
+}

@@ -1,0 +1,75 @@
+//! What is told of the diagnostics of a tree.
+
+ghost use Rattle.std.specs.Prelude.{◌≡◌, ◌++◌, IfErr, IfOk, OnOk};
+ghost use Rattle.init_base.specs.Faults.{Counted};
+ghost use Rattle.rc_import.specs.Answers.{is_read_fault};
+ghost use Rattle.rc_lint.specs.Code.Judged.{told_by};
+ghost use Rattle.rc_lint.specs.Code.Sources.{IsLater};
+ghost use Rattle.rc_lint.specs.Excused.{errors_among};
+ghost use Rattle.rc_lint.specs.Findings.{errors_of};
+ghost use Rattle.rc_lint.specs.Told.{IsTold, Told};
+
+use crate::finding::{About, Finding, WarningKind};
+use crate::message::Teller;
+use crate::request::Request;
+use crate::source::{Source, Sources};
+use init_base::{Files, List, NoMemory, Text};
+use init_machine::Diagnostic;
+use rc_import::LoadRefusal;
+use std::alloc::Global;
+
+/// Tells of a diagnostic: as an error, or as a warning where it is excused.
+fn tell(
+    findings: &mut List<Finding>,
+    request: &Request,
+    teller: &mut Teller<'_>,
+    source: &Source,
+    diagnostic: &Diagnostic,
+) -> Result<(), NoMemory>
+    ensures { OnOk result (errors_of findings.new ≡ errors_of findings.old ++ told_by source.now diagnostic.now) }
+{
+    let is_excused = source.is_excused(diagnostic);
+    if is_excused && !request.warns {
+        return Ok(());
+    }
+    let (about, message) = if is_excused {
+        (
+            About::Warning(WarningKind::NotModelled),
+            teller.not_modelled(source, diagnostic)?,
+        )
+    } else {
+        (
+            About::Error(diagnostic.kind),
+            teller.error(source, diagnostic)?,
+        )
+    };
+    findings.push(Finding {
+        file: diagnostic.file.share()?,
+        line: diagnostic.line,
+        about,
+        message,
+    })
+}
+
+/// Tells of the diagnostics of a tree, in order.
+pub fn tell_all<F: Files>(
+    alloc: Global,
+    files: &mut F,
+    request: &Request,
+    teller: &mut Teller<'_>,
+    diagnostics: &[Diagnostic],
+) -> Result<List<Finding>, LoadRefusal>
+    ensures told { (told : Told) → IsTold (F.tree files.old) told → IfOk result (λ findings. errors_of findings ≡ errors_among request.now.allowed told diagnostics.now) }
+    ensures kind { IfErr result IsLater }
+    ensures tree { F.tree files.new ≡ F.tree files.old }
+    ensures cause { Counted (is_read_fault result) (F.fault_count files.old) (F.fault_count files.new) }
+{
+    let mut sources = Sources::new(alloc);
+    let mut findings = List::with_capacity(alloc, diagnostics.len())?;
+    for diagnostic in diagnostics {
+        let place = sources.place_of(alloc, files, &request.allowed, &diagnostic.file)?;
+        let source = &sources.sources.items()[place];
+        tell(&mut findings, request, teller, source, diagnostic)?;
+    }
+    Ok(findings)
+}

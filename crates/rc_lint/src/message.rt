@@ -1,0 +1,164 @@
+//! Messages on diagnostics: what was meant, and what was expected.
+
+mod import;
+mod nearest;
+mod options;
+mod service;
+mod text;
+mod trigger;
+mod word;
+
+use crate::excuse::Part;
+use crate::lines::{arguments, first_word};
+use crate::source::Source;
+use crate::watched::Seen;
+use init_base::{List, NoMemory, Text};
+use init_machine::{Config, DiagKind, Diagnostic, ListStore, ServiceDef};
+use prop_rules::boot_view;
+use std::alloc::Global;
+pub use text::Message;
+use text_index::TextIndex;
+
+/// What is known of a tree where its diagnostics are told.
+#[derive(Drop)]
+pub struct Teller<'a> {
+    alloc: Global,
+    root: &'a Text,
+    services: &'a [ServiceDef],
+    /// The names of the services, in the same order.
+    names: TextIndex,
+    seen: &'a [Seen],
+    /// What the paths of imports are expanded in.
+    view: ListStore,
+}
+
+impl<'a> Teller<'a> {
+    pub fn new(
+        alloc: Global,
+        root: &'a Text,
+        config: &'a Config,
+        seen: &'a List<Seen>,
+    ) -> Result<Teller<'a>, NoMemory> {
+        let services = config.services.items();
+        let mut names = TextIndex::new(alloc);
+        for service in services {
+            names.add(service.name.bytes())?;
+        }
+        Ok(Teller {
+            alloc,
+            root,
+            services,
+            names,
+            seen: seen.items(),
+            view: boot_view(alloc, &config.pairs)?,
+        })
+    }
+
+    /// The service of a name that stays.
+    fn declared(&self, name: &[u8]) -> Option<&ServiceDef> {
+        self.services.get(self.names.place(name)?)
+    }
+
+    /// The message of a diagnostic that is excused.
+    pub fn not_modelled(
+        &mut self,
+        source: &Source,
+        diagnostic: &Diagnostic,
+    ) -> Result<Text, NoMemory> {
+        let (words, part) = words_at(source, diagnostic.line);
+        match diagnostic.kind {
+            DiagKind::BadTrigger => trigger::not_equal(self.alloc),
+            _ => word::not_modelled(self.alloc, part, words),
+        }
+    }
+
+    /// The message of a diagnostic that is an error.
+    pub fn error(&mut self, source: &Source, diagnostic: &Diagnostic) -> Result<Text, NoMemory> {
+        let alloc = self.alloc;
+        let (words, part) = words_at(source, diagnostic.line);
+        let behind = arguments(words);
+        match diagnostic.kind {
+            DiagKind::Cut => cut(alloc),
+            DiagKind::Orphan => word::orphan(alloc, words),
+            DiagKind::NoTrigger => trigger::no_trigger(alloc),
+            DiagKind::BadTrigger => trigger::bad_trigger(alloc, behind),
+            DiagKind::TwiceProp => trigger::twice_prop(alloc, behind),
+            DiagKind::BadWord => word::bad_word(alloc, part, words),
+            DiagKind::BadArity => word::bad_arity(alloc, part, words),
+            DiagKind::BadOption => service::bad_option(alloc, words),
+            DiagKind::BadService => service::bad_service(alloc, behind),
+            DiagKind::ServiceAgain => {
+                let name = first_word(behind);
+                service::service_again(alloc, self.root, name, self.declared(name))
+            }
+            DiagKind::BadImport => import::bad_import(alloc, behind),
+            DiagKind::BadProp => self.bad_prop(diagnostic),
+            DiagKind::NoFile | DiagKind::Loop | DiagKind::TooDeep | DiagKind::BadExpand => {
+                let path = match behind {
+                    [path, ..] => path.share()?,
+                    [] => Text::empty(),
+                };
+                import::nowhere(alloc, &mut self.view, diagnostic.kind, &path)
+            }
+        }
+    }
+
+    /// A line of a build file that sets no property.
+    fn bad_prop(&self, diagnostic: &Diagnostic) -> Result<Text, NoMemory> {
+        let line = self.line_of_build_file(diagnostic);
+        let message = Message::of(self.alloc, b"NAME=VALUE is expected, ")?
+            .quote(line)?
+            .say(b" is given")?;
+        let message = if line.contains(&b'=') {
+            message.say(b"; a name that begins with ctl. can't be set here")?
+        } else {
+            message
+        };
+        message.end()
+    }
+
+    /// The line of a build file that has a diagnostic, without the blanks round it.
+    fn line_of_build_file(&self, diagnostic: &Diagnostic) -> &[u8] {
+        let file = diagnostic.file.bytes();
+        let Some(seen) = self.seen.iter().find(|seen| seen.path.is(file)) else {
+            return &[];
+        };
+        let mut number: u32 = 0;
+        for line in seen.text.bytes().split(|byte| *byte == b'\n') {
+            number = number.saturating_add(1);
+            if number == diagnostic.line {
+                return line.trim_ascii();
+            }
+        }
+        &[]
+    }
+}
+
+/// A file that ends inside a token.
+fn cut(alloc: Global) -> Result<Text, NoMemory> {
+    Message::of(
+        alloc,
+        b"the file ends inside quotes or behind a backslash, in the line that begins here",
+    )?
+    .end()
+}
+
+/// The words of a line, and what it stands in.
+fn words_at(source: &Source, line: u32) -> (&[Text], Option<Part>) {
+    let Ok(place) = source
+        .lines
+        .items()
+        .binary_search_by_key(&line, |line| line.number)
+    else {
+        return (&[], None);
+    };
+    let words = match source.lines.at(place) {
+        Some(line) => line.words.items(),
+        None => &[],
+    };
+    let part = match source.parts.at(place) {
+        Some(part) => *part,
+        None => None,
+    };
+    (words, part)
+}

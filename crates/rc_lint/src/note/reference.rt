@@ -1,0 +1,99 @@
+//! Commands that name a service or a class that no file declares.
+
+use super::{NoteKind, Notes};
+use crate::finding::WarningKind;
+use crate::message::Message;
+use init_base::{NoMemory, Text};
+use init_machine::{Command, Config, Word};
+use text_index::TextIndex;
+
+/// The names of the services and classes of a tree.
+#[derive(Drop)]
+struct Names {
+    services: TextIndex,
+    classes: TextIndex,
+}
+
+/// What a command names.
+#[derive(Clone, Copy)]
+enum Named<'a> {
+    Service(&'a Text),
+    Class(&'a Text),
+}
+
+/// Adds a warning for each command that names what no file declares.
+pub fn add(notes: &mut Notes, config: &Config) -> Result<(), NoMemory> {
+    let names = names_of(notes, config)?;
+    for action in config.actions.items() {
+        add_commands(notes, &names, action.commands.items())?;
+    }
+    for service in config.services.items() {
+        add_commands(notes, &names, service.onrestart.items())?;
+    }
+    Ok(())
+}
+
+fn names_of(notes: &Notes, config: &Config) -> Result<Names, NoMemory> {
+    let mut names = Names {
+        services: TextIndex::new(notes.alloc),
+        classes: TextIndex::new(notes.alloc),
+    };
+    for service in config.services.items() {
+        names.services.add(service.name.bytes())?;
+        for class in service.classes.items() {
+            names.classes.add(class.bytes())?;
+        }
+    }
+    Ok(names)
+}
+
+fn add_commands(notes: &mut Notes, names: &Names, commands: &[Command]) -> Result<(), NoMemory> {
+    for command in commands {
+        add_command(notes, names, command)?;
+    }
+    Ok(())
+}
+
+/// The service or class that a command names. An option may stand before it. What is expanded isn't known here.
+fn name_in(command: &Command) -> Option<Named<'_>> {
+    let name = command.args.items().last()?;
+    if name.bytes().contains(&b'$') {
+        return None;
+    }
+    match command.word {
+        Word::Start | Word::Stop | Word::Restart | Word::Enable | Word::ExecStart => {
+            Some(Named::Service(name))
+        }
+        Word::ClassStart | Word::ClassStop | Word::ClassReset | Word::ClassRestart => {
+            Some(Named::Class(name))
+        }
+        _ => None,
+    }
+}
+
+fn add_command(notes: &mut Notes, names: &Names, command: &Command) -> Result<(), NoMemory> {
+    let (kind, name, what): (WarningKind, &Text, &[u8]) = match name_in(command) {
+        Some(Named::Service(name)) if names.services.place(name.bytes()).is_none() => {
+            (WarningKind::NoService, name, b" names the service ")
+        }
+        Some(Named::Class(name)) if names.classes.place(name.bytes()).is_none() => {
+            (WarningKind::NoClass, name, b" names the class ")
+        }
+        _ => return Ok(()),
+    };
+    let behind: &[u8] = match kind {
+        WarningKind::NoClass => b", which no service has",
+        _ => b", which no file declares",
+    };
+    let message = Message::of(notes.alloc, command.word.name())?
+        .say(what)?
+        .quote(name.bytes())?
+        .say(behind)?
+        .end()?;
+    notes.add(
+        &command.file,
+        command.line,
+        NoteKind::Warning(kind),
+        message,
+    )
+}

@@ -1,0 +1,189 @@
+//! The lines of the files that have diagnostics.
+
+ghost use Rattle.std.specs.Prelude.{◌≡◌, ◌<◌, ◌&&◌, ℕ, List as Items, [], Some, IfErr, IfOk, IfSome, nat_eq, length, slice_get};
+ghost use Rattle.std.specs.List.{list_any};
+ghost use Rattle.init_base.specs.Faults.{Counted};
+ghost use Rattle.init_machine.specs.declared.diagnostic.Diagnostic.{Diagnostic as AnyDiagnostic};
+ghost use Rattle.rc_import.specs.Answers.{is_read_fault};
+ghost use Rattle.rc_lint.specs.Code.Sources.{AreSourcesOf, HasSourceAt, IsLater, IsSourceOf};
+ghost use Rattle.rc_lint.specs.Excused.{is_excusable as is_excusable_lem};
+ghost use Rattle.rc_lint.specs.Told.{IsTold, Told, lines_at, lines_of as lines_of_lem};
+
+use crate::excuse::{Part, taken_elsewhere};
+use crate::lines::{is_header, is_on, is_service};
+use init_base::{Files, List, NoMemory, ReadRefusal, Text};
+use init_machine::{DiagKind, Diagnostic};
+use rc_import::LoadRefusal;
+use rc_tokens::{Line, TokenRefusal, Tokens, lines};
+use std::alloc::Global;
+use std::collections::HashSet;
+use text_index::TextIndex;
+
+/// The most bytes of a file.
+const MOST_BYTES: usize = 1_048_576;
+
+/// A file that has diagnostics.
+#[derive(Drop)]
+pub struct Source {
+    pub file: Text,
+    pub lines: List<Line>,
+    /// What each line stands in. None where it is in no section, or in an import.
+    pub parts: List<Option<Part>>,
+    /// The numbers of the lines that another init takes.
+    pub taken: HashSet<u32>,
+}
+
+/// Whether a diagnostic of this kind can be excused.
+fn is_excusable(kind: DiagKind) -> bool
+    ensures { result ≡ is_excusable_lem kind }
+{
+    matches!(kind, DiagKind::BadWord | DiagKind::BadTrigger)
+}
+
+impl Source {
+    /// Whether a diagnostic of the file is excused.
+    pub fn is_excused(&self, diagnostic: &Diagnostic) -> bool
+        ensures { result ≡ (is_excusable_lem diagnostic.now.kind && list_any (nat_eq diagnostic.now.line) self.now.taken.keys) }
+    {
+        is_excusable(diagnostic.kind) && self.taken.contains(&diagnostic.line)
+    }
+}
+
+fn lines_in(tokens: Tokens) -> List<Line>
+    ensures { result ≡ tokens.lines }
+{
+    tokens.lines
+}
+
+/// The lines that some bytes spell. None where they are past the limit of files.
+fn lines_of(alloc: Global, bytes: &[u8]) -> Result<List<Line>, NoMemory>
+    ensures { (told : Told) (tree : Items (Items ℕ × Items ℕ)) → IsTold (Some tree) told → IfOk result (λ lines. lines ≡ lines_of_lem told (Some bytes.now)) }
+{
+    match lines(alloc, bytes) {
+        Ok(tokens) => Ok(lines_in(tokens)),
+        Err(TokenRefusal::TooLarge) => Ok(List::new(alloc)),
+        Err(TokenRefusal::NoMemory) => Err(NoMemory),
+    }
+}
+
+/// The lines of a file. None where it isn't there.
+fn read_lines<F: Files>(
+    alloc: Global,
+    files: &mut F,
+    path: &Text,
+) -> Result<List<Line>, LoadRefusal>
+    ensures told { (told : Told) → IsTold (F.tree files.old) told → IfOk result (λ lines. lines ≡ lines_at told path.now) }
+    ensures kind { IfErr result IsLater }
+    ensures tree { F.tree files.new ≡ F.tree files.old }
+    ensures cause { Counted (is_read_fault result) (F.fault_count files.old) (F.fault_count files.new) }
+{
+    match files.read(alloc, path.bytes(), MOST_BYTES) {
+        Ok(Some(text)) => Ok(lines_of(alloc, text.bytes())?),
+        Ok(None) | Err(ReadRefusal::TooLarge) => Ok(List::new(alloc)),
+        Err(ReadRefusal::Failed) => Err(LoadRefusal::ReadFault),
+        Err(ReadRefusal::NoMemory) => Err(LoadRefusal::NoMemory),
+    }
+}
+
+/// What each of these lines stands in.
+fn parts_of(alloc: Global, lines: &[Line]) -> Result<List<Option<Part>>, NoMemory> {
+    let mut parts = List::with_capacity(alloc, lines.len())?;
+    let mut part = None;
+    for line in lines {
+        if is_header(line) {
+            part = part_below(line);
+        }
+        parts.push(part)?;
+    }
+    Ok(parts)
+}
+
+/// What the lines below a header stand in.
+fn part_below(header: &Line) -> Option<Part> {
+    if is_on(header) {
+        Some(Part::Action)
+    } else if is_service(header) {
+        Some(Part::Service)
+    } else {
+        None
+    }
+}
+
+fn read_source<F: Files>(
+    alloc: Global,
+    files: &mut F,
+    allowed: &List<Text>,
+    file: &Text,
+) -> Result<Source, LoadRefusal>
+    ensures file { IfOk result (λ source. source.file ≡ file.now) }
+    ensures told { (told : Told) → IsTold (F.tree files.old) told → IfOk result (IsSourceOf allowed.now told) }
+    ensures kind { IfErr result IsLater }
+    ensures tree { F.tree files.new ≡ F.tree files.old }
+    ensures cause { Counted (is_read_fault result) (F.fault_count files.old) (F.fault_count files.new) }
+{
+    let lines = read_lines(alloc, files, file)?;
+    let taken = taken_elsewhere(alloc, allowed, lines.items())?;
+    let parts = parts_of(alloc, lines.items())?;
+    Ok(Source {
+        file: file.share()?,
+        lines,
+        parts,
+        taken,
+    })
+}
+
+/// The files that have diagnostics, each once, as they are asked for.
+#[derive(Drop)]
+pub struct Sources {
+    index: TextIndex,
+    pub sources: List<Source>,
+}
+
+impl Sources {
+    pub fn new(alloc: Global) -> Sources
+        ensures { result.sources ≡ [] }
+    {
+        Sources {
+            index: TextIndex::new(alloc),
+            sources: List::new(alloc),
+        }
+    }
+
+    /// The place of a file, where it was read.
+    #[tactic(auto, using(crate::proofs::Placed::has_source))]
+    fn place(&self, file: &Text) -> Option<usize>
+        ensures { IfSome result (HasSourceAt self.now.sources file.now) }
+    {
+        let place = self.index.place(file.bytes())?;
+        let source = self.sources.at(place)?;
+        if source.file.is(file.bytes()) {
+            Some(place)
+        } else {
+            None
+        }
+    }
+
+    /// The place of a file, which is read where it wasn't yet.
+    pub fn place_of<F: Files>(
+        &mut self,
+        alloc: Global,
+        files: &mut F,
+        allowed: &List<Text>,
+        file: &Text,
+    ) -> Result<usize, LoadRefusal>
+        ensures place { IfOk result (HasSourceAt self.new.sources file.now) }
+        ensures told { (told : Told) → IsTold (F.tree files.old) told → AreSourcesOf allowed.now told self.old.sources → IfOk result (λ _. AreSourcesOf allowed.now told self.new.sources) }
+        ensures kind { IfErr result IsLater }
+        ensures tree { F.tree files.new ≡ F.tree files.old }
+        ensures cause { Counted (is_read_fault result) (F.fault_count files.old) (F.fault_count files.new) }
+    {
+        if let Some(place) = self.place(file) {
+            return Ok(place);
+        }
+        let source = read_source(alloc, files, allowed, file)?;
+        self.index.add(file.bytes())?;
+        let place = self.sources.len();
+        self.sources.push(source)?;
+        Ok(place)
+    }
+}

@@ -1,0 +1,58 @@
+//! What is printed to standard error.
+
+use crate::status::Status;
+use init_base::{Fault, Text};
+use rc_import::LoadRefusal;
+use std::io;
+use std::string::String;
+
+/// Prints why there is no report, and behind it which path was meant and what the system said, where it said anything and
+/// there is memory for it.
+pub fn tell(rt: &HostRuntime, status: &Status, fault: Option<&Fault>) -> io::Result<()> {
+    match status {
+        Status::Clean | Status::Faulty => Ok(()),
+        Status::WriteFault => {
+            eprintln!(rt; "rc-lint: write fault")?;
+            tell_fault(rt, fault)
+        }
+        Status::Refused(refusal) => tell_refusal(rt, refusal, fault),
+    }
+}
+
+fn tell_refusal(rt: &HostRuntime, refusal: &LoadRefusal, fault: Option<&Fault>) -> io::Result<()> {
+    match refusal {
+        LoadRefusal::NoInit => {
+            eprintln!(rt; "rc-lint: no root file /system/etc/init/hw/init.rc")?;
+            tell_fault(rt, fault)
+        }
+        LoadRefusal::ReadFault => {
+            eprintln!(rt; "rc-lint: read fault")?;
+            tell_fault(rt, fault)
+        }
+        LoadRefusal::TooLarge { path, number } => tell_limit(rt, "too large", path, *number),
+        LoadRefusal::TooMany { path, number } => tell_limit(rt, "too many files", path, *number),
+        LoadRefusal::NoMemory => eprintln!(rt; "rc-lint: no memory"),
+    }
+}
+
+/// The limit that a path passes.
+fn tell_limit(rt: &HostRuntime, what: &str, path: &Text, number: u64) -> io::Result<()> {
+    let path = String::from_utf8_lossy(rt.alloc(), path.bytes())?;
+    eprintln!(rt; "rc-lint: {what}: {path}: {number}")
+}
+
+/// What the system said. Its number of the error is left out behind its words.
+fn tell_fault(rt: &HostRuntime, fault: Option<&Fault>) -> io::Result<()> {
+    let Some(fault) = fault else {
+        return Ok(());
+    };
+    let alloc = rt.alloc();
+    let line = format!(in alloc; "{fault}")?;
+    let number = match fault.error.raw_os_error() {
+        Some(code) => format!(in alloc; " (os error {code})")?,
+        None => String::new(alloc),
+    };
+    let line = line.as_str();
+    let said = line.strip_suffix(number.as_str()).unwrap_or(line);
+    eprintln!(rt; "rc-lint: {said}")
+}
