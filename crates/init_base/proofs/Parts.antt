@@ -23,3 +23,11 @@ part_of_shared whole xs start end from to is order bound =
     let bounded : to ≤ length (slice_range xs start end) = rw is bound in
     let within : to ≤ end - start = omega (arith, length-take (end - start) (drop start xs)) in
     part_of_part xs start end from to order within ∙ ap (λ l. slice_range l from to) is
+
+-- the front of a piece that begins where a part does
+pub front_of_piece : (xs : List ℕ) (from to size : ℕ) → from ≤ to → to - from ≤ size
+    → take (to - from) (slice_range xs from (from + size)) ≡ slice_range xs from to
+front_of_piece xs from to size order short =
+    let count : from + size - from ≡ size = omega arith in
+    ap (λ k. take (to - from) (take k (drop from xs))) count
+    ∙ take-take (to - from) size (drop from xs) short

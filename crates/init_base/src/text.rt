@@ -1,6 +1,6 @@
 //! Texts: lists of bytes, mostly ASCII, of any content.
 
-ghost use Rattle.std.specs.Prelude.{◌≡◌, ◌≤◌, ◌↔◌, [], IsTrue, IfOk, length, slice_range};
+ghost use Rattle.std.specs.Prelude.{◌≡◌, ◌≤◌, ◌-◌, ◌↔◌, [], IsTrue, IfOk, length, slice_range};
 ghost use Rattle.std.specs.Arc.{arc_value};
 ghost use Rattle.std.specs.Str.{bytes_eq, is_utf8};
 ghost use Rattle.init_base.specs.Text.{form_bytes, IsForm};
@@ -106,12 +106,45 @@ impl Text {
         Text::inline(&[])
     }
 
+    /// A text of at most 22 bytes of others, in place. Where 22 stand there, they are copied as one piece of a known
+    /// size, which is quicker than those alone that are meant.
+    #[tactic(auto, using(crate::proofs::Parts::front_of_piece))]
+    fn part(bytes: &[u8], from: usize, to: usize) -> Text
+        requires order { from ≤ to }
+        requires bound { to ≤ length bytes.now }
+        requires short { to - from ≤ 22 }
+        ensures { result ≡ slice_range bytes.now from to }
+    {
+        if bytes.len() - from < MAX_INLINE {
+            return Text::inline(&bytes[from..to]);
+        }
+        let mut kept = [0; 22];
+        kept.copy_from_slice(&bytes[from..from + MAX_INLINE]);
+        Text {
+            form: Form::Inline {
+                len: (to - from) as u8,
+                bytes: kept,
+            },
+        }
+    }
+
     /// Another text of the same bytes, which shares them. It takes no memory, and fails only where as many texts share
     /// them as can be counted.
     pub fn share(&self) -> Result<Text, NoMemory>
         ensures { IfOk result (λ t. t ≡ self.now) }
     {
-        self.slice(0, self.len())
+        let form = match &self.form {
+            Form::Inline { len, bytes } => Form::Inline {
+                len: *len,
+                bytes: *bytes,
+            },
+            Form::Shared { owner, from, to } => Form::Shared {
+                owner: Arc::try_clone(owner)?,
+                from: *from,
+                to: *to,
+            },
+        };
+        Ok(Text { form })
     }
 
     /// A text of the bytes from one place to before another, which shares them as `share` does.
@@ -130,7 +163,15 @@ impl Text {
                 let start = *start as usize;
                 Text::shared(Arc::try_clone(owner)?, start + from, start + to)
             }
-            _ => Ok(Text::inline(&self.bytes()[from..to])),
+            Form::Shared {
+                owner,
+                from: start,
+                ..
+            } => {
+                let start = *start as usize;
+                Ok(Text::part(owner.as_slice(), start + from, start + to))
+            }
+            Form::Inline { .. } => Ok(Text::inline(&self.bytes()[from..to])),
         }
     }
 
