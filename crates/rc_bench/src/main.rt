@@ -45,10 +45,10 @@ fn text_of(alloc: Global, pattern: &[u8]) -> Result<Vec<u8>, NoMemory>
 fn read_once(alloc: Global, text: &[u8], parses: bool) -> Result<usize, TokenRefusal> {
     let tokens = lines(alloc, text)?;
     if !parses {
-        return Ok(tokens.lines.len());
+        return Ok(tokens.lines().len());
     }
     let file = Text::of(alloc, b"/init.rc")?;
-    Ok(parse(alloc, &file, tokens)?.diagnostics.len())
+    Ok(parse(alloc, &file, &tokens)?.diagnostics.len())
 }
 
 /// None where the words are no run, or memory is short.

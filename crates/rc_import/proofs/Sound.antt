@@ -24,8 +24,7 @@ use Rattle.init_machine.specs.declared.service.ServiceDef.{ServiceDef}
 use Rattle.init_machine.specs.declared.word.Word.{Word}
 use Rattle.init_machine.specs.declared.word.Word.TheVariants as word
 use Rattle.init_machine.specs.declared.word.TheConstants.{WORDS}
-use Rattle.rc_tokens.specs.declared.line.Line.{Line}
-use Rattle.rc_tokens.specs.declared.line.Tokens.{Tokens}
+use Rattle.rc_tokens.specs.Lines.{Line, Tokens}
 use Rattle.rc_parse.specs.Commands.{command_of, command_with, command_word, permitted}
 use Rattle.rc_parse.specs.Kept.{Kept, chosen, is_again, is_named, is_not_overridden, kept, kept_behind}
 use Rattle.rc_parse.specs.Lines.{Section, arguments, first_word, is_on, is_service, sections}

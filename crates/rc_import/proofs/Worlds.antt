@@ -2,9 +2,7 @@
 use Rattle.std.proofs.Common.{ℕ, List, ◌++◌, Option, Some, refl}
 use Rattle.std.proofs.Common.{map}
 use Rattle.std.specs.List.{flat_map}
-use Rattle.rc_tokens.specs.Lines.{Lines}
-use Rattle.rc_tokens.specs.declared.line.Line.{Line}
-use Rattle.rc_tokens.specs.declared.line.Tokens.{Tokens}
+use Rattle.rc_tokens.specs.Lines.{Line, Tokens, Lines}
 use Rattle.rc_parse.specs.Files.{Reads}
 use Rattle.rc_parse.specs.Lines.{lines_before_header, sections}
 use Rattle.rc_parse.specs.Sections.{Sections, actions_of, cut, diagnostics_of, imports_of, orphan, services_of}

@@ -219,5 +219,5 @@ fn sections_of(alloc: Global, path: &Text, content: &Text) -> Result<Parsed, NoM
     let Ok(tokens) = lines(alloc, content.bytes()) else {
         return Err(NoMemory);
     };
-    parse(alloc, path, tokens)
+    parse(alloc, path, &tokens)
 }

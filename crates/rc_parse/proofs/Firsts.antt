@@ -1,29 +1,32 @@
 -- The first words of a list.
-use Rattle.std.proofs.Common.{◌≡◌, ℕ, ◌-◌, ◌≤◌, ◌&&◌, nat_le, true, not, ◌==◌, List, [], ◌∷◌, length, Some, slice_get, nat_eq, take, drop, refl, ap, ◌∙◌, arith}
+use Rattle.std.proofs.Common.{◌≡◌, ℕ, ◌-◌, ◌≤◌, ◌&&◌, nat_le, true, not, ◌==◌, List, [], ◌∷◌, length, get_or, nat_eq, take, drop, refl, ap, ◌∙◌, arith}
 use Rattle.std.proofs.lemmas.Bool.{and_parts, leb-true}
 use Rattle.std.proofs.lemmas.List.{length-take, take_rest}
 use Rattle.std.proofs.lemmas.Slice.Eq.{bytes_eq-Decides}
-use Rattle.std.specs.List.{remove, slice_range, starts_with}
+use Rattle.std.specs.List.{slice_range, starts_with}
 use Rattle.rc_parse.specs.Lines.{first_word, arguments}
 use Rattle.rc_parse.specs.Services.{is_service_header, is_service_name}
-
-pub first_taken : (words : List (List ℕ)) (word : List ℕ) → slice_get words 0 ≡ Some word → word ≡ first_word words
-first_taken [] word is = cc
-first_taken (first ∷ words) word is = cc
-
-pub others_left : (words : List (List ℕ)) → remove words 0 ≡ arguments words
-others_left [] = refl
-others_left (first ∷ words) = refl
-
-pub one_less : (words : List (List ℕ)) → length (arguments words) ≡ length words - 1
-one_less [] = refl
-one_less (first ∷ words) = omega arith
 
 -- the words of a header of a good form are two or more
 pub has_two : (words : List (List ℕ)) → is_service_header words ≡ true → 2 ≤ length words
 has_two words good =
     let front = and_parts (nat_le 2 (length words) && is_service_name (first_word words)) (not (length (first_word (arguments words)) == 0)) good in
     leb-true 2 (length words) (and_parts (nat_le 2 (length words)) (is_service_name (first_word words)) front.0).0
+
+-- words by their places
+pub first_at : (words : List (List ℕ)) (word : List ℕ) → 1 ≤ length words → word ≡ get_or words 0 word → word ≡ first_word words
+first_at [] word some is = absurd (omega arith)
+first_at (first ∷ words) word some is = is
+
+pub second_at : (words : List (List ℕ)) (word : List ℕ) → 2 ≤ length words → word ≡ get_or words 1 word → word ≡ first_word (arguments words)
+second_at [] word some is = absurd (omega arith)
+second_at (first ∷ []) word some is = absurd (omega arith)
+second_at (first ∷ second ∷ words) word some is = is
+
+pub behind_two : (words : List (List ℕ)) → drop 2 words ≡ arguments (arguments words)
+behind_two [] = refl
+behind_two (first ∷ []) = refl
+behind_two (first ∷ second ∷ words) = refl
 
 -- all behind a place
 pub all_behind : (text : List ℕ) (from len : ℕ) → len ≡ length text → slice_range text from len ≡ drop from text

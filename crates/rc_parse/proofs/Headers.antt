@@ -1,11 +1,11 @@
 -- The lines before the first header, and those from it on.
-use Rattle.std.proofs.Common.{◌≡◌, ◌≢◌, ℕ, ◌+◌, ◌<◌, ◌≤◌, Bool, true, false, not, cond, List, [], ◌∷◌, ◌++◌, Option, Some, None, IsSome, MatchOption, slice_index_or, length, take, drop, refl, sym, ap, ◌∙◌, arith, length-drop}
+use Rattle.std.proofs.Common.{◌≡◌, ℕ, ◌+◌, ◌≤◌, Bool, true, false, not, cond, List, [], ◌∷◌, length, take, drop, refl, sym, ap, ◌∙◌, arith, length-drop}
 use Rattle.std.proofs.Math.Numerals.{one-add}
 use Rattle.std.proofs.lemmas.Bool.{cond-true, cond-false}
+use Rattle.std.proofs.lemmas.List.Sums.{prefix_len-le-length}
 use Rattle.std.specs.List.{position_or_len}
-use Rattle.std.specs.Option.{option_to_list}
-use Rattle.rc_tokens.specs.declared.line.Line.{Line}
-use Rattle.rc_parse.specs.Lines.{Section, sections, is_header, lines_before_header}
+use Rattle.rc_tokens.specs.Lines.{Line}
+use Rattle.rc_parse.specs.Lines.{sections, is_header, lines_before_header}
 use Rattle.rc_parse.specs.Code.Adding.{from_header, section_of}
 
 pub none_before : (line : Line) (lines : List Line) → is_header line ≡ true → lines_before_header (line ∷ lines) ≡ []
@@ -58,17 +58,17 @@ is_first_header line lines whole =
       | false ↦ λ isnt. absurd (omega (arith, ap length (sym (others_left line lines isnt) ∙ whole), no_longer lines))
     ] refl
 
--- a line that was taken from the front, unless it is a header
-pub popped : (held old new : List Line) (first : Line) (result : Option Line) → held ≡ old → held ≡ option_to_list result ++ new → IsSome result
-    → first ≡ slice_index_or held 0 first → is_header first ≡ false
-    → MatchOption result ((lines_before_header old ≡ []) × (new ≡ from_header old))
-    (λ line. (lines_before_header old ≡ line ∷ lines_before_header new) × (from_header new ≡ from_header old) × (length new < length old))
-popped held old new first None held_is items some at isnt = absurd cc
-popped held old new first (Some line) held_is items some at isnt =
-    let same : first ≡ line = at ∙ ap (λ (all : List Line). slice_index_or all 0 first) items in
-    let other : is_header line ≡ false = ap is_header (sym same) ∙ isnt in
-    let old_is : old ≡ line ∷ new = sym held_is ∙ items in (
-      ap lines_before_header old_is ∙ one_before line new other,
-      sym (ap from_header old_is ∙ others_left line new other),
-      omega (arith, ap length old_is),
-    )
+pub section_fits : (lines : List Line) → position_or_len is_header lines ≤ length lines
+section_fits lines = prefix_len-le-length (λ line. not (is_header line)) lines
+
+-- one line less to look at, which is no header
+pub one_passed : (left behind : List Line) (line : Line) → left ≡ line ∷ behind → is_header line ≡ false
+    → position_or_len is_header left ≡ 1 + position_or_len is_header behind
+one_passed left behind line left_is isnt =
+    ap (λ (all : List Line). position_or_len is_header all) left_is
+    ∙ ap (λ (b : Bool). cond (not b) (1 + position_or_len is_header behind) 0) isnt
+
+pub none_passed : (left behind : List Line) (line : Line) → left ≡ line ∷ behind → is_header line ≡ true → position_or_len is_header left ≡ 0
+none_passed left behind line left_is is =
+    ap (λ (all : List Line). position_or_len is_header all) left_is
+    ∙ ap (λ (b : Bool). cond (not b) (1 + position_or_len is_header behind) 0) is

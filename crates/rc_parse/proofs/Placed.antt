@@ -6,9 +6,7 @@ use Rattle.std.specs.List.{AllByRecursion, flat_map, position_or_len}
 use Rattle.std.specs.Option.{option_to_list}
 use Rattle.init_machine.specs.declared.diagnostic.DiagKind.{DiagKind}
 use Rattle.init_machine.specs.declared.diagnostic.Diagnostic.{Diagnostic}
-use Rattle.rc_tokens.specs.Lines.{Ascend, numbers as token_numbers}
-use Rattle.rc_tokens.specs.declared.line.Line.{Line}
-use Rattle.rc_tokens.specs.declared.line.Tokens.{Tokens}
+use Rattle.rc_tokens.specs.Lines.{Line, Tokens, Ascend, numbers as token_numbers}
 use Rattle.rc_parse.specs.Lines.{Section, sections, is_header, is_on, is_service, lines_before_header}
 use Rattle.rc_parse.specs.Places.{section_lines, IsParted, InOrder, end, left_out, taken, numbers, places, ArePlaced}
 use Rattle.rc_parse.specs.Readings.{diagnosed}

@@ -3,8 +3,7 @@ use Rattle.std.proofs.Common.{◌≡◌, ℕ, List, Option, sym, subst, ap, ◌�
 use Rattle.init_machine.specs.declared.action.Action.{Action}
 use Rattle.init_machine.specs.declared.diagnostic.Diagnostic.{Diagnostic}
 use Rattle.init_machine.specs.declared.service.ServiceDef.{ServiceDef}
-use Rattle.rc_tokens.specs.declared.line.Line.{Line}
-use Rattle.rc_tokens.specs.declared.line.Tokens.{Tokens}
+use Rattle.rc_tokens.specs.Lines.{Line, Tokens}
 use Rattle.rc_tokens.proofs.Answer.{one_answer}
 use Rattle.rc_parse.specs.Files.{Reads}
 use Rattle.rc_parse.specs.Sections.{Sections}

@@ -1,16 +1,14 @@
 -- The sections of a list of lines, header by header.
-use Rattle.std.proofs.Common.{◌≡◌, ℕ, ◌+◌, Bool, true, false, IsTrue, ◌&&◌, not, cond, if◌then◌else◌, Option, Some, None, Result, Ok, Err, List, [], ◌∷◌, ◌++◌, map, take, refl, sym, ap, ◌∙◌, append_assoc}
-use Rattle.std.proofs.Math.Numerals.{one-add}
-use Rattle.std.proofs.lemmas.Bool.{cond-true, cond-false}
+use Rattle.std.proofs.Common.{◌≡◌, ℕ, Bool, true, false, IsTrue, ◌&&◌, if◌then◌else◌, Option, Result, Ok, Err, List, [], ◌∷◌, ◌++◌, map, refl, sym, ap, ◌∙◌, append_assoc}
+use Rattle.std.proofs.lemmas.Bool.{cond-false}
 use Rattle.std.proofs.lemmas.List.{append-nil}
 use Rattle.std.proofs.lemmas.List.Folds.{list_all-append}
-use Rattle.std.specs.List.{flat_map, list_all, position_or_len}
+use Rattle.std.specs.List.{flat_map, list_all}
 use Rattle.init_machine.specs.declared.action.Action.{Action}
 use Rattle.init_machine.specs.declared.diagnostic.DiagKind.{DiagKind}
 use Rattle.init_machine.specs.declared.diagnostic.Diagnostic.{Diagnostic}
 use Rattle.init_machine.specs.declared.service.ServiceDef.{ServiceDef}
-use Rattle.rc_tokens.specs.declared.line.Line.{Line}
-use Rattle.rc_tokens.specs.declared.line.Tokens.{Tokens}
+use Rattle.rc_tokens.specs.Lines.{Line, Tokens}
 use Rattle.rc_parse.specs.Lines.{Section, sections, is_header, is_on, is_service, lines_before_header}
 use Rattle.rc_parse.specs.Sections.{Sections, header_args, commands_of, has_command, action_under, actions_of, services_of, import_with, imports_of, import_fault, import_diagnostics, diagnostics_of, orphan, cut}
 use Rattle.rc_parse.specs.Triggers.{triggers_of}
@@ -36,13 +34,13 @@ with_first_section file parsed section more = rw (
 -- ---- section by section
 
 -- a section more
-pub section_added : (file : List ℕ) (parsed next : Parsed) (lines rest left : List Line) (header : Line)
-    → from_header lines ≡ lines → lines ≡ header ∷ rest → left ≡ from_header rest
-    → next ≡ with_section file parsed (section_of header (lines_before_header rest))
+pub section_added : (file : List ℕ) (parsed next : Parsed) (lines rest body left : List Line) (header : Line)
+    → from_header lines ≡ lines → lines ≡ header ∷ rest → body ≡ lines_before_header rest → left ≡ from_header rest
+    → next ≡ with_section file parsed (section_of header body)
     → with_sections file next (sections left) ≡ with_sections file parsed (sections lines)
-section_added file parsed next lines rest left header whole lines_are left_is next_is =
+section_added file parsed next lines rest body left header whole lines_are body_is left_is next_is =
     let first : is_header header ≡ true = is_first_header header rest (ap from_header (sym lines_are) ∙ whole ∙ lines_are) in
-    ap (λ (p : Parsed). with_sections file p (sections left)) next_is
+    ap (λ (p : Parsed). with_sections file p (sections left)) (next_is ∙ ap (λ (all : List Line). with_section file parsed (section_of header all)) body_is)
     ∙ ap (λ (all : List Section). with_sections file (with_section file parsed (section_of header (lines_before_header rest))) all) (ap sections left_is ∙ same_sections rest)
     ∙ with_first_section file parsed (section_of header (lines_before_header rest)) (sections rest)
     ∙ ap (λ (all : List Section). with_sections file parsed all) (sym (one_section header rest first) ∙ ap sections (sym lines_are))
@@ -74,19 +72,20 @@ all_added file tokens begun parsed last begun_is left last_is = record {
 }
 
 -- the same, where no lines are left
-pub none_left : (file : List ℕ) (tokens : Tokens) (first begun parsed last : Parsed) (lines left none : List Line)
-    → first ≡ nothing → lines ≡ tokens.lines
-    → begun ≡ with_diagnostics first (map (λ line. orphan file line.number) (lines_before_header lines)) → left ≡ from_header lines
+pub none_left : (file : List ℕ) (tokens : Tokens) (first begun parsed last : Parsed) (lines orphans left none : List Line) (dropped : Option ℕ)
+    → first ≡ nothing → lines ≡ tokens.lines → orphans ≡ lines_before_header lines
+    → begun ≡ with_diagnostics first (map (λ line. orphan file line.number) orphans) → left ≡ from_header lines
     → with_sections file parsed (sections none) ≡ with_sections file begun (sections left) → none ≡ []
-    → last ≡ with_diagnostics parsed (cut file tokens.dropped)
+    → dropped ≡ tokens.dropped → last ≡ with_diagnostics parsed (cut file dropped)
     → Sections file tokens last
-none_left file tokens first begun parsed last lines left none first_is lines_are begun_is left_is left_decides none_is last_is =
+none_left file tokens first begun parsed last lines orphans left none dropped first_is lines_are orphans_are begun_is left_is left_decides none_is dropped_is last_is =
     all_added file tokens begun parsed last
-    (begun_is ∙ ap (λ (p : Parsed). with_diagnostics p (map (λ line. orphan file line.number) (lines_before_header lines))) first_is
+    (begun_is ∙ ap (λ (p : Parsed). with_diagnostics p (map (λ line. orphan file line.number) orphans)) first_is
+    ∙ ap (λ (all : List Line). with_diagnostics nothing (map (λ line. orphan file line.number) all)) orphans_are
     ∙ ap (λ (all : List Line). with_diagnostics nothing (map (λ line. orphan file line.number) (lines_before_header all))) lines_are)
     (ap (λ (all : List Line). with_sections file parsed (sections all)) (sym none_is) ∙ left_decides
     ∙ ap (λ (all : List Section). with_sections file begun all) (ap sections left_is ∙ same_sections lines ∙ ap sections lines_are))
-    last_is
+    (last_is ∙ ap (λ (number : Option ℕ). with_diagnostics parsed (cut file number)) dropped_is)
 
 -- ---- each action has a command
 

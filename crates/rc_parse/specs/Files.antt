@@ -1,7 +1,6 @@
 -- What the bytes of a file mean.
 use Rattle.std.specs.Prelude.{ℕ, List, Option}
-use Rattle.rc_tokens.specs.Lines.{Lines}
-use Rattle.rc_tokens.specs.declared.line.Line.{Line}
+use Rattle.rc_tokens.specs.Lines.{Line, Lines}
 use Rattle.rc_parse.specs.Sections.{Sections}
 use Rattle.rc_parse.specs.declared.parsed.Parsed.{Parsed}
 

@@ -2,7 +2,7 @@
 use Rattle.std.specs.Prelude.{ℕ, Bool, ◌||◌, if◌then◌else◌, List, [], ◌∷◌, codes}
 use Rattle.std.specs.List.{before_first}
 use Rattle.std.specs.Str.{bytes_eq}
-use Rattle.rc_tokens.specs.declared.line.Line.{Line}
+use Rattle.rc_tokens.specs.Lines.{Line}
 
 -- the first of some words; a line that had none would begin with the empty word
 abbrev pub first_word : List (List ℕ) → List ℕ

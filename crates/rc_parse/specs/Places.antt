@@ -2,8 +2,7 @@
 use Rattle.std.specs.Prelude.{◌≡◌, ℕ, List, [], ◌∷◌, ◌++◌, map}
 use Rattle.std.specs.List.{flat_map}
 use Rattle.init_machine.specs.declared.diagnostic.Diagnostic.{Diagnostic}
-use Rattle.rc_tokens.specs.declared.line.Line.{Line}
-use Rattle.rc_tokens.specs.declared.line.Tokens.{Tokens}
+use Rattle.rc_tokens.specs.Lines.{Line, Tokens}
 use Rattle.rc_parse.specs.Lines.{Section, sections, lines_before_header}
 use Rattle.rc_parse.specs.Sections.{cut}
 use Rattle.rc_parse.specs.declared.parsed.Parsed.{Parsed}

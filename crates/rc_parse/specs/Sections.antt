@@ -8,8 +8,7 @@ use Rattle.init_machine.specs.declared.diagnostic.DiagKind.{DiagKind}
 use Rattle.init_machine.specs.declared.diagnostic.DiagKind.TheVariants.{Cut, Orphan, BadService, BadImport}
 use Rattle.init_machine.specs.declared.diagnostic.Diagnostic.{Diagnostic}
 use Rattle.init_machine.specs.declared.service.ServiceDef.{ServiceDef}
-use Rattle.rc_tokens.specs.declared.line.Line.{Line}
-use Rattle.rc_tokens.specs.declared.line.Tokens.{Tokens}
+use Rattle.rc_tokens.specs.Lines.{Line, Tokens}
 use Rattle.rc_parse.specs.Lines.{Section, arguments, is_on, is_service, sections, lines_before_header}
 use Rattle.rc_parse.specs.Readings.{diagnostic, values, diagnosed}
 use Rattle.rc_parse.specs.Commands.{command_of}

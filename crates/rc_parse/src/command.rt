@@ -5,9 +5,10 @@ ghost use Rattle.rc_parse.specs.Commands.{command_of, command_word as command_wo
 ghost use Rattle.rc_parse.specs.Readings.{IsReading};
 
 use crate::fault::Fault;
-use crate::words::{arguments, first_word, without_first};
-use init_base::{List, Text};
+use crate::words::{arguments, first_word, shared};
+use init_base::Text;
 use init_machine::{Command, DiagKind, Word};
+use std::alloc::Global;
 
 /// The word of a command with so many arguments.
 #[tactic(auto, unfolding(crate::specs::Commands::command_word))]
@@ -24,14 +25,15 @@ fn command_word(word: &[u8], count: usize) -> Result<Word, Fault>
 }
 
 /// The command that these words are, at a line of a file.
-pub fn command(file: &Text, line: u32, words: List<Text>) -> Result<Command, Fault>
-    ensures { IsReading result (command_of file.now line words) }
+pub fn command(alloc: Global, file: &Text, line: u32, words: &[Text]) -> Result<Command, Fault>
+    ensures { IsReading result (command_of file.now line words.now) }
 {
-    let word = command_word(first_word(words.items()), arguments(words.items()).len())?;
+    let args = arguments(words);
+    let word = command_word(first_word(words), args.len())?;
     Ok(Command {
         file: file.share()?,
         line,
         word,
-        args: without_first(words),
+        args: shared(alloc, args)?,
     })
 }

@@ -1,9 +1,7 @@
 //! What a file means, and where its lines and diagnostics stand: laws of the definitions.
 
 ghost use Rattle.std.specs.Prelude.{◌≡◌, ℕ, List};
-ghost use Rattle.rc_tokens.specs.Lines.{Ascend, numbers};
-ghost use Rattle.rc_tokens.specs.declared.line.Line.{Line};
-ghost use Rattle.rc_tokens.specs.declared.line.Tokens.{Tokens};
+ghost use Rattle.rc_tokens.specs.Lines.{Line, Tokens, Ascend, numbers};
 ghost use Rattle.rc_parse.specs.Files.{Reads};
 ghost use Rattle.rc_parse.specs.Places.{ArePlaced, IsParted, places};
 ghost use Rattle.rc_parse.specs.Sections.{Sections};

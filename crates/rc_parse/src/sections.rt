@@ -2,18 +2,18 @@
 
 ghost use Rattle.std.specs.Prelude.{◌≡◌, ◌∷◌, [], false, IsTrue, IfOk, OnOk, map};
 ghost use Rattle.std.specs.List.{list_all};
-ghost use Rattle.rc_parse.specs.Code.Adding.{from_header, section_of, with_diagnostics, with_import, with_section};
-ghost use Rattle.rc_parse.specs.Lines.{is_on as is_on_lem, is_service as is_service_lem, lines_before_header};
+ghost use Rattle.rc_parse.specs.Code.Adding.{section_of, with_diagnostics, with_import, with_section};
+ghost use Rattle.rc_parse.specs.Lines.{is_on as is_on_lem, is_service as is_service_lem};
 ghost use Rattle.rc_parse.specs.Sections.{Sections, cut, has_command, orphan};
 
 use crate::action::add_action;
-use crate::lines::Lines;
+use crate::lines::take_section;
 use crate::parsed::{Import, Parsed, diagnose};
 use crate::service::add_service;
-use crate::words::{is_on, is_service, take_first, without_first};
-use init_base::{List, NoMemory, Text};
+use crate::words::{arguments, is_on, is_service};
+use init_base::{NoMemory, Text};
 use init_machine::DiagKind;
-use rc_tokens::{Line, Tokens};
+use rc_tokens::{Line, LineSlice, Tokens};
 use std::alloc::Global;
 
 /// Adds a line that belongs to no section.
@@ -23,30 +23,24 @@ fn add_orphan(parsed: &mut Parsed, file: &Text, line: u32) -> Result<(), NoMemor
     diagnose(&mut parsed.diagnostics, file, line, DiagKind::Orphan)
 }
 
-/// Adds the lines before the next header, which belong to no section.
-fn add_orphans(parsed: &mut Parsed, file: &Text, lines: &mut Lines) -> Result<(), NoMemory>
-    ensures orphans { OnOk result (parsed.new ≡ with_diagnostics parsed.old (map (λ line. orphan file.now line.number) (lines_before_header lines.old))) }
-    ensures lines { OnOk result (lines.new ≡ from_header lines.old) }
+/// Adds lines that belong to no section.
+fn add_orphans(parsed: &mut Parsed, file: &Text, mut lines: LineSlice<'_>) -> Result<(), NoMemory>
+    ensures { OnOk result (parsed.new ≡ with_diagnostics parsed.old (map (λ line. orphan file.now line.number) lines.entry)) }
 {
-    while let Some(line) = lines.pop_in_section() {
-        add_orphan(parsed, file, line.number)?;
+    while let Some(line) = lines.pop() {
+        add_orphan(parsed, file, line.number())?;
     }
     Ok(())
 }
 
 /// Adds the import that these words behind `import` are.
-fn add_path(
-    parsed: &mut Parsed,
-    file: &Text,
-    line: u32,
-    mut words: List<Text>,
-) -> Result<(), NoMemory>
-    ensures { OnOk result (parsed.new ≡ with_import file.now parsed.old line words) }
+fn add_path(parsed: &mut Parsed, file: &Text, line: u32, words: &[Text]) -> Result<(), NoMemory>
+    ensures { OnOk result (parsed.new ≡ with_import file.now parsed.old line words.now) }
 {
-    if words.len() != 1 {
+    let [path] = words else {
         return diagnose(&mut parsed.diagnostics, file, line, DiagKind::BadImport);
-    }
-    let path = take_first(&mut words);
+    };
+    let path = path.share()?;
     parsed.imports.push(Import { path, line })
 }
 
@@ -54,32 +48,30 @@ fn add_path(
 fn add_import(
     parsed: &mut Parsed,
     file: &Text,
-    header: Line,
-    lines: &mut Lines,
+    header: &Line<'_>,
+    lines: LineSlice<'_>,
 ) -> Result<(), NoMemory>
-    requires other { is_on_lem header ≡ false }
-    requires import { is_service_lem header ≡ false }
-    ensures section { OnOk result (parsed.new ≡ with_section file.now parsed.old (section_of header (lines_before_header lines.old))) }
-    ensures lines { OnOk result (lines.new ≡ from_header lines.old) }
+    requires other { is_on_lem header.now ≡ false }
+    requires import { is_service_lem header.now ≡ false }
+    ensures { OnOk result (parsed.new ≡ with_section file.now parsed.old (section_of header.now lines.entry)) }
 {
-    add_path(parsed, file, header.number, without_first(header.words))?;
+    add_path(parsed, file, header.number(), arguments(header.words()))?;
     add_orphans(parsed, file, lines)
 }
 
-/// Adds the section with this header and the lines before the next one.
+/// Adds the section with this header and these lines.
 fn add_section(
     parsed: &mut Parsed,
     alloc: Global,
     file: &Text,
-    header: Line,
-    lines: &mut Lines,
+    header: &Line<'_>,
+    lines: LineSlice<'_>,
 ) -> Result<(), NoMemory>
-    ensures section { OnOk result (parsed.new ≡ with_section file.now parsed.old (section_of header (lines_before_header lines.old))) }
-    ensures lines { OnOk result (lines.new ≡ from_header lines.old) }
+    ensures { OnOk result (parsed.new ≡ with_section file.now parsed.old (section_of header.now lines.entry)) }
 {
-    if is_on(&header) {
+    if is_on(header) {
         add_action(parsed, alloc, file, header, lines)
-    } else if is_service(&header) {
+    } else if is_service(header) {
         add_service(parsed, alloc, file, header, lines)
     } else {
         add_import(parsed, file, header, lines)
@@ -96,18 +88,19 @@ fn add_cut(parsed: &mut Parsed, file: &Text, dropped: Option<u32>) -> Result<(),
     }
 }
 
-/// What the lines of a file mean. Their words become those of the sections.
-pub fn parse(alloc: Global, file: &Text, tokens: Tokens) -> Result<Parsed, NoMemory>
-    ensures sections { IfOk result (λ parsed. Sections file.now tokens parsed) }
+/// What the lines of a file mean. The words that stay share their bytes with those of the lines.
+pub fn parse(alloc: Global, file: &Text, tokens: &Tokens) -> Result<Parsed, NoMemory>
+    ensures sections { IfOk result (λ parsed. Sections file.now tokens.now parsed) }
     // Each action has a command.
     ensures commands { IfOk result (λ parsed. IsTrue (list_all has_command parsed.actions)) }
 {
     let mut parsed = Parsed::new(alloc);
-    let mut lines = Lines::of(tokens.lines);
-    add_orphans(&mut parsed, file, &mut lines)?;
+    let mut lines = tokens.lines();
+    add_orphans(&mut parsed, file, take_section(&mut lines))?;
     while let Some(header) = lines.pop() {
-        add_section(&mut parsed, alloc, file, header, &mut lines)?;
+        let body = take_section(&mut lines);
+        add_section(&mut parsed, alloc, file, &header, body)?;
     }
-    add_cut(&mut parsed, file, tokens.dropped)?;
+    add_cut(&mut parsed, file, tokens.dropped())?;
     Ok(parsed)
 }

@@ -1,21 +1,20 @@
 //! Service sections.
 
 ghost use Rattle.std.specs.Prelude.{◌≡◌, ◌++◌, ◌∷◌, [], true, false, IfOk, OnOk};
-ghost use Rattle.rc_parse.specs.Code.Adding.{from_header, section_of, setting_diagnostics, with_section};
-ghost use Rattle.rc_parse.specs.Lines.{arguments as arguments_lem, is_on, is_service, lines_before_header};
+ghost use Rattle.rc_parse.specs.Code.Adding.{section_of, setting_diagnostics, with_section};
+ghost use Rattle.rc_parse.specs.Lines.{is_on, is_service};
 ghost use Rattle.rc_parse.specs.Readings.{diagnosed, values};
 ghost use Rattle.rc_parse.specs.Sections.{setting_at, settings_of};
 ghost use Rattle.rc_parse.specs.Services.{is_service_header as is_service_header_lem, is_service_name as is_service_name_lem, service_with};
 ghost use Rattle.rc_parse.specs.Code.Settings.{with_setting, with_settings};
 
 use crate::fault::Fault;
-use crate::lines::Lines;
 use crate::parsed::{Parsed, diagnose};
 use crate::setting::{Setting, read_setting};
-use crate::words::{arguments, is_legal_name, take_first, without_first};
+use crate::words::{arguments, is_legal_name, shared};
 use init_base::{List, Millis, NoMemory, Text};
 use init_machine::{DiagKind, Diagnostic, ServiceDef};
-use rc_tokens::Line;
+use rc_tokens::{Line, LineSlice};
 use std::alloc::Global;
 
 /// The longest name of a service, in bytes: `init.svc.NAME` is a property.
@@ -39,22 +38,24 @@ fn is_service_header(words: &[Text]) -> bool
 }
 
 /// The service of a header, without options.
-#[tactic(auto, using(crate::proofs::Firsts::has_two, crate::proofs::Firsts::one_less))]
-fn new_service(alloc: Global, file: &Text, header: Line) -> Result<ServiceDef, NoMemory>
-    requires { is_service_header_lem (arguments_lem header.words) ≡ true }
-    ensures { IfOk result (λ service. service ≡ service_with file.now header.number (arguments_lem header.words) []) }
+#[tactic(auto, using(crate::proofs::Firsts::has_two, crate::proofs::Firsts::first_at, crate::proofs::Firsts::second_at, crate::proofs::Firsts::behind_two))]
+fn new_service(
+    alloc: Global,
+    file: &Text,
+    line: u32,
+    words: &[Text],
+) -> Result<ServiceDef, NoMemory>
+    requires { is_service_header_lem words.now ≡ true }
+    ensures { IfOk result (λ service. service ≡ service_with file.now line words.now []) }
 {
     let mut classes = List::new(alloc);
     classes.push(Text::of(alloc, DEFAULT_CLASS)?)?;
-    let mut words = without_first(header.words);
-    let name = take_first(&mut words);
-    let path = take_first(&mut words);
     Ok(ServiceDef {
-        name,
-        path,
-        args: words,
+        name: words[0].share()?,
+        path: words[1].share()?,
+        args: shared(alloc, &words[2..])?,
         file: file.share()?,
-        line: header.number,
+        line,
         classes,
         disabled: false,
         oneshot: false,
@@ -90,56 +91,54 @@ fn set_option(
     service: &mut ServiceDef,
     alloc: Global,
     file: &Text,
-    line: Line,
+    line: &Line<'_>,
     diagnostics: &mut List<Diagnostic>,
 ) -> Result<(), NoMemory>
-    ensures service { OnOk result (service.new ≡ with_settings service.old (values (setting_at file.now line))) }
-    ensures diagnostics { OnOk result (diagnostics.new ≡ diagnostics.old ++ diagnosed file.now line.number (setting_at file.now line)) }
+    ensures service { OnOk result (service.new ≡ with_settings service.old (values (setting_at file.now line.now))) }
+    ensures diagnostics { OnOk result (diagnostics.new ≡ diagnostics.old ++ diagnosed file.now line.now.number (setting_at file.now line.now)) }
 {
-    match read_setting(alloc, file, line.number, line.words) {
+    match read_setting(alloc, file, line.number(), line.words()) {
         Ok(setting) => set(service, setting),
-        Err(Fault::Bad(kind)) => diagnose(diagnostics, file, line.number, kind),
+        Err(Fault::Bad(kind)) => diagnose(diagnostics, file, line.number(), kind),
         Err(Fault::NoMemory) => Err(NoMemory),
     }
 }
 
-/// Sets the options of the lines before the next header. What is wrong in them is added to the diagnostics.
+/// Sets the options of lines. What is wrong in them is added to the diagnostics.
 fn set_options(
     service: &mut ServiceDef,
     alloc: Global,
     file: &Text,
-    lines: &mut Lines,
+    mut lines: LineSlice<'_>,
     diagnostics: &mut List<Diagnostic>,
 ) -> Result<(), NoMemory>
-    ensures service { OnOk result (service.new ≡ with_settings service.old (settings_of file.now (lines_before_header lines.old))) }
-    ensures diagnostics { OnOk result (diagnostics.new ≡ diagnostics.old ++ setting_diagnostics file.now (lines_before_header lines.old)) }
-    ensures lines { OnOk result (lines.new ≡ from_header lines.old) }
+    ensures service { OnOk result (service.new ≡ with_settings service.old (settings_of file.now lines.entry)) }
+    ensures diagnostics { OnOk result (diagnostics.new ≡ diagnostics.old ++ setting_diagnostics file.now lines.entry) }
 {
-    while let Some(line) = lines.pop_in_section() {
-        set_option(service, alloc, file, line, diagnostics)?;
+    while let Some(line) = lines.pop() {
+        set_option(service, alloc, file, &line, diagnostics)?;
     }
     Ok(())
 }
 
-/// Adds the `service` section with this header and the lines before the next one.
+/// Adds the `service` section with this header and these lines.
 pub fn add_service(
     parsed: &mut Parsed,
     alloc: Global,
     file: &Text,
-    header: Line,
-    lines: &mut Lines,
+    header: &Line<'_>,
+    lines: LineSlice<'_>,
 ) -> Result<(), NoMemory>
-    requires other { is_on header ≡ false }
-    requires service { is_service header ≡ true }
-    ensures section { OnOk result (parsed.new ≡ with_section file.now parsed.old (section_of header (lines_before_header lines.old))) }
-    ensures lines { OnOk result (lines.new ≡ from_header lines.old) }
+    requires other { is_on header.now ≡ false }
+    requires service { is_service header.now ≡ true }
+    ensures { OnOk result (parsed.new ≡ with_section file.now parsed.old (section_of header.now lines.entry)) }
 {
-    if !is_service_header(arguments(header.words.items())) {
-        lines.skip_section();
+    let words = arguments(header.words());
+    if !is_service_header(words) {
         let kind = DiagKind::BadService;
-        return diagnose(&mut parsed.diagnostics, file, header.number, kind);
+        return diagnose(&mut parsed.diagnostics, file, header.number(), kind);
     }
-    let mut service = new_service(alloc, file, header)?;
+    let mut service = new_service(alloc, file, header.number(), words)?;
     set_options(&mut service, alloc, file, lines, &mut parsed.diagnostics)?;
     parsed.services.push(service)
 }

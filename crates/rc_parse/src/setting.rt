@@ -11,7 +11,7 @@ use crate::fault::Fault;
 use crate::number::number_from;
 use crate::option_word::OptionWord;
 use crate::table::OPTIONS;
-use crate::words::{arguments, first_word, without_first};
+use crate::words::{arguments, first_word, shared};
 use init_base::{List, Millis, Text};
 use init_machine::{Arity, Command, Critical, DiagKind, Word};
 use std::alloc::Global;
@@ -72,13 +72,13 @@ fn is_waiting_word(text: &[u8]) -> bool
 }
 
 /// The command behind `onrestart`.
-fn onrestart(file: &Text, line: u32, words: List<Text>) -> Result<Command, Fault>
-    ensures { IsReading result (onrestart_of file.now line words) }
+fn onrestart(alloc: Global, file: &Text, line: u32, words: &[Text]) -> Result<Command, Fault>
+    ensures { IsReading result (onrestart_of file.now line words.now) }
 {
-    if is_waiting_word(first_word(words.items())) {
+    if is_waiting_word(first_word(words)) {
         return Err(Fault::Bad(DiagKind::BadOption));
     }
-    command(file, line, words)
+    command(alloc, file, line, words)
 }
 
 fn millis(seconds: u32) -> Millis
@@ -98,27 +98,22 @@ fn seconds(least: u32, text: &[u8]) -> Result<Millis, Fault>
 }
 
 /// What the words of an option's line set.
-pub fn read_setting(
-    alloc: Global,
-    file: &Text,
-    line: u32,
-    words: List<Text>,
-) -> Result<Setting, Fault>
-    ensures { IsReading result (setting_of file.now line words) }
+pub fn read_setting(alloc: Global, file: &Text, line: u32, words: &[Text]) -> Result<Setting, Fault>
+    ensures { IsReading result (setting_of file.now line words.now) }
 {
-    let args = arguments(words.items());
-    match option_word(first_word(words.items()), args.len())? {
-        OptionWord::Class => Ok(Setting::Classes(without_first(words))),
+    let args = arguments(words);
+    match option_word(first_word(words), args.len())? {
+        OptionWord::Class => Ok(Setting::Classes(shared(alloc, args)?)),
         OptionWord::Disabled => Ok(Setting::Disabled),
         OptionWord::Oneshot => Ok(Setting::Oneshot),
         OptionWord::Override => Ok(Setting::Override),
         OptionWord::Critical => Ok(Setting::Critical(critical(alloc, args)?)),
         OptionWord::Onrestart => {
-            let command = onrestart(file, line, without_first(words))?;
+            let command = onrestart(alloc, file, line, args)?;
             Ok(Setting::Onrestart(command))
         }
         OptionWord::RestartPeriod => Ok(Setting::Period(seconds(0, first_word(args))?)),
         OptionWord::TimeoutPeriod => Ok(Setting::Timeout(seconds(1, first_word(args))?)),
-        OptionWord::Inert(_) => Ok(Setting::Kept(words)),
+        OptionWord::Inert(_) => Ok(Setting::Kept(shared(alloc, words)?)),
     }
 }

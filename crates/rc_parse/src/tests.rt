@@ -164,7 +164,7 @@ fn add_parsed(out: &mut Vec<u8>, alloc: Global, parsed: &Parsed) -> Result<(), F
 
 fn parsed(alloc: Global, file: &[u8], text: &[u8]) -> Result<Parsed, Fail> {
     let tokens = rc_tokens::lines(alloc, text)?;
-    Ok(parse(alloc, &Text::of(alloc, file)?, tokens)?)
+    Ok(parse(alloc, &Text::of(alloc, file)?, &tokens)?)
 }
 
 /// The file of a row.

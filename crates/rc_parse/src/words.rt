@@ -1,11 +1,12 @@
 //! Words, and what a line is by its first one.
 
-ghost use Rattle.std.specs.Prelude.{◌≡◌, ◌<◌, ◌≤◌, IfOk, drop, length};
+ghost use Rattle.std.specs.Prelude.{◌≡◌, ◌≤◌, IfOk, drop, length};
 ghost use Rattle.init_base.specs.Name.{is_legal_name as is_legal_name_lem};
-ghost use Rattle.rc_parse.specs.Lines.{arguments as arguments_lem, first_word as first_word_lem, is_header as is_header_lem, is_import as is_import_lem, is_on as is_on_lem, is_service as is_service_lem};
+ghost use Rattle.rc_parse.specs.Lines.{arguments as arguments_lem, first_word as first_word_lem, is_header as is_header_lem, is_on as is_on_lem, is_service as is_service_lem};
 
 use init_base::{List, NoMemory, PropName, Text};
 use rc_tokens::Line;
+use std::alloc::Global;
 
 /// The first of some words, or the empty word.
 pub fn first_word(words: &[Text]) -> &[u8]
@@ -28,30 +29,25 @@ pub fn arguments(words: &[Text]) -> &[Text]
 }
 
 /// Whether a line begins an action.
-pub fn is_on(line: &Line) -> bool
+pub fn is_on(line: &Line<'_>) -> bool
     ensures { result ≡ is_on_lem line.now }
 {
-    first_word(line.words.items()) == b"on".as_slice()
+    first_word(line.words()) == b"on".as_slice()
 }
 
 /// Whether a line begins a service.
-pub fn is_service(line: &Line) -> bool
+pub fn is_service(line: &Line<'_>) -> bool
     ensures { result ≡ is_service_lem line.now }
 {
-    first_word(line.words.items()) == b"service".as_slice()
-}
-
-fn is_import(line: &Line) -> bool
-    ensures { result ≡ is_import_lem line.now }
-{
-    first_word(line.words.items()) == b"import".as_slice()
+    first_word(line.words()) == b"service".as_slice()
 }
 
 /// Whether a line begins a section.
-pub fn is_header(line: &Line) -> bool
+pub fn is_header(line: &Line<'_>) -> bool
     ensures { result ≡ is_header_lem line.now }
 {
-    is_on(line) || is_service(line) || is_import(line)
+    let word = first_word(line.words());
+    word == b"on".as_slice() || word == b"service".as_slice() || word == b"import".as_slice()
 }
 
 /// Whether a text is the name of a property.
@@ -70,22 +66,13 @@ pub fn behind(word: &Text, count: usize) -> Result<Text, NoMemory>
     word.slice(count, word.len())
 }
 
-/// Takes the first word away.
-#[tactic(auto, using(crate::proofs::Firsts::first_taken, crate::proofs::Firsts::others_left))]
-pub fn take_first(words: &mut List<Text>) -> Text
-    requires { 0 < length words.old }
-    ensures first { result ≡ first_word_lem words.old }
-    ensures others { words.new ≡ arguments_lem words.old }
+/// The same words in a list of their own, which share their bytes.
+pub fn shared(alloc: Global, words: &[Text]) -> Result<List<Text>, NoMemory>
+    ensures { IfOk result (λ list. list ≡ words.now) }
 {
-    words.remove(0)
-}
-
-/// The words behind the first one.
-pub fn without_first(mut words: List<Text>) -> List<Text>
-    ensures { result ≡ arguments_lem words }
-{
-    if !words.is_empty() {
-        let _first = take_first(&mut words);
+    let mut list = List::with_capacity(alloc, words.len())?;
+    for word in words {
+        list.push(word.share()?)?;
     }
-    words
+    Ok(list)
 }

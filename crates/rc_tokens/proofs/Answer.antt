@@ -1,10 +1,8 @@
 -- What the reader answers is what the text spells, and nothing else is.
 use Rattle.std.proofs.Common.{◌≡◌, ℕ, List, [], ◌∷◌, Option, refl, sym, ap, subst, ◌∙◌}
 use Rattle.rc_tokens.specs.Grammar.{Item, Ending, IsReading}
-use Rattle.rc_tokens.specs.Lines.{lines_of, dropped_of, Lines}
+use Rattle.rc_tokens.specs.Lines.{Line, Tokens, lines_of, dropped_of, Lines}
 use Rattle.rc_tokens.specs.Code.Steps.{start}
-use Rattle.rc_tokens.specs.declared.line.Line.{Line}
-use Rattle.rc_tokens.specs.declared.line.Tokens.{Tokens}
 use Rattle.rc_tokens.proofs.Pieces.{outcome}
 use Rattle.rc_tokens.proofs.Stretches.{line_parts, kept_lines, dropped_line, lines_same, dropped_same}
 use Rattle.rc_tokens.proofs.Items.{items_run, joined, some_stretch}

@@ -4,8 +4,7 @@ use Rattle.std.proofs.lemmas.List.{append-nil}
 use Rattle.std.proofs.lemmas.List.Sums.{sum_by-append}
 use Rattle.std.specs.List.{AllByRecursion}
 use Rattle.rc_tokens.specs.Grammar.{is_line_feed, Item, blank, line_end, comment, token, item_bytes, Ending, whole, open_quote, lone_backslash}
-use Rattle.rc_tokens.specs.Lines.{has_any, word_of, counts, line_number, all_but_last, Lines, Ascend, numbers}
-use Rattle.rc_tokens.specs.declared.line.Line.{Line}
+use Rattle.rc_tokens.specs.Lines.{Line, has_any, word_of, counts, line_number, all_but_last, Lines, Ascend, numbers}
 use Rattle.rc_tokens.proofs.Stretches.{no_tokens, put_before, onto_first_line, ending_line, line_parts, with_words, last_number, kept_lines, dropped_line, lines_same, dropped_same}
 
 abbrev kept_numbers : List Line → List ℕ

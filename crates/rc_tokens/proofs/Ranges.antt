@@ -4,8 +4,8 @@ use Rattle.std.proofs.lemmas.Bool.{and_parts, and_from, eqb-true, eq-eqb, leb-tr
 use Rattle.std.proofs.lemmas.List.{length-map, map-append, drop-append-le, take-append-le, drop_all, take_rest, take-map, drop-map}
 use Rattle.std.proofs.lemmas.List.Folds.{list_all-append}
 use Rattle.std.specs.List.{list_all}
+use Rattle.rc_tokens.specs.Lines.{Line}
 use Rattle.rc_tokens.specs.Code.Ranges.{part, words_at, lines_at, Spelling, spelling_of, is_within, AreWithin}
-use Rattle.rc_tokens.specs.declared.line.Line.{Line}
 use Rattle.rc_tokens.specs.declared.range.Mark.{Mark}
 use Rattle.rc_tokens.specs.declared.range.Range.{Range}
 

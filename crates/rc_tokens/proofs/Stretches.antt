@@ -4,8 +4,7 @@ use Rattle.std.proofs.Common.{◌≡◌, ℕ, Bool, true, false, cond, if◌then
 use Rattle.std.proofs.lemmas.List.{append-nil}
 use Rattle.std.specs.List.{flat_map, onto_first, slice_split}
 use Rattle.rc_tokens.specs.Grammar.{Item, blank, line_end, comment, token, item_bytes, items_bytes, Ending, whole, open_quote, lone_backslash}
-use Rattle.rc_tokens.specs.Lines.{has_any, word_of, counts, line_number, Placed, placed, Word, word_at, words_in, ends_line, stretches, line_of, all_but_last, last_of, first_number, cut_number, lines_of, dropped_of}
-use Rattle.rc_tokens.specs.declared.line.Line.{Line}
+use Rattle.rc_tokens.specs.Lines.{Line, has_any, word_of, counts, line_number, Placed, placed, Word, word_at, words_in, ends_line, stretches, line_of, all_but_last, last_of, first_number, cut_number, lines_of, dropped_of}
 
 abbrev pub no_tokens : Line
 no_tokens = record { number = 0; words = [] }

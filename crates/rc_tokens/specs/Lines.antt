@@ -2,7 +2,6 @@
 use Rattle.std.specs.Prelude.{◌≡◌, ℕ, ◌+◌, ◌<◌, Bool, true, false, ◌||◌, if◌then◌else◌, List, [], ◌∷◌, ◌++◌, Option, Some, None, count_by, map}
 use Rattle.std.specs.List.{AllByRecursion, flat_map, list_any, slice_split}
 use Rattle.std.specs.Option.{option_to_list}
-use Rattle.rc_tokens.specs.declared.line.Line.{Line}
 use Rattle.rc_tokens.specs.Grammar.{is_line_feed, Piece, spelled, is_quoted, Item, blank, line_end, comment, token, item_bytes, items_bytes, Ending, whole, open_quote, lone_backslash, IsReading}
 
 abbrev pub has_any : {A : Type 0} → List A → Bool
@@ -46,6 +45,16 @@ word_at number (token piece pieces) =
     if counts (piece ∷ pieces) then record { number = number; bytes = word_of (piece ∷ pieces) } ∷ [] else []
 
 -- ---- lines
+
+-- a line: the physical line on which its first token begins, from 1, and its words
+pub record Line : Type 0 where
+  pub number : ℕ
+  pub words : List (List ℕ)
+
+-- the lines of a file, and the number of the last line, where it is left out
+pub record Tokens : Type 0 where
+  pub lines : List Line
+  pub dropped : Option ℕ
 
 abbrev pub ends_line : Item → Bool
 ends_line (blank b) = false

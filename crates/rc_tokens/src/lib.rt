@@ -2,8 +2,8 @@
 //!
 //! `lines` answers the one reading that a text has. What a reading is stands in `specs/Grammar.antt`, a grammar
 //! of the whole text, and `specs/Lines.antt`, the lines that it spells; `one_reading` says that each text has
-//! exactly one. The words of a file are ranges of one buffer. What the code's loops say of themselves is in `specs/Code/`
-//! and is no part of any promise.
+//! exactly one. The words of a file stand in one list, of which its lines are ranges, as the words were ranges of one buffer
+//! before it was whole. What the code's loops say of themselves is in `specs/Code/` and is no part of any promise.
 #![tactic(auto)]
 
 mod line;
@@ -12,9 +12,11 @@ mod read;
 mod reader;
 mod run;
 mod spelled;
+mod tokens;
 
-pub use line::{Line, TokenRefusal, Tokens};
+pub use line::{Line, LineSlice};
 pub use read::{lines, lines_ascend, one_reading};
+pub use tokens::{TokenRefusal, Tokens};
 
 #[cfg(test)]
 mod tests;

@@ -2,12 +2,11 @@
 
 ghost use Rattle.std.specs.Prelude.{◌≡◌, ◌<◌, ◌≤◌, ◌↔◌, ℕ, List as Items, Option, Err, length, IfOk};
 ghost use Rattle.rc_tokens.specs.Grammar.{Item, Ending, IsReading};
-ghost use Rattle.rc_tokens.specs.Lines.{Ascend, Lines, numbers};
+ghost use Rattle.rc_tokens.specs.Lines.{Line, Ascend, Lines, numbers};
 ghost use Rattle.rc_tokens.specs.Code.Steps as steps;
-ghost use Rattle.rc_tokens.specs.declared.line.Line.{Line};
 
-use crate::line::{TokenRefusal, Tokens};
 use crate::reader::Reader;
+use crate::tokens::{TokenRefusal, Tokens};
 use init_base::NoMemory;
 use std::alloc::Global;
 

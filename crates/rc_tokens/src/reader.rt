@@ -5,9 +5,9 @@ ghost use Rattle.std.specs.Prelude.{◌≡◌, ◌≢◌, ◌<◌, ◌≤◌, �
 ghost use Rattle.rc_tokens.specs.Grammar.{escaped as escaped_lem};
 ghost use Rattle.rc_tokens.specs.Code.Steps as steps;
 
-use crate::line::Tokens;
 use crate::run::{blanks, is_blank, is_space, is_token_next, line_feeds, run_len};
 use crate::spelled::Spelled;
+use crate::tokens::Tokens;
 use init_base::NoMemory;
 use std::alloc::Global;
 
@@ -274,10 +274,7 @@ impl Reader {
     {
         let dropped = self.dropped();
         self.close()?;
-        Ok(Tokens {
-            lines: self.spelled.into_lines(alloc)?,
-            dropped,
-        })
+        self.spelled.into_tokens(alloc, dropped)
     }
 
     /// The number of the present line, if it is left out.

@@ -2,10 +2,10 @@
 
 ghost use Rattle.std.specs.Prelude.{◌≡◌, [], ◌∷◌, ◌++◌, ◌↔◌, ◌<◌, ◌≤◌, ◌&&◌, IsTrue, IfOk, OnOk, length, drop, nat_le};
 ghost use Rattle.std.specs.List.{list_all};
-ghost use Rattle.rc_tokens.specs.Code.Ranges.{is_within, line_at, lines_at, part, words_at};
+ghost use Rattle.rc_tokens.specs.Code.Ranges.{is_within, words_at};
 
-use crate::line::Line;
 use crate::range::{Mark, Range, place};
+use crate::tokens::Tokens;
 use init_base::{List, NoMemory, Text};
 use std::alloc::Global;
 use std::marker::Model;
@@ -104,48 +104,14 @@ impl Spelled {
         Ok(())
     }
 
-    /// The lines that have ended.
-    pub fn into_lines(self, alloc: Global) -> Result<List<Line>, NoMemory>
-        ensures { IfOk result (λ lines. lines ≡ self.lines) }
+    /// The lines that have ended, and the number of one that is left out.
+    pub fn into_tokens(self, alloc: Global, dropped: Option<u32>) -> Result<Tokens, NoMemory>
+        ensures { IfOk result (λ tokens. tokens ≡ record { lines = self.lines; dropped = dropped }) }
     {
-        lines_of(
-            alloc,
-            &Text::from_vec(self.bytes)?,
-            self.words.items(),
-            self.lines.items(),
-        )
+        let buffer = Text::from_vec(self.bytes)?;
+        let words = words_of(alloc, &buffer, self.words.items())?;
+        Ok(Tokens::of(words, self.lines, dropped))
     }
-}
-
-/// These lines, by their words in the buffer.
-fn lines_of(
-    alloc: Global,
-    buffer: &Text,
-    words: &[Range],
-    marks: &[Mark],
-) -> Result<List<Line>, NoMemory>
-    requires words { IsTrue (list_all (is_within (length buffer.now)) words.now) }
-    requires lines { IsTrue (list_all (λ mark. is_within (length words.now) mark.words) marks.now) }
-    ensures { IfOk result (λ lines. lines ≡ lines_at (words_at buffer.now words.now) marks.now) }
-{
-    let mut lines = List::with_capacity(alloc, marks.len())?;
-    for mark in marks {
-        lines.push(line_of(alloc, buffer, words, *mark)?)?;
-    }
-    Ok(lines)
-}
-
-#[tactic(auto, using(crate::proofs::Ranges::part_all, crate::proofs::Ranges::words_of_part))]
-fn line_of(alloc: Global, buffer: &Text, words: &[Range], mark: Mark) -> Result<Line, NoMemory>
-    requires words { IsTrue (list_all (is_within (length buffer.now)) words.now) }
-    requires line { IsTrue (is_within (length words.now) mark.words) }
-    ensures { IfOk result (λ line. line ≡ line_at (words_at buffer.now words.now) mark) }
-{
-    let Range { from, to } = mark.words;
-    Ok(Line {
-        number: mark.number,
-        words: words_of(alloc, buffer, &words[from as usize..to as usize])?,
-    })
 }
 
 /// The words of these ranges of the buffer.

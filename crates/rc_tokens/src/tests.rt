@@ -100,15 +100,18 @@ const FILES: [(&[u8], &[u8]); 81] = [
 /// What was read, as the table has it.
 fn shown(alloc: Global, tokens: &Tokens) -> Result<Vec<u8>, Fail> {
     let mut out = Vec::new(alloc);
-    for line in tokens.lines.items() {
-        out.extend_from_slice(format!(in alloc; "{}", line.number)?.as_bytes())?;
-        for word in line.words.items() {
+    for place in 0..tokens.lines().len() {
+        let Some(line) = tokens.lines().at(place) else {
+            break;
+        };
+        out.extend_from_slice(format!(in alloc; "{}", line.number())?.as_bytes())?;
+        for word in line.words() {
             out.push(b'<')?;
             out.extend_from_slice(word.bytes())?;
             out.push(b'>')?;
         }
     }
-    if let Some(number) = tokens.dropped {
+    if let Some(number) = tokens.dropped() {
         out.extend_from_slice(format!(in alloc; "!{}", number)?.as_bytes())?;
     }
     Ok(out)
@@ -141,6 +144,6 @@ fn largest_file(rt: HostRuntime) -> Result<(), Fail> {
     let bytes = vec![in rt.alloc(); b'\n'; 1_048_577]?;
     assert!(rt; matches!(lines(rt.alloc(), &bytes), Err(TokenRefusal::TooLarge)));
     let tokens = lines(rt.alloc(), &bytes[1..])?;
-    assert!(rt; tokens.lines.is_empty());
+    assert!(rt; tokens.lines().is_empty());
     Ok(())
 }

@@ -3,7 +3,7 @@ use Rattle.std.specs.Prelude.{ℕ, ◌==◌, if◌then◌else◌, List, [], ◌�
 use Rattle.std.specs.List.{flat_map, position_or_len}
 use Rattle.init_machine.specs.declared.diagnostic.DiagKind.TheVariants.{BadImport}
 use Rattle.init_machine.specs.declared.diagnostic.Diagnostic.{Diagnostic}
-use Rattle.rc_tokens.specs.declared.line.Line.{Line}
+use Rattle.rc_tokens.specs.Lines.{Line}
 use Rattle.rc_parse.specs.Lines.{Section, is_header}
 use Rattle.rc_parse.specs.Readings.{diagnosed, diagnostic}
 use Rattle.rc_parse.specs.Sections.{command_at, setting_at, commands_of, if_has_commands, actions_of, services_of, import_with, imports_of, diagnostics_of}

@@ -1,7 +1,7 @@
 -- Words as ranges of one buffer, and lines as ranges of the words.
 use Rattle.std.specs.Prelude.{ℕ, ◌≤◌, ◌&&◌, nat_le, Bool, IsTrue, List, length, drop, map}
 use Rattle.std.specs.List.{list_all, slice_range}
-use Rattle.rc_tokens.specs.declared.line.Line.{Line}
+use Rattle.rc_tokens.specs.Lines.{Line}
 use Rattle.rc_tokens.specs.declared.range.Mark.{Mark}
 use Rattle.rc_tokens.specs.declared.range.Range.{Range}
 
@@ -34,9 +34,13 @@ spelling_of bytes token_from words line_from lines = record {
 abbrev pub is_within : ℕ → Range → Bool
 is_within len range = nat_le range.from range.to && nat_le range.to len
 
+-- all lines are among so many words
+abbrev pub are_among : ℕ → List Mark → Bool
+are_among len marks = list_all (λ mark. is_within len mark.words) marks
+
 -- all ranges and places are within what they speak of
 pub record AreWithin (bytes : List ℕ) (token_from : ℕ) (words : List Range) (line_from : ℕ) (lines : List Mark) : Type 0 where
   pub words_within : IsTrue (list_all (is_within (length bytes)) words)
   pub token_within : token_from ≤ length bytes
-  pub lines_within : IsTrue (list_all (λ mark. is_within (length words) mark.words) lines)
+  pub lines_within : IsTrue (are_among (length words) lines)
   pub line_within : line_from ≤ length words

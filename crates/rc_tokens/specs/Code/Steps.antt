@@ -4,10 +4,8 @@ use Rattle.std.specs.List.{count_by}
 use Rattle.rc_tokens.specs.declared.reader.Mode.{Mode}
 use Rattle.rc_tokens.specs.declared.reader.Mode.TheVariants as mode
 use Rattle.rc_tokens.specs.declared.reader.Reader.{Reader}
-use Rattle.rc_tokens.specs.declared.line.Line.{Line}
-use Rattle.rc_tokens.specs.declared.line.Tokens.{Tokens}
 use Rattle.rc_tokens.specs.Grammar.{is_space, is_blank, is_line_feed, is_quote, is_backslash, is_hash, is_plain, escaped}
-use Rattle.rc_tokens.specs.Lines.{has_any}
+use Rattle.rc_tokens.specs.Lines.{Line, Tokens, has_any}
 
 abbrev pub start : Reader
 start = record { spelled = record { lines = []; words = []; token = [] }; first = 1; number = 1; has_quotes = false; mode = mode.Between }

@@ -7,24 +7,25 @@ use Rattle.rc_parse.proofs.sections.parse.Goals as goal
 pub loop-header-init : goal.loop-header-init
 loop-header-init c = record {
   left_decides = refl;
-  headed = ap from_header c.in_ok-add_orphans.ensures.lines ∙ headed c.of-lines.result ∙ sym c.in_ok-add_orphans.ensures.lines;
+  headed = ap from_header c.take_section.ensures.rest ∙ headed c.lines-lines.result ∙ sym c.take_section.ensures.rest;
 }
 
 pub loop-header-preserved : goal.loop-header-preserved
 loop-header-preserved c = record {
   left_decides =
-      section_added c.args.file.now c.loop-header.parsed c.add_section.new.parsed c.loop-header.lines c.pop.new.self c.add_section.new.lines c.in-Some.header
-      c.loop-header.invariant.headed c.in-Some.ensures c.in_ok-add_section.ensures.lines c.in_ok-add_section.ensures.section
+      section_added c.args.file.now c.loop-header.parsed c.add_section.new.parsed c.loop-header.lines c.pop.new.self c.take_section-body.result
+      c.take_section-body.new.lines c.in-Some.header
+      c.loop-header.invariant.headed c.in-Some.ensures c.take_section-body.ensures.section c.take_section-body.ensures.rest c.in_ok-add_section.ensures
       ∙ c.loop-header.invariant.left_decides;
-  headed = ap from_header c.in_ok-add_section.ensures.lines ∙ headed c.pop.new.self ∙ sym c.in_ok-add_section.ensures.lines;
+  headed = ap from_header c.take_section-body.ensures.rest ∙ headed c.pop.new.self ∙ sym c.take_section-body.ensures.rest;
 }
 
 pub returns-clause-sections : goal.returns-clause-sections
 returns-clause-sections c =
-    none_left c.args.file.now c.args.tokens c.new-parsed.result c.add_orphans.new.parsed c.loop-header.parsed c.add_cut.new.parsed
-    c.of-lines.result c.add_orphans.new.lines c.loop-header.lines
-    c.new-parsed.ensures c.of-lines.ensures c.in_ok-add_orphans.ensures.orphans c.in_ok-add_orphans.ensures.lines
-    c.loop-header.invariant.left_decides c.in_default.ensures.0 c.in_ok-add_cut.ensures
+    none_left c.args.file.now c.args.tokens.now c.new-parsed.result c.add_orphans.new.parsed c.loop-header.parsed c.add_cut.new.parsed
+    c.lines-lines.result c.take_section.result c.take_section.new.lines c.loop-header.lines c.dropped.result
+    c.new-parsed.ensures c.lines-lines.ensures c.take_section.ensures.section c.in_ok-add_orphans.ensures c.take_section.ensures.rest
+    c.loop-header.invariant.left_decides c.in_default.ensures.0 c.dropped.ensures c.in_ok-add_cut.ensures
 
 pub returns-clause-commands : goal.returns-clause-commands
-returns-clause-commands c = parsed_have c.args.file.now c.args.tokens c.add_cut.new.parsed (returns-clause-sections c)
+returns-clause-commands c = parsed_have c.args.file.now c.args.tokens.now c.add_cut.new.parsed (returns-clause-sections c)

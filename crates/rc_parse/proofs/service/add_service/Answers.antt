@@ -1,17 +1,17 @@
 use Rattle.std.proofs.Common.{◌≡◌, true, rules}
 use Rattle.std.proofs.lemmas.Result.{on_ok_weaker}
-use Rattle.rc_parse.specs.Lines.{arguments, lines_before_header}
+use Rattle.rc_parse.specs.Lines.{arguments}
 use Rattle.rc_parse.specs.Services.{is_service_header}
 use Rattle.rc_parse.proofs.Services.{service_added}
 use Rattle.rc_parse.proofs.service.add_service.Goals as goal
 
-pub returns-clause-section : goal.returns-clause-section
-returns-clause-section c =
-    let header = c.args.header in
+pub returns : goal.returns
+returns c =
+    let header = c.args.header.now in
     let good : is_service_header (arguments header.words) ≡ true = search rules in
     on_ok_weaker c.push.result
-    (λ services_are. service_added c.args.file.now c.args.parsed.now header (lines_before_header c.args.lines.now)
+    (λ services_are. service_added c.args.file.now c.args.parsed.now header c.args.lines
     c.in_ok-service.service c.set_options.new.service c.push.new.self c.set_options.new.diagnostics
-    c.requires.other c.requires.service good c.in_ok-service.ensures c.in_ok-set_options.ensures.service services_are
+    c.requires.other c.requires.service good (search rules) c.in_ok-set_options.ensures.service services_are
     c.in_ok-set_options.ensures.diagnostics)
     c.push.ensures.ok
