@@ -130,3 +130,9 @@ below-last (x ∷ ps) (y ∷ qs) q = ap (λ b. bytes_eq x y && b) (below-last ps
 
 pub below_by_last : (ps qs gs : List (List ℕ)) (q : List ℕ) → qs ≡ gs ++ q ∷ [] → is_below ps qs ≡ same_path ps gs || is_below ps gs
 below_by_last ps qs gs q is = ap (is_below ps) is ∙ below-last ps gs q
+
+pub take_shorter : (s n : ℕ) (xs : List ℕ) → s ≤ n → take s (take n xs) ≡ take s xs
+take_shorter zero n xs within = refl
+take_shorter (suc s) zero xs within = absurd (omega arith)
+take_shorter (suc s) (suc n) [] within = refl
+take_shorter (suc s) (suc n) (x ∷ xs) within = ap (λ ys. x ∷ ys) (take_shorter s n xs (omega arith))

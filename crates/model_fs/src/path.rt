@@ -5,11 +5,34 @@ ghost use Rattle.std.specs.List.{list_any, list_all};
 ghost use Rattle.init_machine.specs.FileTree.{parts_of, is_path as is_path_lem, is_dots as is_dots_lem, is_root as is_root_lem, begins_with_slash as begins_with_slash_lem};
 ghost use Rattle.model_fs.specs.Paths.{is_no_slash};
 
+/// The length of the longest text of a path.
+const MAX_LEN: usize = 4096;
+
 /// Whether the text is that of a path.
 pub fn is_path(text: &[u8]) -> bool
     ensures { result ≡ is_path_lem text.now }
 {
-    begins_with_slash(text) && text.len() <= 4096 && !text.contains(&0) && !has_dots(text)
+    begins_with_slash(text) && text.len() <= MAX_LEN && !text.contains(&0) && !has_dots(text)
+}
+
+/// Whether the text is that of a path. Where its front is known to be one, only the rest is read.
+pub fn is_path_behind(text: &[u8], front: &[u8], part: &[u8], is_front_known: bool) -> bool
+    requires cut { parts_of text.now ≡ parts_of front.now ++ part.now ∷ [] }
+    requires front { front.now ≡ take (length front.now) text.now }
+    requires within { length front.now ≤ length text.now }
+    requires known { is_front_known ≡ true → is_path_lem front.now ≡ true }
+    ensures { result ≡ is_path_lem text.now }
+{
+    if !is_front_known {
+        return is_path(text);
+    }
+    if text.len() > MAX_LEN {
+        return false;
+    }
+    if text[front.len()..].contains(&0) {
+        return false;
+    }
+    !is_dots(part)
 }
 
 fn begins_with_slash(text: &[u8]) -> bool
@@ -44,9 +67,9 @@ pub fn is_root(text: &[u8]) -> bool
     split_last(text).is_none()
 }
 
-/// A text with the parts before the last one, and the last one. None exactly where there is no part.
+/// The front of a text with the parts before the last one, and the last one. None exactly where there is no part.
 pub fn split_last(text: &[u8]) -> Option<(&[u8], &[u8])>
-    ensures { MatchOption result (parts_of text.now ≡ []) (λ cut. (parts_of text.now ≡ parts_of cut.0.now ++ cut.1.now ∷ []) × (length cut.0.now < length text.now)) }
+    ensures { MatchOption result (parts_of text.now ≡ []) (λ cut. (parts_of text.now ≡ parts_of cut.0.now ++ cut.1.now ∷ []) × (length cut.0.now < length text.now) × (cut.0.now ≡ take (length cut.0.now) text.now)) }
 {
     let text = &text[..trimmed_len(text)];
     if text.is_empty() {

@@ -21,10 +21,13 @@ pub fn put(names: &mut Names, name: Vec<u8>, context: Context) -> Result<bool, N
 }
 
 /// The context of the longest name that the given one begins with. It takes no memory: each front of the name is
-/// looked up, the longest first.
+/// looked up, the longest first, unless there are no names.
 pub fn longest_prefix<'a>(names: &'a Names, name: &[u8]) -> Option<&'a Context>
     ensures { option_copied result ≡ option_map (λ line. line.context) (longest (filter (is_prefix_for name.now) (lines_in names.entry.now))) }
 {
+    if names.is_empty() {
+        return None;
+    }
     let mut front = name;
     loop {
         if let Some(context) = names.get(front) {
