@@ -1,7 +1,7 @@
-//! The words of the command line.
+//! The forms of the words.
 
 ghost use Rattle.std.specs.Prelude.{◌≡◌};
-ghost use Rattle.initsim.specs.Form.{form_of as form_of_lem, is_path_word as is_path_word_lem};
+ghost use Rattle.init_words.specs.Form.{form_of as form_of_lem, is_path_word as is_path_word_lem};
 
 use init_base::{List, Text};
 

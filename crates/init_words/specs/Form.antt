@@ -1,8 +1,8 @@
 -- The forms of the words of the command line.
 use Rattle.std.specs.Prelude.{ℕ, Bool, false, not, ◌&&◌, ◌==◌, if◌then◌else◌, List, [], ◌∷◌, codes, Option, Some, None}
 use Rattle.std.specs.Str.{bytes_eq, is_utf8}
-use Rattle.initsim.specs.declared.words.Form.{Form}
-use Rattle.initsim.specs.declared.words.Form.TheVariants as form
+use Rattle.init_words.specs.declared.form.Form.{Form}
+use Rattle.init_words.specs.declared.form.Form.TheVariants as form
 
 -- a word that names a path: not empty, not begun by `-` (45), and UTF-8
 abbrev pub is_path_word : List ℕ → Bool
