@@ -2,6 +2,7 @@ pub mod Lines
 pub mod Contexts
 pub mod Named
 pub mod Given
+pub mod Allowances
 pub mod Allowed
 pub mod Allows
 pub mod Grammar

@@ -6,6 +6,7 @@
 #![tactic(auto)]
 
 mod allow_line;
+mod allowances;
 mod allows;
 mod context_line;
 mod contexts;

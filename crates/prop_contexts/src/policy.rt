@@ -4,12 +4,13 @@ ghost use Rattle.std.specs.Prelude.{◌≡◌, ◌≤◌, IfOk, IfErr, length};
 ghost use Rattle.init_machine.specs.Policy.{context_of, is_allowed};
 ghost use Rattle.prop_contexts.specs.Grammar.{IsPolicy, IsRefused};
 
+use crate::allowances::Allowances;
 use crate::allows::read_allows;
 use crate::contexts::{Contexts, read_contexts};
 use crate::names::{Names, longest_prefix};
 use crate::refusal::PolicyRefusal;
-use init_base::{List, PropName};
-use init_machine::{AllowLine, Context, PolicyView};
+use init_base::PropName;
+use init_machine::{Context, PolicyView};
 use std::alloc::Global;
 use std::marker::Model;
 
@@ -19,7 +20,7 @@ pub struct Policy {
     default: Context,
     exact: Names,
     prefixes: Names,
-    allows: List<AllowLine>,
+    allows: Allowances,
 }
 
 impl Model for Policy {
@@ -57,7 +58,7 @@ impl Policy {
             default,
             exact,
             prefixes,
-            allows,
+            allows: Allowances::of(alloc, allows)?,
         })
     }
 
@@ -77,14 +78,11 @@ impl Policy {
         }
     }
 
-    /// Whether the allow text has this domain with this label. It takes no memory.
+    /// Whether the allow text has this domain with this label. It takes no memory, and time of the two words.
     #[tactic(auto, unfolding(init_machine::specs::Policy::is_allowed))]
     pub fn allows(&self, domain: &[u8], label: &[u8]) -> bool
         ensures { result ≡ is_allowed self.now domain.now label.now }
     {
-        self.allows
-            .items()
-            .iter()
-            .any(|line| line.domain.is(domain) && line.label.is(label))
+        self.allows.has(domain, label)
     }
 }
