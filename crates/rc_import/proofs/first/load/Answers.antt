@@ -2,9 +2,8 @@ use Rattle.std.proofs.Common.{◌≡◌, true, false, Ok, Err, ap, subst, rules}
 use Rattle.std.specs.List.{flat_map}
 use Rattle.std.proofs.lemmas.Result.{err_from_is_err_and}
 use Rattle.init_machine.specs.Props.{value_in}
-use Rattle.rc_import.specs.Limits.{nothing}
 use Rattle.rc_import.specs.Order.{at_first, directories, in_directory, root_file}
-use Rattle.rc_import.specs.Code.Steps.{FollowsFile, Stands}
+use Rattle.rc_import.specs.Code.Steps.{FollowsFile}
 use Rattle.rc_import.proofs.Loads.{load_broken, load_done, load_none, load_refused}
 use Rattle.rc_import.proofs.Walks.{same_world}
 use Rattle.rc_import.proofs.first.load.Goals as goal

@@ -1,4 +1,4 @@
-use Rattle.std.proofs.Common.{◌≡◌, ℕ, ◌<◌, List, [], ◌∷◌, Option, Some, None, Result, Ok, Err, refl, sym, ap, ◌∙◌, subst, true, false, arith, rules}
+use Rattle.std.proofs.Common.{◌≡◌, ◌<◌, [], Ok, Err, refl, ap, ◌∙◌, subst, true, false, arith, rules}
 use Rattle.std.specs.List.{flat_map}
 use Rattle.std.proofs.lemmas.List.{nil_from_length}
 use Rattle.std.proofs.lemmas.Result.{err_from_is_err_and}
@@ -6,11 +6,11 @@ use Rattle.init_base.specs.Tree.{has_name}
 use Rattle.init_machine.specs.Expand.{expand}
 use Rattle.init_machine.specs.Props.{value_in}
 use Rattle.init_machine.specs.declared.diagnostic.DiagKind.TheVariants.{Loop, TooDeep}
-use Rattle.rc_import.specs.Order.{at_import, at_target, fault}
+use Rattle.rc_import.specs.Order.{at_import, fault}
 use Rattle.rc_import.specs.Paths.{file_in, is_absolute}
 use Rattle.rc_import.specs.Code.Listings.{ListsInOrder}
 use Rattle.rc_import.specs.Code.Steps.{Follows, IsExpanded, IsFile}
-use Rattle.rc_import.proofs.Places.{below_missing, below_refused, below_there, dir_names, file_absent_met, file_broken_met, file_refused_met, file_there_met, import_expanded, import_faulty, path_absolute, path_relative, reach_from, target_deep, target_open}
+use Rattle.rc_import.proofs.Places.{below_missing, below_refused, below_there, dir_names, file_absent_met, file_broken_met, file_refused_met, file_there_met, import_faulty, path_absolute, path_relative, reach_from, target_deep, target_open}
 use Rattle.rc_import.proofs.Stores.{kept_on}
 use Rattle.rc_import.proofs.Walks.{list_done, list_off, list_on, same_met, same_world}
 use Rattle.rc_import.proofs.import.+imports.Goals as goal

@@ -1,4 +1,4 @@
-use Rattle.std.proofs.Common.{◌∙◌, sym, arith, rules}
+use Rattle.std.proofs.Common.{◌∙◌, sym, rules}
 use Rattle.rc_import.proofs.Slashes.{slash_last, other_last}
 use Rattle.rc_import.proofs.path.without_last_slashes.Goals as goal
 

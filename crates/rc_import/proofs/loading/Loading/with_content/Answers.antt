@@ -1,4 +1,4 @@
-use Rattle.std.proofs.Common.{arith, rules}
+use Rattle.std.proofs.Common.{rules}
 use Rattle.rc_import.proofs.Files.{content_reached}
 use Rattle.rc_import.proofs.loading.Loading.with_content.Goals as goal
 

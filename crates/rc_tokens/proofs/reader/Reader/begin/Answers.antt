@@ -1,4 +1,4 @@
-use Rattle.std.proofs.Common.{◌≡◌, ℕ, not, List, drop, sym, ap, ◌∙◌, arith}
+use Rattle.std.proofs.Common.{ℕ, not, drop, sym, ap, ◌∙◌, arith}
 use Rattle.std.proofs.lemmas.List.Sums.{prefix_len-le-length}
 use Rattle.rc_tokens.specs.Grammar.{is_blank}
 use Rattle.rc_tokens.specs.Code.Steps.{run}
