@@ -2,6 +2,7 @@ pub mod Above
 pub mod Below
 pub mod Calls
 pub mod Children
+pub mod Dots
 pub mod Fronts
 pub mod Kept
 pub mod Parts

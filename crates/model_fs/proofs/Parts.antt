@@ -8,7 +8,7 @@ use Rattle.init_machine.specs.FileTree.{parts_of, same_path, is_below}
 use Rattle.model_fs.specs.Paths.{is_no_slash}
 
 -- the first part is there
-split_some : (p : ℕ → Bool) (xs : List ℕ) → (first : List ℕ) × (rest : List (List ℕ)) × (slice_split p xs ≡ first ∷ rest)
+pub split_some : (p : ℕ → Bool) (xs : List ℕ) → (first : List ℕ) × (rest : List (List ℕ)) × (slice_split p xs ≡ first ∷ rest)
 split_some p [] = ([], [], refl)
 split_some p (x ∷ xs) =
     let more = split_some p xs in

@@ -35,6 +35,7 @@ pub fn copy(
     requires passes { tree_refusal entries.old (call.Copy from.now to.now) ≡ None }
     ensures { OnOk result (entries.new ≡ tree_after entries.old (call.Copy from.now to.now)) }
 {
+    entries.remember(from, walks.0);
     let content = content_of(entries.node_at(from, walks.0))?;
     put_file(entries, to, walks.1, content)?;
     Ok(())
@@ -72,6 +73,7 @@ pub fn remove_file(entries: &mut Entries, path: &[u8], walk: Walk)
     requires passes { tree_refusal entries.old (call.Remove path.now) ≡ None }
     ensures { entries.new ≡ tree_after entries.old (call.Remove path.now) }
 {
+    entries.remember(path, walk);
     entries.remove(path, walk);
 }
 
@@ -81,6 +83,7 @@ pub fn remove_directory(entries: &mut Entries, path: &[u8], walk: Walk)
     requires passes { tree_refusal entries.old (call.RemoveDirectory path.now) ≡ None }
     ensures { entries.new ≡ tree_after entries.old (call.RemoveDirectory path.now) }
 {
+    entries.remember(path, walk);
     entries.remove(path, walk);
 }
 
@@ -89,6 +92,7 @@ pub fn change_mode(entries: &mut Entries, path: &[u8], walk: Walk, mode: u16)
     requires { IsWalk entries.old (parts_of path.now) walk }
     ensures { entries.new ≡ tree_after entries.old (call.ChangeMode mode path.now) }
 {
+    entries.remember(path, walk);
     entries.set_mode(path, walk, mode);
 }
 

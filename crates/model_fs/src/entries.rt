@@ -234,6 +234,19 @@ impl Entries {
         Ok(())
     }
 
+    /// Notes the place of a path's front, where the walk found one that wasn't noted.
+    pub fn remember(&mut self, path: &[u8], walk: Walk)
+        requires { IsWalk self.old (parts_of path.now) walk }
+        ensures { self.new ≡ self.old }
+    {
+        let Some((front, _)) = split_last(path) else {
+            return;
+        };
+        if let Some(parent) = walk.parent {
+            self.note(front, parent, walk.is_noted);
+        }
+    }
+
     /// Notes the place of a path, unless it was noted.
     fn note(&mut self, path: &[u8], at: usize, is_noted: bool)
         requires { place_in self.old (parts_of path.now) ≡ Some at }

@@ -48,8 +48,18 @@ fn begins_with_slash(text: &[u8]) -> bool
 fn has_dots(text: &[u8]) -> bool
     ensures { result ≡ list_any is_dots_lem (parts_of text.now) }
 {
+    if !text.contains(&b'.') {
+        return false;
+    }
+    has_dots_part(text)
+}
+
+/// Whether a part is `.` or `..`, by a look at each.
+fn has_dots_part(text: &[u8]) -> bool
+    ensures { result ≡ list_any is_dots_lem (parts_of text.now) }
+{
     match split_last(text) {
-        Some((front, part)) => has_dots(front) || is_dots(part),
+        Some((front, part)) => has_dots_part(front) || is_dots(part),
         None => false,
     }
 }
