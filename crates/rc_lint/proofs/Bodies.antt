@@ -1,27 +1,17 @@
 -- The lines of sections that another init takes.
-use Rattle.std.proofs.Common.{◌≡◌, ℕ, ◌+◌, ◌<◌, true, false, not, Option, Some, None, List, [], ◌∷◌, ◌++◌, take, length, refl, sym, ap, ◌∙◌, append_assoc, arith, position}
-use Rattle.std.proofs.Math.Seq.{take-length}
+use Rattle.std.proofs.Common.{◌≡◌, ℕ, ◌≤◌, true, false, not, List, [], ◌∷◌, ◌++◌, length, sym, ap, ◌∙◌, append_assoc}
 use Rattle.std.proofs.lemmas.Bool.{cond-true, cond-false}
 use Rattle.std.proofs.lemmas.List.Sums.{prefix_len-le-length}
 use Rattle.std.specs.List.{flat_map, position_or_len}
 use Rattle.rc_parse.specs.Lines.{Section, is_header, lines_before_header, sections}
-use Rattle.rc_tokens.specs.declared.line.Line.{Line}
+use Rattle.rc_tokens.specs.Lines.{Line}
 use Rattle.rc_parse.specs.Lines.{is_on, is_service}
 use Rattle.rc_lint.specs.Code.Steps.{is_excused_at}
 use Rattle.rc_lint.specs.Excused.{all_taken_elsewhere, good_header, numbers_of, taken_elsewhere}
 use Rattle.rc_lint.specs.declared.excuse.Part.TheVariants as part
 
-place_is : (lines : List Line) (at : ℕ) → position is_header lines ≡ Some at → at ≡ position_or_len is_header lines
-place_is lines at h = grind arith
-
-no_place : (lines : List Line) → position is_header lines ≡ None → position_or_len is_header lines ≡ length lines
-no_place lines h = grind (arith, prefix_len-le-length (λ x. not (is_header x)) lines)
-
-pub before_place : (lines : List Line) (at : ℕ) → position is_header lines ≡ Some at → take at lines ≡ lines_before_header lines
-before_place lines at h = ap (λ (n : ℕ). take n lines) (place_is lines at h)
-
-pub before_none : (lines : List Line) → position is_header lines ≡ None → lines ≡ lines_before_header lines
-before_none lines h = sym (ap (λ (n : ℕ). take n lines) (no_place lines h) ∙ take-length lines)
+pub section_fits : (lines : List Line) → position_or_len is_header lines ≤ length lines
+section_fits lines = prefix_len-le-length (λ line. not (is_header line)) lines
 
 section_of : Line → List Line → Section
 section_of header behind = record { header = header; body = lines_before_header behind }

@@ -1,12 +1,12 @@
 -- The places of files among those that were read.
-use Rattle.std.proofs.Common.{◌≡◌, ℕ, ◌+◌, ◌<◌, List, [], ◌∷◌, ◌++◌, length, get_or, Some, true, sym, ap, subst, refl, ◌∙◌, arith}
+use Rattle.std.proofs.Common.{◌≡◌, ℕ, List, [], ◌∷◌, ◌++◌, length, Some, true, sym, ap, subst, refl, ◌∙◌, arith}
 use Rattle.std.specs.Prelude.{All, nat_eq, slice_get}
 use Rattle.std.specs.List.{list_any}
 use Rattle.std.specs.Str.{bytes_eq}
 use Rattle.std.proofs.lemmas.Option.{slice_get_within}
 use Rattle.std.proofs.lemmas.List.Elements.{All-append, All-cons}
 use Rattle.std.proofs.lemmas.Slice.Eq.{bytes_eq-Decides}
-use Rattle.rc_tokens.specs.declared.line.Line.{Line}
+use Rattle.rc_tokens.specs.Lines.{Line}
 use Rattle.rc_lint.specs.Code.Sources.{AreSourcesOf, HasSourceAt, IsSourceOf}
 use Rattle.rc_lint.specs.Code.Steps.{HasNumbers}
 use Rattle.rc_lint.specs.Excused.{all_taken_elsewhere}

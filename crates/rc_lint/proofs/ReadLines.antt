@@ -1,12 +1,11 @@
 -- The lines of files that are read again.
-use Rattle.std.proofs.Common.{◌≡◌, ℕ, ◌<◌, ◌≤◌, Bool, true, false, List, [], ◌∷◌, length, Option, Some, None, Result, Ok, Err, refl, sym, subst, ap, ◌∙◌, arith}
+use Rattle.std.proofs.Common.{◌≡◌, ℕ, ◌<◌, ◌≤◌, List, [], length, Option, Some, None, Ok, Err, sym, subst, ap, ◌∙◌, arith}
 use Rattle.std.specs.Prelude.{IsSomeAnd, if◌then◌else◌, nat_lt}
 use Rattle.std.proofs.lemmas.Bool.Decides.{nat_tests}
 use Rattle.init_base.specs.Outside.{ReadsFile}
 use Rattle.init_base.specs.Tree.{file_at}
 use Rattle.init_base.specs.declared.outside.refusal.ReadRefusal.TheVariants as reading
-use Rattle.rc_tokens.specs.Lines.{Lines}
-use Rattle.rc_tokens.specs.declared.line.Line.{Line}
+use Rattle.rc_tokens.specs.Lines.{Line, Lines}
 use Rattle.rc_lint.specs.Loads.{Tree}
 use Rattle.rc_lint.specs.Told.{IsTold, Told, lines_at, lines_of}
 

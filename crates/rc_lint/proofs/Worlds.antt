@@ -1,9 +1,8 @@
 -- Each tree has a world, and the lines of its files.
-use Rattle.std.proofs.Common.{◌≡◌, ℕ, List, Option, Some, refl, sym, ap, ◌∙◌}
+use Rattle.std.proofs.Common.{◌≡◌, ℕ, List, Option, Some, sym, ap, ◌∙◌}
 use Rattle.prop_rules.specs.View.{view}
 use Rattle.rc_import.specs.World.{IsWorld, World}
-use Rattle.rc_tokens.specs.Lines.{Lines}
-use Rattle.rc_tokens.specs.declared.line.Line.{Line}
+use Rattle.rc_tokens.specs.Lines.{Line, Lines}
 use Rattle.rc_lint.specs.Loads.{IsWorldOf, Tree, pairs_of}
 use Rattle.rc_lint.specs.Told.{IsTold, Told}
 

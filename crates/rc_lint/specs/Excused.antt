@@ -9,7 +9,7 @@ use Rattle.init_machine.specs.declared.diagnostic.Diagnostic.{Diagnostic}
 use Rattle.rc_parse.specs.Lines.{Section, arguments, first_word, is_on, is_service, sections}
 use Rattle.rc_parse.specs.Sections.{header_args}
 use Rattle.rc_parse.specs.Triggers.{is_equals_sign, is_on_property, triggers_of}
-use Rattle.rc_tokens.specs.declared.line.Line.{Line}
+use Rattle.rc_tokens.specs.Lines.{Line}
 use Rattle.rc_lint.specs.NotModelled.{is_command_not_modelled, is_option_not_modelled}
 use Rattle.rc_lint.specs.Told.{Told, lines_at}
 

@@ -1,9 +1,8 @@
 -- A told tree: its world, and the lines that the bytes of a file spell.
-use Rattle.std.specs.Prelude.{◌≡◌, ℕ, nat_lt, if◌then◌else◌, List, [], length, Option, Some, None}
+use Rattle.std.specs.Prelude.{ℕ, nat_lt, if◌then◌else◌, List, [], length, Option, Some, None}
 use Rattle.init_base.specs.Tree.{file_at}
 use Rattle.rc_import.specs.World.{World}
-use Rattle.rc_tokens.specs.Lines.{Lines}
-use Rattle.rc_tokens.specs.declared.line.Line.{Line}
+use Rattle.rc_tokens.specs.Lines.{Line, Lines}
 use Rattle.rc_lint.specs.Loads.{IsWorldOf, Tree}
 
 pub record Told : Type 0 where

@@ -2,16 +2,16 @@
 
 ghost use Rattle.std.specs.Prelude.{◌≡◌, ◌++◌, ◌∷◌, [], map, position, is_ok, IfOk, OnOk};
 ghost use Rattle.init_base.specs.Tree.{has_name};
-ghost use Rattle.rc_parse.specs.Lines.{is_header as is_header_lem, lines_before_header};
+ghost use Rattle.rc_parse.specs.Lines.{lines_before_header};
 ghost use Rattle.rc_parse.specs.Triggers.{is_equals_sign, triggers_of};
 ghost use Rattle.rc_lint.specs.Code.Steps.{HasNumbers, is_excused_at as is_excused_at_lem};
 ghost use Rattle.rc_lint.specs.Excused.{all_taken_elsewhere, as_equal as as_equal_lem, good_header, is_excused_command as is_excused_command_lem, is_excused_in_action as is_excused_in_action_lem, is_excused_in_service as is_excused_in_service_lem, is_excused_option as is_excused_option_lem, number_if, numbers_of, taken_elsewhere as taken_elsewhere_lem, without_bang as without_bang_lem};
 
-use crate::lines::{arguments, first_word, is_header, is_on, is_service};
+use crate::lines::{arguments, before_header, first_word, is_header, is_on, is_service};
 use crate::not_modelled::{is_command_not_modelled, is_option_not_modelled};
 use init_base::{List, NoMemory, Text};
 use rc_parse::parse;
-use rc_tokens::{Line, Tokens};
+use rc_tokens::{Line, LineSlice, Tokens};
 use std::alloc::Global;
 use std::collections::HashSet;
 
@@ -42,16 +42,16 @@ fn is_excused_option(allowed: &List<Text>, word: &[u8]) -> bool
     is_option_not_modelled(word) || is_allowed(allowed, word)
 }
 
-fn is_excused_in_action(allowed: &List<Text>, line: &Line) -> bool
+fn is_excused_in_action(allowed: &List<Text>, line: &Line<'_>) -> bool
     ensures { result ≡ is_excused_in_action_lem allowed.now line.now }
 {
-    is_excused_command(allowed, first_word(line.words.items()))
+    is_excused_command(allowed, first_word(line.words()))
 }
 
-fn is_excused_in_service(allowed: &List<Text>, line: &Line) -> bool
+fn is_excused_in_service(allowed: &List<Text>, line: &Line<'_>) -> bool
     ensures { result ≡ is_excused_in_service_lem allowed.now line.now }
 {
-    let words = line.words.items();
+    let words = line.words();
     let word = first_word(words);
     if word == b"onrestart".as_slice() {
         is_excused_command(allowed, first_word(arguments(words)))
@@ -61,7 +61,7 @@ fn is_excused_in_service(allowed: &List<Text>, line: &Line) -> bool
 }
 
 /// Whether another init takes a line of a section.
-fn is_excused_at(part: Part, allowed: &List<Text>, line: &Line) -> bool
+fn is_excused_at(part: Part, allowed: &List<Text>, line: &Line<'_>) -> bool
     ensures { result ≡ is_excused_at_lem part allowed.now line.now }
 {
     match part {
@@ -121,35 +121,9 @@ fn equal_words(alloc: Global, words: &[Text]) -> Result<List<Text>, NoMemory>
 fn is_good_as_equal(alloc: Global, words: &[Text]) -> Result<bool, NoMemory>
     ensures { IfOk result (λ good. good ≡ is_ok (triggers_of (map as_equal_lem words.now))) }
 {
-    let mut lines = List::new(alloc);
-    lines.push(Line {
-        number: 1,
-        words: equal_words(alloc, words)?,
-    })?;
-    let tokens = Tokens {
-        lines,
-        dropped: None,
-    };
-    let parsed = parse(alloc, &Text::empty(), tokens)?;
+    let tokens = Tokens::of_line(alloc, 1, equal_words(alloc, words)?)?;
+    let parsed = parse(alloc, &Text::empty(), &tokens)?;
     Ok(parsed.diagnostics.is_empty())
-}
-
-/// The lines up to the next header.
-#[tactic(auto, using(crate::proofs::Bodies::before_place, crate::proofs::Bodies::before_none))]
-fn before_header(lines: &[Line]) -> &[Line]
-    ensures { result.now ≡ lines_before_header lines.entry.now }
-{
-    match header_place(lines) {
-        Some(at) => &lines[..at],
-        None => lines,
-    }
-}
-
-/// The place of the next header.
-fn header_place(lines: &[Line]) -> Option<usize>
-    ensures { result ≡ position is_header_lem lines.now }
-{
-    lines.iter().position(|line| is_header(line))
 }
 
 /// Adds the number of a line that another init takes.
@@ -157,12 +131,12 @@ fn add_line(
     numbers: &mut List<u32>,
     part: Part,
     allowed: &List<Text>,
-    line: &Line,
+    line: &Line<'_>,
 ) -> Result<(), NoMemory>
     ensures { OnOk result (numbers.new ≡ numbers.old ++ number_if (is_excused_at_lem part allowed.now) line.now) }
 {
     if is_excused_at(part, allowed, line) {
-        numbers.push(line.number)
+        numbers.push(line.number())
     } else {
         Ok(())
     }
@@ -173,22 +147,22 @@ fn add_lines(
     numbers: &mut List<u32>,
     part: Part,
     allowed: &List<Text>,
-    lines: &[Line],
+    mut lines: LineSlice<'_>,
 ) -> Result<(), NoMemory>
-    ensures { OnOk result (numbers.new ≡ numbers.old ++ numbers_of (is_excused_at_lem part allowed.now) lines.now) }
+    ensures { OnOk result (numbers.new ≡ numbers.old ++ numbers_of (is_excused_at_lem part allowed.now) lines.entry) }
 {
-    for line in lines {
-        add_line(numbers, part, allowed, line)?;
+    while let Some(line) = lines.pop() {
+        add_line(numbers, part, allowed, &line)?;
     }
     Ok(())
 }
 
 /// Adds the number of the header of an action, where another init takes its triggers.
-fn add_header(alloc: Global, numbers: &mut List<u32>, header: &Line) -> Result<(), NoMemory>
+fn add_header(alloc: Global, numbers: &mut List<u32>, header: &Line<'_>) -> Result<(), NoMemory>
     ensures { OnOk result (numbers.new ≡ numbers.old ++ good_header (record { header = header.now; body = [] })) }
 {
-    if is_good_as_equal(alloc, arguments(header.words.items()))? {
-        numbers.push(header.number)
+    if is_good_as_equal(alloc, arguments(header.words()))? {
+        numbers.push(header.number())
     } else {
         Ok(())
     }
@@ -199,8 +173,8 @@ fn add_section(
     alloc: Global,
     numbers: &mut List<u32>,
     allowed: &List<Text>,
-    header: &Line,
-    behind: &[Line],
+    header: &Line<'_>,
+    behind: &LineSlice<'_>,
 ) -> Result<(), NoMemory>
     ensures { OnOk result (numbers.new ≡ numbers.old
         ++ taken_elsewhere_lem allowed.now (record { header = header.now; body = lines_before_header behind.now })) }
@@ -221,8 +195,8 @@ fn add_first(
     alloc: Global,
     numbers: &mut List<u32>,
     allowed: &List<Text>,
-    first: &Line,
-    behind: &[Line],
+    first: &Line<'_>,
+    behind: &LineSlice<'_>,
 ) -> Result<(), NoMemory>
     ensures { OnOk result (numbers.new ++ all_taken_elsewhere allowed.now behind.now ≡ numbers.old ++ all_taken_elsewhere allowed.now (first.now ∷ behind.now)) }
 {
@@ -237,15 +211,14 @@ fn add_first(
 fn lines_taken_elsewhere(
     alloc: Global,
     allowed: &List<Text>,
-    lines: &[Line],
+    lines: &LineSlice<'_>,
 ) -> Result<List<u32>, NoMemory>
     ensures { IfOk result (λ numbers. numbers ≡ all_taken_elsewhere allowed.now lines.now) }
 {
     let mut numbers = List::new(alloc);
-    let mut rest = lines;
-    while let [first, behind @ ..] = rest {
-        add_first(alloc, &mut numbers, allowed, first, behind)?;
-        rest = behind;
+    let mut rest = lines.again();
+    while let Some(first) = rest.pop() {
+        add_first(alloc, &mut numbers, allowed, &first, &rest)?;
     }
     Ok(numbers)
 }
@@ -260,7 +233,7 @@ fn set_of(alloc: Global, numbers: List<u32>) -> Result<HashSet<u32>, NoMemory>
 pub fn taken_elsewhere(
     alloc: Global,
     allowed: &List<Text>,
-    lines: &[Line],
+    lines: &LineSlice<'_>,
 ) -> Result<HashSet<u32>, NoMemory>
     ensures { IfOk result (λ numbers. HasNumbers numbers.keys (all_taken_elsewhere allowed.now lines.now)) }
 {

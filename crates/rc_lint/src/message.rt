@@ -146,18 +146,18 @@ fn cut(alloc: Global) -> Result<Text, NoMemory> {
 /// The words of a line, and what it stands in.
 fn words_at(source: &Source, line: u32) -> (&[Text], Option<Part>) {
     let Ok(place) = source
-        .lines
+        .parts
         .items()
-        .binary_search_by_key(&line, |line| line.number)
+        .binary_search_by_key(&line, |part| part.line)
     else {
         return (&[], None);
     };
-    let words = match source.lines.at(place) {
-        Some(line) => line.words.items(),
+    let words = match source.tokens.lines().at(place) {
+        Some(line) => line.words(),
         None => &[],
     };
     let part = match source.parts.at(place) {
-        Some(part) => *part,
+        Some(part) => part.part,
         None => None,
     };
     (words, part)

@@ -14,7 +14,7 @@ use crate::lines::{is_header, is_on, is_service};
 use init_base::{Files, List, NoMemory, ReadRefusal, Text};
 use init_machine::{DiagKind, Diagnostic};
 use rc_import::LoadRefusal;
-use rc_tokens::{Line, TokenRefusal, Tokens, lines};
+use rc_tokens::{Line, LineSlice, TokenRefusal, Tokens, lines};
 use std::alloc::Global;
 use std::collections::HashSet;
 use text_index::TextIndex;
@@ -22,13 +22,20 @@ use text_index::TextIndex;
 /// The most bytes of a file.
 const MOST_BYTES: usize = 1_048_576;
 
+/// What a line stands in. None where it is in no section, or in an import.
+#[derive(Clone, Copy)]
+pub struct LinePart {
+    pub line: u32,
+    pub part: Option<Part>,
+}
+
 /// A file that has diagnostics.
 #[derive(Drop)]
 pub struct Source {
     pub file: Text,
-    pub lines: List<Line>,
-    /// What each line stands in. None where it is in no section, or in an import.
-    pub parts: List<Option<Part>>,
+    pub tokens: Tokens,
+    /// What each line stands in, in order.
+    pub parts: List<LinePart>,
     /// The numbers of the lines that another init takes.
     pub taken: HashSet<u32>,
 }
@@ -49,57 +56,48 @@ impl Source {
     }
 }
 
-fn lines_in(tokens: Tokens) -> List<Line>
-    ensures { result ≡ tokens.lines }
-{
-    tokens.lines
-}
-
 /// The lines that some bytes spell. None where they are past the limit of files.
-fn lines_of(alloc: Global, bytes: &[u8]) -> Result<List<Line>, NoMemory>
-    ensures { (told : Told) (tree : Items (Items ℕ × Items ℕ)) → IsTold (Some tree) told → IfOk result (λ lines. lines ≡ lines_of_lem told (Some bytes.now)) }
+fn tokens_of(alloc: Global, bytes: &[u8]) -> Result<Tokens, NoMemory>
+    ensures { (told : Told) (tree : Items (Items ℕ × Items ℕ)) → IsTold (Some tree) told → IfOk result (λ tokens. tokens.lines ≡ lines_of_lem told (Some bytes.now)) }
 {
     match lines(alloc, bytes) {
-        Ok(tokens) => Ok(lines_in(tokens)),
-        Err(TokenRefusal::TooLarge) => Ok(List::new(alloc)),
+        Ok(tokens) => Ok(tokens),
+        Err(TokenRefusal::TooLarge) => Ok(Tokens::new(alloc)),
         Err(TokenRefusal::NoMemory) => Err(NoMemory),
     }
 }
 
 /// The lines of a file. None where it isn't there.
-fn read_lines<F: Files>(
-    alloc: Global,
-    files: &mut F,
-    path: &Text,
-) -> Result<List<Line>, LoadRefusal>
-    ensures told { (told : Told) → IsTold (F.tree files.old) told → IfOk result (λ lines. lines ≡ lines_at told path.now) }
+fn read_tokens<F: Files>(alloc: Global, files: &mut F, path: &Text) -> Result<Tokens, LoadRefusal>
+    ensures told { (told : Told) → IsTold (F.tree files.old) told → IfOk result (λ tokens. tokens.lines ≡ lines_at told path.now) }
     ensures kind { IfErr result IsLater }
     ensures tree { F.tree files.new ≡ F.tree files.old }
     ensures cause { Counted (is_read_fault result) (F.fault_count files.old) (F.fault_count files.new) }
 {
     match files.read(alloc, path.bytes(), MOST_BYTES) {
-        Ok(Some(text)) => Ok(lines_of(alloc, text.bytes())?),
-        Ok(None) | Err(ReadRefusal::TooLarge) => Ok(List::new(alloc)),
+        Ok(Some(text)) => Ok(tokens_of(alloc, text.bytes())?),
+        Ok(None) | Err(ReadRefusal::TooLarge) => Ok(Tokens::new(alloc)),
         Err(ReadRefusal::Failed) => Err(LoadRefusal::ReadFault),
         Err(ReadRefusal::NoMemory) => Err(LoadRefusal::NoMemory),
     }
 }
 
 /// What each of these lines stands in.
-fn parts_of(alloc: Global, lines: &[Line]) -> Result<List<Option<Part>>, NoMemory> {
+fn parts_of(alloc: Global, mut lines: LineSlice<'_>) -> Result<List<LinePart>, NoMemory> {
     let mut parts = List::with_capacity(alloc, lines.len())?;
     let mut part = None;
-    for line in lines {
-        if is_header(line) {
-            part = part_below(line);
+    while let Some(line) = lines.pop() {
+        if is_header(&line) {
+            part = part_below(&line);
         }
-        parts.push(part)?;
+        let line = line.number();
+        parts.push(LinePart { line, part })?;
     }
     Ok(parts)
 }
 
 /// What the lines below a header stand in.
-fn part_below(header: &Line) -> Option<Part> {
+fn part_below(header: &Line<'_>) -> Option<Part> {
     if is_on(header) {
         Some(Part::Action)
     } else if is_service(header) {
@@ -121,12 +119,12 @@ fn read_source<F: Files>(
     ensures tree { F.tree files.new ≡ F.tree files.old }
     ensures cause { Counted (is_read_fault result) (F.fault_count files.old) (F.fault_count files.new) }
 {
-    let lines = read_lines(alloc, files, file)?;
-    let taken = taken_elsewhere(alloc, allowed, lines.items())?;
-    let parts = parts_of(alloc, lines.items())?;
+    let tokens = read_tokens(alloc, files, file)?;
+    let taken = taken_elsewhere(alloc, allowed, &tokens.lines())?;
+    let parts = parts_of(alloc, tokens.lines())?;
     Ok(Source {
         file: file.share()?,
-        lines,
+        tokens,
         parts,
         taken,
     })

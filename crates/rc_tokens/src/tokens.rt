@@ -43,6 +43,13 @@ impl Tokens {
         }
     }
 
+    /// No lines, as those of an empty file. It takes no memory.
+    pub fn new(alloc: Global) -> Tokens
+        ensures { result ≡ record { lines = []; dropped = None } }
+    {
+        Tokens::of(List::new(alloc), List::new(alloc), None)
+    }
+
     /// One line alone, of this number and of these words.
     pub fn of_line(alloc: Global, number: u32, words: List<Text>) -> Result<Tokens, NoMemory>
         ensures { IfOk result (λ tokens. tokens ≡ record { lines = record { number = number; words = words } ∷ []; dropped = None }) }

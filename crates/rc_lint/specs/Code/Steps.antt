@@ -1,12 +1,11 @@
 -- The steps of the code.
-use Rattle.std.specs.Prelude.{◌≡◌, ℕ, ◌<◌, ◌≤◌, ◌⊎◌, ⊤, Bool, nat_eq, List, ◌++◌, length, Option, Some, None, Result, Ok, Err}
+use Rattle.std.specs.Prelude.{◌≡◌, ℕ, ◌<◌, ◌≤◌, ◌⊎◌, ⊤, Bool, nat_eq, List, length, Result, Ok, Err}
 use Rattle.std.specs.List.{list_any}
-use Rattle.init_base.specs.Tree.{file_at}
 use Rattle.prop_rules.specs.Build.{IsBuildFile}
 use Rattle.prop_rules.specs.declared.build.BuildProps.{BuildProps}
 use Rattle.rc_import.specs.declared.loaded.LoadRefusal.{LoadRefusal}
 use Rattle.rc_import.specs.declared.loaded.LoadRefusal.TheVariants as why
-use Rattle.rc_tokens.specs.declared.line.Line.{Line}
+use Rattle.rc_tokens.specs.Lines.{Line}
 use Rattle.rc_lint.specs.Excused.{is_excused_in_action, is_excused_in_service}
 use Rattle.rc_lint.specs.declared.excuse.Part.{Part}
 use Rattle.rc_lint.specs.declared.excuse.Part.TheVariants as part

@@ -1,4 +1,4 @@
-use Rattle.std.proofs.Common.{◌≡◌, ◌++◌, drop}
+use Rattle.std.proofs.Common.{◌≡◌, ◌++◌, length}
 use Rattle.rc_lint.specs.Code.Steps.{is_excused_at}
 use Rattle.rc_lint.specs.Excused.{numbers_of}
 use Rattle.rc_lint.proofs.excuse.add_lines.Given as goal
@@ -6,5 +6,8 @@ use Rattle.rc_lint.proofs.excuse.add_lines.Given as goal
 -- what is left decides
 abbrev pub invariant-loop-line : goal.invariant-loop-line
 invariant-loop-line l =
-    l.numbers ++ numbers_of (is_excused_at l.part l.allowed) (drop l.line-index l.lines)
-    ≡ l.initial.numbers ++ numbers_of (is_excused_at l.part l.allowed) l.lines
+    l.numbers ++ numbers_of (is_excused_at l.part l.allowed) l.lines
+    ≡ l.initial.numbers ++ numbers_of (is_excused_at l.part l.allowed) l.initial.lines
+
+abbrev pub decreases-loop-line : goal.decreases-loop-line
+decreases-loop-line l = length l.lines
