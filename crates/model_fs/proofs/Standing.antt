@@ -1,5 +1,5 @@
 -- Above what stands, directories alone stand.
-use Rattle.std.proofs.Common.{◌≡◌, ℕ, zero, suc, ◌≤◌, true, false, not, ◌||◌, List, [], ◌∷◌, ◌++◌, length, get_or, slice_get, Option, Some, None, refl, sym, ap, ◌∙◌, arith, length-append, if◌then◌else◌}
+use Rattle.std.proofs.Common.{◌≡◌, ℕ, zero, suc, ◌≤◌, Bool, true, false, not, ◌||◌, List, [], ◌∷◌, ◌++◌, length, get_or, slice_get, Option, Some, None, refl, sym, ap, ◌∙◌, arith, length-append, append-nil, append_assoc, if◌then◌else◌}
 use Rattle.std.proofs.lemmas.List.Quantifiers.{position-Some}
 use Rattle.std.proofs.lemmas.Option.{slice_get-get_or}
 use Rattle.init_machine.specs.FileTree.{Place, same_path, node_of, node_at, is_there, is_directory, is_other, is_under_other, put_node, with_parent, with_parents}
@@ -71,3 +71,20 @@ parents_within (suc n) tree (q ∷ qs) reached bound there =
 pub none_missing : (tree : List Place) (path : List (List ℕ)) → IsReached tree → is_there (node_at tree path) ≡ true → tree ≡ with_parent (with_parents tree path) path
 none_missing tree path reached there =
     sym (ap (λ t. with_parent t path) (parents_within (length path) tree path reached (omega arith) there) ∙ made_already tree path there)
+
+-- behind a path that has no place, nothing more stands above
+pub under_beyond : (tree : List Place) (path more : List (List ℕ)) → ((rest : List (List ℕ)) → place_in tree (path ++ rest) ≡ None) → is_under_other tree (path ++ more) ≡ is_under_other tree path
+under_beyond tree path [] none = ap (is_under_other tree) (append-nil path)
+under_beyond tree path (x ∷ more) none =
+    let last = path ++ x ∷ [] in
+    let nothing : is_other (node_at tree path) ≡ false =
+    ap is_other (node_not_found tree path (ap (place_in tree) (sym (append-nil path)) ∙ none [])) in
+    ap (is_under_other tree) (sym (append_assoc path (x ∷ []) more))
+    ∙ under_beyond tree last more (λ rest. ap (place_in tree) (append_assoc path (x ∷ []) rest) ∙ none (x ∷ rest))
+    ∙ under_by_last tree last path x refl
+    ∙ ap (λ b. is_under_other tree path || b) nothing
+    ∙ or_false (is_under_other tree path)
+  where
+    or_false : (b : Bool) → (b || false) ≡ b
+    or_false true = refl
+    or_false false = refl

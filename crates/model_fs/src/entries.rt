@@ -5,7 +5,7 @@ ghost use Rattle.init_machine.specs.FileTree.{is_there};
 ghost use Rattle.model_fs.specs.Entries.{entry_at, grown, mode_changed, one_more, with_entry, with_node, without_entry};
 
 use crate::node::{DIRECTORY_MODE, is_other, is_there, set_mode};
-use crate::path::{is_path, is_path_behind, is_root, split_last};
+use crate::path::{is_path, is_path_behind, is_root, split_first, split_last};
 use crate::places::Places;
 use init_base::NoMemory;
 use init_machine::Node;
@@ -167,23 +167,33 @@ impl Entries {
         }
     }
 
-    /// Where a path leads, by one look at each of its parts.
+    /// Where a path leads, by a look at each of its parts.
     fn lead(&self, path: &[u8]) -> Lead
         ensures at { result.at ≡ place_in self.now (parts_of path.now) }
         ensures under { result.is_under_other ≡ is_under_other_lem self.now (parts_of path.now) }
     {
-        let places = &self.places;
-        let Some((front, part)) = split_last(path) else {
+        let _ = &self.places;
+        self.lead_on(0, false, path)
+    }
+
+    /// Where the parts of a text lead on from a place, up to the first that has none.
+    fn lead_on(&self, at: usize, is_under_other: bool, rest: &[u8]) -> Lead
+        ensures at { (front : Items (Items ℕ)) → place_in self.now front ≡ Some at → result.at ≡ place_in self.now (front ++ parts_of rest.now) }
+        ensures under { (front : Items (Items ℕ)) → place_in self.now front ≡ Some at → is_under_other ≡ is_under_other_lem self.now front → result.is_under_other ≡ is_under_other_lem self.now (front ++ parts_of rest.now) }
+    {
+        let Some((part, behind)) = split_first(rest) else {
             return Lead {
-                at: Some(0),
-                is_under_other: false,
+                at: Some(at),
+                is_under_other,
             };
         };
-        let above = self.lead(front);
-        let is_under_other = above.is_under_other || is_other(self.node(above.at));
-        Lead {
-            at: places.child(above.at, part),
-            is_under_other,
+        let is_under_other = is_under_other | is_other(self.node(Some(at)));
+        match self.places.child(Some(at), part) {
+            Some(next) => self.lead_on(next, is_under_other, behind),
+            None => Lead {
+                at: None,
+                is_under_other,
+            },
         }
     }
 

@@ -114,3 +114,41 @@ fn last_start(text: &[u8]) -> usize
     }
     start
 }
+
+/// The first part of a text, and what stands behind it. None exactly where there is no part.
+pub fn split_first(text: &[u8]) -> Option<(&[u8], &[u8])>
+    ensures { MatchOption result (parts_of text.now ≡ []) (λ cut. (parts_of text.now ≡ cut.0.now ∷ parts_of cut.1.now) × (length cut.1.now < length text.now)) }
+{
+    let text = &text[first_start(text)..];
+    if text.is_empty() {
+        return None;
+    }
+    let len = part_len(text);
+    Some((&text[..len], &text[len..]))
+}
+
+/// Where what stands behind the slashes at the front begins.
+fn first_start(text: &[u8]) -> usize
+    ensures bound { result ≤ length text.now }
+    ensures same { parts_of (drop result text.now) ≡ parts_of text.now }
+    ensures first { result < length text.now → slice_index text.now result ≢ 47 }
+{
+    let mut start = 0;
+    while start < text.len() && text[start] == b'/' {
+        start += 1;
+    }
+    start
+}
+
+/// How many bytes stand before the first slash.
+fn part_len(text: &[u8]) -> usize
+    ensures bound { result ≤ length text.now }
+    ensures part { list_all is_no_slash (take result text.now) ≡ true }
+    ensures slash { result < length text.now → slice_index text.now result ≡ 47 }
+{
+    let mut len = 0;
+    while len < text.len() && text[len] != b'/' {
+        len += 1;
+    }
+    len
+}

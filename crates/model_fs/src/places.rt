@@ -68,6 +68,7 @@ impl Places {
     pub fn child(&self, parent: Option<usize>, part: &[u8]) -> Option<usize>
         ensures place { (front : Items (Items ℕ)) → place_of self.now front ≡ parent → result ≡ place_of self.now (front ++ part.now ∷ []) }
         ensures none { parent ≡ None → result ≡ None }
+        ensures behind { result ≡ None → (front more : Items (Items ℕ)) → place_of self.now front ≡ parent → place_of self.now (front ++ part.now ∷ more) ≡ None }
     {
         let (names, steps) = (&self.names, &self.steps);
         let parent = Some(parent?);
