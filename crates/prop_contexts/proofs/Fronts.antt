@@ -9,7 +9,7 @@ use Rattle.std.specs.Option.{option_map}
 use Rattle.std.specs.Str.{bytes_eq}
 use Rattle.init_machine.specs.Policy.{ContextLine, is_line_for, is_prefix_for, longest, longer}
 use Rattle.init_machine.specs.declared.policy.Context.{Context}
-use Rattle.prop_contexts.specs.Given.{named}
+use Rattle.prop_contexts.specs.NameLines.{named}
 use Rattle.prop_contexts.proofs.Entries.{entry_lines}
 
 abbrev pub or_else : {A : Type 0} → Option A → Option A → Option A
@@ -177,13 +177,13 @@ lookup-is (entry ∷ entries) name =
     ]
 
 -- what a front decides
-decided : {A : Type 0} (name front : List ℕ) (entries : List (Vec ℕ A × Context)) → IsLeft name (entry_lines entries) front
-    → longest (filter (is_prefix_for name) (entry_lines entries)) ≡ or_else (find (is_line_for front) (entry_lines entries)) (below name (entry_lines entries) (length front))
-decided name front entries left =
-    sym (down-is name (entry_lines entries))
+decided : (name front : List ℕ) (lines : List ContextLine) → IsLeft name lines front
+    → longest (filter (is_prefix_for name) lines) ≡ or_else (find (is_line_for front) lines) (below name lines (length front))
+decided name front lines left =
+    sym (down-is name lines)
     ∙ sym left.decides
-    ∙ down-here name (entry_lines entries) (length front)
-    ∙ ap (λ f. or_else (find (is_line_for f) (entry_lines entries)) (below name (entry_lines entries) (length front))) (sym left.is)
+    ∙ down-here name lines (length front)
+    ∙ ap (λ f. or_else (find (is_line_for f) lines) (below name lines (length front))) (sym left.is)
 
 first_found : (context : Context) (found other : Option ContextLine) → Some context ≡ option_map (λ line. line.context) found
     → Some context ≡ option_map (λ line. line.context) (or_else found other)
@@ -194,29 +194,28 @@ none_found : (found : Option ContextLine) → option_map (λ line. line.context)
 none_found None h = refl
 none_found (Some line) h = absurd (cc h)
 
-pub found_here : {A : Type 0} (name front : List ℕ) (entries : List (Vec ℕ A × Context)) (context : Context) → IsLeft name (entry_lines entries) front
-    → Some context ≡ lookup (λ k. bytes_eq front k.items) entries
-    → Some context ≡ option_map (λ line. line.context) (longest (filter (is_prefix_for name) (entry_lines entries)))
-found_here name front entries context left there =
-    first_found context (find (is_line_for front) (entry_lines entries)) (below name (entry_lines entries) (length front)) (there ∙ lookup-is entries front)
-    ∙ ap (option_map (λ line. line.context)) (sym (decided name front entries left))
+pub found_here : (name front : List ℕ) (lines : List ContextLine) (context : Context) → IsLeft name lines front
+    → Some context ≡ option_map (λ line. line.context) (find (is_line_for front) lines)
+    → Some context ≡ option_map (λ line. line.context) (longest (filter (is_prefix_for name) lines))
+found_here name front lines context left there =
+    first_found context (find (is_line_for front) lines) (below name lines (length front)) there
+    ∙ ap (option_map (λ line. line.context)) (sym (decided name front lines left))
 
-pub none_left : {A : Type 0} (name front : List ℕ) (entries : List (Vec ℕ A × Context)) → IsLeft name (entry_lines entries) front
-    → lookup (λ k. bytes_eq front k.items) entries ≡ None → length front ≡ 0
-    → None ≡ option_map (λ line. line.context) (longest (filter (is_prefix_for name) (entry_lines entries)))
+pub none_left : (name front : List ℕ) (lines : List ContextLine) → IsLeft name lines front
+    → option_map (λ line. line.context) (find (is_line_for front) lines) ≡ None → length front ≡ 0
+    → None ≡ option_map (λ line. line.context) (longest (filter (is_prefix_for name) lines))
 unfolding below
-none_left name [] entries left none short =
+none_left name [] lines left none short =
     ap (option_map (λ line. line.context))
-    (sym (decided name [] entries left ∙ ap (λ f. or_else f None) (none_found (find (is_line_for []) (entry_lines entries)) (sym (lookup-is entries []) ∙ none))))
-none_left name (b ∷ front) entries left none short = absurd (omega arith)
+    (sym (decided name [] lines left ∙ ap (λ f. or_else f None) (none_found (find (is_line_for []) lines) none)))
+none_left name (b ∷ front) lines left none short = absurd (omega arith)
 
-pub one_less : {A : Type 0} (name front shorter : List ℕ) (last : ℕ) (entries : List (Vec ℕ A × Context)) → IsLeft name (entry_lines entries) front
-    → lookup (λ k. bytes_eq front k.items) entries ≡ None → front ≡ shorter ++ last ∷ []
-    → IsLeft name (entry_lines entries) shorter
-one_less name front shorter last entries left none is =
-    let lines : List ContextLine = entry_lines entries in
+pub one_less : (name front shorter : List ℕ) (last : ℕ) (lines : List ContextLine) → IsLeft name lines front
+    → option_map (λ line. line.context) (find (is_line_for front) lines) ≡ None → front ≡ shorter ++ last ∷ []
+    → IsLeft name lines shorter
+one_less name front shorter last lines left none is =
     let long : length front ≡ length shorter + 1 = omega (arith, ap length is, length-append shorter (last ∷ [])) in
-    let front_none : find (is_line_for front) lines ≡ None = none_found (find (is_line_for front) lines) (sym (lookup-is entries front) ∙ none) in
+    let front_none : find (is_line_for front) lines ≡ None = none_found (find (is_line_for front) lines) none in
     let whole : take (length shorter) front ≡ take (length shorter) name =
     ap (take (length shorter)) left.is ∙ take-take (length shorter) (length front) name (omega (arith, long)) in
     let here : down name lines (length front) ≡ below name lines (length front) =
@@ -228,3 +227,7 @@ one_less name front shorter last entries left none is =
       is = sym (take-append_seam shorter (last ∷ [])) ∙ ap (take (length shorter)) (sym is) ∙ whole;
       decides = ap (down name lines) one ∙ sym (below-is name lines (length front) (omega (arith, long))) ∙ sym here ∙ left.decides;
     }
+
+-- a front is not longer than the name
+pub front_within : (name front : List ℕ) (lines : List ContextLine) → IsLeft name lines front → length front ≤ length name
+front_within name front lines left = omega (arith, ap length left.is, length-take (length front) name)

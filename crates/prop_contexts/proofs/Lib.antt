@@ -7,3 +7,4 @@ pub mod Fronts
 pub mod LookUps
 pub mod Readers
 pub mod Pairs
+pub mod Digests

@@ -14,6 +14,7 @@ mod laws;
 mod line;
 mod names;
 mod policy;
+mod prefixes;
 mod refusal;
 #[cfg(test)]
 mod tests;

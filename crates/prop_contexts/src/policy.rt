@@ -7,7 +7,8 @@ ghost use Rattle.prop_contexts.specs.Grammar.{IsPolicy, IsRefused};
 use crate::allowances::Allowances;
 use crate::allows::read_allows;
 use crate::contexts::{Contexts, read_contexts};
-use crate::names::{Names, longest_prefix};
+use crate::names::Names;
+use crate::prefixes::Prefixes;
 use crate::refusal::PolicyRefusal;
 use init_base::PropName;
 use init_machine::{Context, PolicyView};
@@ -19,17 +20,17 @@ use std::marker::Model;
 pub struct Policy {
     default: Context,
     exact: Names,
-    prefixes: Names,
+    prefixes: Prefixes,
     allows: Allowances,
 }
 
 impl Model for Policy {
     ghost use Rattle.init_machine.specs.Policy.{PolicyLines};
-    ghost use Rattle.prop_contexts.specs.Given.{lines_in};
+    ghost use Rattle.prop_contexts.specs.NameLines.{lines_in};
 
     ghost Value = { PolicyLines };
 
-    ghost view = { λ p. record { default = p.default; exact = lines_in p.exact; prefixes = lines_in p.prefixes; allows = p.allows } };
+    ghost view = { λ p. record { default = p.default; exact = lines_in p.exact; prefixes = p.prefixes; allows = p.allows } };
 }
 
 impl PolicyView for Policy {
@@ -72,7 +73,7 @@ impl Policy {
         if let Some(context) = self.exact.get(name) {
             return context;
         }
-        match longest_prefix(&self.prefixes, name) {
+        match self.prefixes.longest(name) {
             Some(context) => context,
             None => &self.default,
         }

@@ -1,6 +1,6 @@
 use Rattle.std.proofs.Common.{arith, ◌∙◌, sym, ap}
 use Rattle.std.proofs.lemmas.Result.{err_from_is_err_and}
-use Rattle.prop_contexts.specs.Given.{lines_in}
+use Rattle.prop_contexts.specs.NameLines.{lines_in}
 use Rattle.prop_contexts.proofs.LookUps.{allow_refused, one_default}
 use Rattle.prop_contexts.proofs.policy.Policy.read.Goals as goal
 
@@ -20,7 +20,7 @@ returns-clause-policy c =
       contexts_are_fit = read.fit;
       default = one_default c.args.contexts.now c.in_ok-lines.field-0 c.in-Some.default read c.in-Some.is;
       exact = sym (ap (λ given. given.exact) read.are) ∙ ap lines_in (sym c.exact.view_is);
-      prefixes = sym (ap (λ given. given.prefixes) read.are) ∙ ap lines_in (sym c.prefixes.view_is);
+      prefixes = sym (ap (λ given. given.prefixes) read.are) ∙ sym c.prefixes.view_is;
       allows_are_fit = c.in_ok-allows.ensures.read.fit;
       allows = sym (c.in_ok-of.ensures ∙ c.in_ok-allows.ensures.read.are);
     }
