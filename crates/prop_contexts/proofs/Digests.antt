@@ -1,10 +1,6 @@
 -- The digests of texts and of the fronts of a text, and which names have a line.
-use Rattle.std.proofs.Common.{◌≡◌, ℕ, suc, ◌+◌, ◌<◌, ◌≤◌, Bool, true, false, ◌||◌, cond, nat_eq, Some, None, List, [], ◌∷◌, ◌++◌, length, take, get_or, set, find, refl, ap, sym, ◌∙◌, Vec, if◌then◌else◌, arith}
-use Rattle.std.proofs.lemmas.Bool.{eqb-true, eq-eqb, false_from_ne_true, true≢false}
-use Rattle.std.proofs.Math.Seq.{take-suc}
-use Rattle.std.proofs.lemmas.Grind.{common_steps}
-use Rattle.std.proofs.lemmas.List.{get_or-set_other, get_or-set_same}
-use Rattle.std.proofs.lemmas.List.Sums.{fold-append}
+use Rattle.std.proofs.Common.{◌≡◌, ℕ, ◌≤◌, Bool, true, false, ◌||◌, cond, nat_eq, Some, None, List, [], ◌∷◌, ◌++◌, take, get_or, find, refl, ap, sym, ◌∙◌, Vec, if◌then◌else◌}
+use Rattle.std.proofs.lemmas.Bool.{eq-eqb, false_from_ne_true, true≢false}
 use Rattle.std.proofs.lemmas.List.Folds.{list_any-append}
 use Rattle.std.specs.Cmp.Lexicographic.{bytes_decides}
 use Rattle.std.specs.List.{list_any}
@@ -14,7 +10,7 @@ use Rattle.indexmap.specs.IndexMap.{insert_entry}
 use Rattle.indexmap.specs.IndexSet.{insert_key}
 use Rattle.init_machine.specs.Policy.{ContextLine, is_line_for}
 use Rattle.init_machine.specs.declared.policy.Context.{Context}
-use Rattle.prop_contexts.specs.Digests.{digest_of, with_byte, HaveDigests}
+use Rattle.prop_contexts.specs.Digests.{digest_of, HaveDigests}
 use Rattle.prop_contexts.specs.NameLines.{has_name}
 use Rattle.prop_contexts.proofs.Entries.{entry_lines}
 
@@ -110,40 +106,6 @@ no_digest lines digests name digest have is none =
 
 -- ---- fronts
 
-one_more : (i : ℕ) → i + 1 ≡ suc i
-one_more i = omega arith
-
-pub next_digest : (text : List ℕ) (i d : ℕ) → i < length text → digest_of (take (i + 1) text) ≡ with_byte (digest_of (take i text)) (get_or text i d)
-next_digest text i d within =
-    ap (λ n. digest_of (take n text)) (one_more i)
-    ∙ ap digest_of (take-suc text i d within)
-    ∙ fold-append with_byte 0 (take i text) (get_or text i d ∷ [])
-
 -- the digests of the fronts of at most so many bytes
 abbrev pub HasFronts : List ℕ → List ℕ → ℕ → Type 0
 HasFronts digests text i = (n : ℕ) → n ≤ i → get_or digests n 0 ≡ digest_of (take n text)
-
-pub first_front : (digests text : List ℕ) → get_or digests 0 0 ≡ 0 → HasFronts digests text 0
-first_front digests text is n less =
-    let none : n ≡ 0 = omega (arith, less) in
-    ap (λ k. get_or digests k 0) none ∙ is ∙ ap (λ k. digest_of (take k text)) (sym none)
-
-below_last : (n i : ℕ) → nat_eq n (i + 1) ≡ false → n ≤ i + 1 → n ≤ i
-below_last n i differ less = grind (arith, common_steps)
-
-pub front_more : (digests text : List ℕ) (i byte digest : ℕ) → i < length text → i + 1 < length digests → byte ≡ get_or text i byte → digest ≡ with_byte (get_or digests i 0) byte
-    → HasFronts digests text i → HasFronts (set digests (i + 1) digest) text (i + 1)
-front_more digests text i byte digest within room byte_is digest_is fronts n less = by (nat_eq n (i + 1)) refl
-  where
-    by : (v : Bool) → nat_eq n (i + 1) ≡ v → get_or (set digests (i + 1) digest) n 0 ≡ digest_of (take n text)
-    by true same =
-        let is : n ≡ i + 1 = eqb-true n (i + 1) same in
-        ap (λ k. get_or (set digests (i + 1) digest) k 0) is
-        ∙ get_or-set_same digests (i + 1) digest 0 room
-        ∙ digest_is
-        ∙ (λ k. with_byte (fronts i (omega arith) k) (byte_is k))
-        ∙ sym (next_digest text i byte within)
-        ∙ ap (λ k. digest_of (take k text)) (sym is)
-    by false differ =
-        let low : n ≤ i = below_last n i differ less in
-        get_or-set_other digests (i + 1) n digest 0 (λ e. omega (arith, low, e)) ∙ fronts n low
