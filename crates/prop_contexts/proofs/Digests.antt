@@ -1,20 +1,16 @@
 -- The digests of texts and of the fronts of a text, and which names have a line.
-use Rattle.std.proofs.Common.{◌≡◌, ℕ, suc, ◌+◌, ◌<◌, ◌≤◌, Bool, true, false, ◌||◌, cond, nat_eq, Some, None, List, [], ◌∷◌, ◌++◌, length, take, get_or, set, find, refl, ap, sym, ◌∙◌, Vec, if◌then◌else◌, arith}
-use Rattle.std.proofs.lemmas.Bool.{eqb-true, eq-eqb, false_from_ne_true, true≢false}
-use Rattle.std.proofs.Math.Seq.{take-suc}
+use Rattle.std.proofs.Common.{◌≡◌, ℕ, ◌+◌, ◌<◌, ◌≤◌, Bool, true, false, ◌||◌, nat_eq, List, [], ◌∷◌, ◌++◌, take, refl, ap, sym, ◌∙◌, Vec, if◌then◌else◌, arith}
 use Rattle.std.proofs.lemmas.Grind.{common_steps}
-use Rattle.std.proofs.lemmas.List.{get_or-set_other, get_or-set_same}
-use Rattle.std.proofs.lemmas.List.Sums.{fold-append}
+use Rattle.std.proofs.lemmas.Bool.{eqb-true, eq-eqb, false_from_ne_true, true≢false}
 use Rattle.std.proofs.lemmas.List.Folds.{list_any-append}
 use Rattle.std.specs.Cmp.Lexicographic.{bytes_decides}
 use Rattle.std.specs.List.{list_any}
-use Rattle.std.specs.Option.{option_map}
 use Rattle.std.specs.Str.{bytes_eq}
 use Rattle.indexmap.specs.IndexMap.{insert_entry}
 use Rattle.indexmap.specs.IndexSet.{insert_key}
-use Rattle.init_machine.specs.Policy.{ContextLine, is_line_for}
+use Rattle.init_machine.specs.Policy.{ContextLine}
 use Rattle.init_machine.specs.declared.policy.Context.{Context}
-use Rattle.prop_contexts.specs.Digests.{digest_of, with_byte, HaveDigests}
+use Rattle.prop_contexts.specs.Digests.{digest_of, HaveDigests}
 use Rattle.prop_contexts.specs.NameLines.{has_name}
 use Rattle.prop_contexts.proofs.Entries.{entry_lines}
 
@@ -50,15 +46,6 @@ names_put {A} (entry ∷ entries) key context other = by (bytes_eq key.items ent
     by false differ more =
         ap (λ b. bytes_eq other entry.0.items || b) more
         ∙ shuffled (bytes_eq other entry.0.items) (bytes_eq other key.items) (has_name (entry_lines entries) other)
-
--- a name without a line is for none
-pub none_for : (lines : List ContextLine) (name : List ℕ) → has_name lines name ≡ false → find (is_line_for name) lines ≡ None
-none_for [] name none = refl
-none_for (line ∷ lines) name none = by (is_line_for name line) none (λ rest. none_for lines name rest)
-  where
-    by : (v : Bool) → (v || has_name lines name) ≡ false → (has_name lines name ≡ false → find (is_line_for name) lines ≡ None) → cond v (Some line) (find (is_line_for name) lines) ≡ None
-    by true h more = absurd (true≢false h)
-    by false h more = more h
 
 -- ---- digests
 
@@ -101,49 +88,29 @@ line_more lines new digests more key have is names name there = by (bytes_eq nam
     by false differ h = digest_more lines digests more (digest_of key) is have name h
 
 -- a name whose digest isn't there has no line
-pub no_digest : (lines : List ContextLine) (digests : List ℕ) (name : List ℕ) (digest : ℕ) → HaveDigests lines digests → digest ≡ digest_of name
-    → list_any (nat_eq digest) digests ≡ false → None ≡ option_map (λ line. line.context) (find (is_line_for name) lines)
-no_digest lines digests name digest have is none =
-    let absent : has_name lines name ≡ false = false_from_ne_true (has_name lines name) (λ there.
-    true≢false (sym (have name there) ∙ ap (λ d. list_any (nat_eq d) digests) (sym is) ∙ none)) in
-    ap (option_map (λ line. line.context)) (sym (none_for lines name absent))
+no_line : (lines : List ContextLine) (digests : List ℕ) (name : List ℕ) (digest : ℕ) → HaveDigests lines digests → digest ≡ digest_of name
+    → list_any (nat_eq digest) digests ≡ false → has_name lines name ≡ false
+no_line lines digests name digest have is none = false_from_ne_true (has_name lines name) (λ there.
+    true≢false (sym (have name there) ∙ ap (λ d. list_any (nat_eq d) digests) (sym is) ∙ none))
 
 -- ---- fronts
 
-one_more : (i : ℕ) → i + 1 ≡ suc i
-one_more i = omega arith
-
-pub next_digest : (text : List ℕ) (i d : ℕ) → i < length text → digest_of (take (i + 1) text) ≡ with_byte (digest_of (take i text)) (get_or text i d)
-next_digest text i d within =
-    ap (λ n. digest_of (take n text)) (one_more i)
-    ∙ ap digest_of (take-suc text i d within)
-    ∙ fold-append with_byte 0 (take i text) (get_or text i d ∷ [])
-
--- the digests of the fronts of at most so many bytes
-abbrev pub HasFronts : List ℕ → List ℕ → ℕ → Type 0
-HasFronts digests text i = (n : ℕ) → n ≤ i → get_or digests n 0 ≡ digest_of (take n text)
-
-pub first_front : (digests text : List ℕ) → get_or digests 0 0 ≡ 0 → HasFronts digests text 0
-first_front digests text is n less =
-    let none : n ≡ 0 = omega (arith, less) in
-    ap (λ k. get_or digests k 0) none ∙ is ∙ ap (λ k. digest_of (take k text)) (sym none)
+-- of the fronts of at most so many bytes, none that is longer has a line
+abbrev pub IsLongest : List ContextLine → List ℕ → ℕ → ℕ → Type 0
+IsLongest lines name known i = (n : ℕ) → known < n → n ≤ i → has_name lines (take n name) ≡ false
 
 below_last : (n i : ℕ) → nat_eq n (i + 1) ≡ false → n ≤ i + 1 → n ≤ i
 below_last n i differ less = grind (arith, common_steps)
 
-pub front_more : (digests text : List ℕ) (i byte digest : ℕ) → i < length text → i + 1 < length digests → byte ≡ get_or text i byte → digest ≡ with_byte (get_or digests i 0) byte
-    → HasFronts digests text i → HasFronts (set digests (i + 1) digest) text (i + 1)
-front_more digests text i byte digest within room byte_is digest_is fronts n less = by (nat_eq n (i + 1)) refl
+pub front_more : (lines : List ContextLine) (digests : List ℕ) (name : List ℕ) (i known digest : ℕ) → HaveDigests lines digests → digest ≡ digest_of (take (i + 1) name) → known ≤ i
+    → IsLongest lines name known i → IsLongest lines name (if list_any (nat_eq digest) digests then i + 1 else known) (i + 1)
+front_more lines digests name i known digest have is within longest n = by (list_any (nat_eq digest) digests) refl
   where
-    by : (v : Bool) → nat_eq n (i + 1) ≡ v → get_or (set digests (i + 1) digest) n 0 ≡ digest_of (take n text)
-    by true same =
-        let is : n ≡ i + 1 = eqb-true n (i + 1) same in
-        ap (λ k. get_or (set digests (i + 1) digest) k 0) is
-        ∙ get_or-set_same digests (i + 1) digest 0 room
-        ∙ digest_is
-        ∙ (λ k. with_byte (fronts i (omega arith) k) (byte_is k))
-        ∙ sym (next_digest text i byte within)
-        ∙ ap (λ k. digest_of (take k text)) (sym is)
-    by false differ =
-        let low : n ≤ i = below_last n i differ less in
-        get_or-set_other digests (i + 1) n digest 0 (λ e. omega (arith, low, e)) ∙ fronts n low
+    last : list_any (nat_eq digest) digests ≡ false → (v : Bool) → nat_eq n (i + 1) ≡ v → known < n → n ≤ i + 1 → has_name lines (take n name) ≡ false
+    last none true same more less =
+        ap (λ k. has_name lines (take k name)) (eqb-true n (i + 1) same) ∙ no_line lines digests (take (i + 1) name) digest have is none
+    last none false differ more less = longest n more (below_last n i differ less)
+
+    by : (v : Bool) → list_any (nat_eq digest) digests ≡ v → (if v then i + 1 else known) < n → n ≤ i + 1 → has_name lines (take n name) ≡ false
+    by true there more less = absurd (omega (arith, more, less))
+    by false none more less = last none (nat_eq n (i + 1)) refl more less

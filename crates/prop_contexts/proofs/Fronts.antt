@@ -1,5 +1,5 @@
 -- The longest name that is a front of another, by looking up each front.
-use Rattle.std.proofs.Common.{◌≡◌, ℕ, suc, zero, ◌+◌, ◌-◌, ◌<◌, ◌≤◌, inl, inr, Bool, true, false, cond, nat_lt, Option, Some, None, List, [], ◌∷◌, ◌++◌, length, length-append, take, take-take, refl, ap, sym, ◌∙◌, find, filter, Vec, arith}
+use Rattle.std.proofs.Common.{◌≡◌, ℕ, suc, zero, ◌+◌, ◌-◌, ◌<◌, ◌≤◌, inl, inr, ◌⊎◌, ◌||◌, Bool, true, false, cond, nat_lt, Option, Some, None, List, [], ◌∷◌, ◌++◌, length, length-append, take, take-take, refl, ap, sym, ◌∙◌, find, filter, Vec, arith}
 use Rattle.std.proofs.Math.Seq.{take-append_seam}
 use Rattle.std.proofs.lemmas.Bool.{cases_lt, ltb-true, lt-ltb, false_from_ne_true}
 use Rattle.std.proofs.lemmas.List.{length-take}
@@ -9,7 +9,7 @@ use Rattle.std.specs.Option.{option_map}
 use Rattle.std.specs.Str.{bytes_eq}
 use Rattle.init_machine.specs.Policy.{ContextLine, is_line_for, is_prefix_for, longest, longer}
 use Rattle.init_machine.specs.declared.policy.Context.{Context}
-use Rattle.prop_contexts.specs.NameLines.{named}
+use Rattle.prop_contexts.specs.NameLines.{named, has_name}
 use Rattle.prop_contexts.proofs.Entries.{entry_lines}
 
 abbrev pub or_else : {A : Type 0} → Option A → Option A → Option A
@@ -228,6 +228,34 @@ one_less name front shorter last lines left none is =
       decides = ap (down name lines) one ∙ sym (below-is name lines (length front) (omega (arith, long))) ∙ sym here ∙ left.decides;
     }
 
--- a front is not longer than the name
-pub front_within : (name front : List ℕ) (lines : List ContextLine) → IsLeft name lines front → length front ≤ length name
-front_within name front lines left = omega (arith, ap length left.is, length-take (length front) name)
+-- a name without a line is for none
+none_for : (lines : List ContextLine) (name : List ℕ) → has_name lines name ≡ false → find (is_line_for name) lines ≡ None
+none_for [] name none = refl
+none_for (line ∷ lines) name none = by (is_line_for name line) none (λ rest. none_for lines name rest)
+  where
+    by : (v : Bool) → (v || has_name lines name) ≡ false → (has_name lines name ≡ false → find (is_line_for name) lines ≡ None) → cond v (Some line) (find (is_line_for name) lines) ≡ None
+    by true h more = absurd (cc h)
+    by false h more = more h
+
+-- where no longer front has a line, the front decides
+decides_down : (name : List ℕ) (lines : List ContextLine) (known n : ℕ) → known ≤ n → ((m : ℕ) → known < m → m ≤ n → find (is_line_for (take m name)) lines ≡ None)
+    → down name lines known ≡ down name lines n
+decides_down name lines known zero less none =
+    let is : known ≡ zero = omega (arith, less) in
+    ap (down name lines) is
+decides_down name lines known (suc n) less none = by (cases_lt n known)
+    (λ low. decides_down name lines known n low (λ m more fits. none m more (omega (arith, fits))))
+  where
+    by : (n < known) ⊎ (known ≤ n) → (known ≤ n → down name lines known ≡ down name lines n) → down name lines known ≡ down name lines (suc n)
+    by (inl high) rest =
+        let is : known ≡ suc n = omega (arith, high, less) in
+        ap (down name lines) is
+    by (inr low) rest = rest low ∙ ap (λ f. or_else f (down name lines n)) (sym (none (suc n) (omega (arith, low)) (omega arith)))
+
+pub known_first : (name front : List ℕ) (lines : List ContextLine) → front ≡ take (length front) name
+    → ((n : ℕ) → length front < n → n ≤ length name → has_name lines (take n name) ≡ false) → IsLeft name lines front
+known_first name front lines is none = record {
+  is = is;
+  decides = decides_down name lines (length front) (length name) (omega (arith, ap length is, length-take (length front) name))
+      (λ m more less. none_for lines (take m name) (none m more less));
+}

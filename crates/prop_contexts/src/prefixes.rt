@@ -1,11 +1,13 @@
 //! The lines for prefixes of names, and the longest one for a name.
 //!
-//! Each front of a name is looked up, the longest first, but only where a line may have it: its digest is one of those
-//! of the lines. The digests of all fronts are made in one walk over the name.
+//! Each front of a name is looked up, the longest first. Those at the end whose digests are none of the lines' have no
+//! line, and are left out: their digests are made in one walk over the name, so that a long name isn't hashed at each of
+//! its lengths.
 
-ghost use Rattle.std.specs.Prelude.{◌≡◌, ◌≤◌, ◌++◌, ◌∷◌, [], ℕ, filter, find, length, not, slice_index, take, IsTrue, IfOk};
+ghost use Rattle.std.specs.Prelude.{◌≡◌, ◌≤◌, ◌<◌, ◌++◌, ◌∷◌, [], ℕ, false, filter, if◌then◌else◌, length, nat_eq, not, take, IsTrue, IfOk};
+ghost use Rattle.std.specs.List.{list_any};
 ghost use Rattle.std.specs.Option.{option_copied, option_map};
-ghost use Rattle.init_machine.specs.Policy.{is_line_for, is_prefix_for, longest};
+ghost use Rattle.init_machine.specs.Policy.{is_prefix_for, longest};
 ghost use Rattle.prop_contexts.specs.NameLines.{has_name, named};
 ghost use Rattle.prop_contexts.specs.Digests.{digest_of as digest_of_lem, with_byte as with_byte_lem};
 
@@ -58,13 +60,11 @@ impl Prefixes {
 
     /// The context of the longest name that the given one begins with. It takes no memory.
     pub fn longest(&self, name: &[u8]) -> Option<&Context>
-        requires { length name.now ≤ 255 }
         ensures { option_copied result ≡ option_map (λ line. line.context) (longest (filter (is_prefix_for name.now) self.now)) }
     {
-        let digests = front_digests(name);
-        let mut front = name;
+        let mut front = self.longest_known(name);
         loop {
-            if let Some(context) = self.get(front, digests[front.len()]) {
+            if let Some(context) = self.names.get(front) {
                 return Some(context);
             }
             let (_, shorter) = front.split_last()?;
@@ -72,29 +72,31 @@ impl Prefixes {
         }
     }
 
-    /// The context of a name, by the name and its digest.
-    fn get(&self, name: &[u8], digest: u64) -> Option<&Context>
-        requires { digest ≡ digest_of_lem name.now }
-        ensures { option_copied result ≡ option_map (λ line. line.context) (find (is_line_for name.now) self.now) }
+    /// The longest front of a name that has the digest of a line. No longer one has a line.
+    fn longest_known<'a>(&self, name: &'a [u8]) -> &'a [u8]
+        ensures front { result.now ≡ take (length result.now) name.entry.now }
+        ensures longer { (n : ℕ) → length result.now < n → n ≤ length name.entry.now → has_name self.now (take n name.entry.now) ≡ false }
     {
-        if self.digests.contains(&digest) {
-            self.names.get(name)
-        } else {
-            None
+        let digests = &self.digests;
+        let mut digest = 0;
+        let mut known = 0;
+        for (at, byte) in name.iter().enumerate() {
+            digest = with_byte(digest, *byte);
+            known = last_known(digests, digest, at + 1, known);
         }
+        &name[..known]
     }
 }
 
-/// The digests of the fronts of a name, each at the place of its length.
-fn front_digests(name: &[u8]) -> [u64; 256]
-    requires { length name.now ≤ 255 }
-    ensures { (n : ℕ) → n ≤ length name.now → slice_index result n ≡ digest_of_lem (take n name.now) }
+/// The length of a front where a line has its digest, and else that of the longest known one.
+fn last_known(digests: &IndexSet<u64>, digest: u64, length: usize, known: usize) -> usize
+    ensures { result ≡ (if list_any (nat_eq digest) digests.now.keys then length else known) }
 {
-    let mut digests = [0; 256];
-    for (at, byte) in name.iter().enumerate() {
-        digests[at + 1] = with_byte(digests[at], *byte);
+    if digests.contains(&digest) {
+        length
+    } else {
+        known
     }
-    digests
 }
 
 /// The digest of a text.
