@@ -1,5 +1,5 @@
 -- The names of tests, among which a name is looked up.
-use Rattle.std.proofs.Common.{◌≡◌, ℕ, Bool, true, false, ◌||◌, List, [], ◌∷◌, not, map, refl, ap, sym, subst, ◌∙◌, Bor}
+use Rattle.std.proofs.Common.{◌≡◌, ℕ, ◌<◌, Bool, true, false, ◌||◌, List, [], ◌∷◌, length, not, map, refl, ap, sym, subst, ◌∙◌, arith, Bor}
 use Rattle.std.specs.List.{list_any}
 use Rattle.std.specs.BTreeSet.{BTreeSet}
 use Rattle.std.specs.Str.{bytes_eq}
@@ -12,6 +12,12 @@ use Rattle.init_machine.specs.declared.action.PropTest.{PropTest}
 pub has_none : (set : BTreeSet (Bor (List ℕ))) (names : List (List ℕ)) → set.keys ≡ [] → list_any (has_name set) names ≡ false
 has_none set [] e = refl
 has_none set (name ∷ names) e = rw e (has_none set names e)
+
+-- nothing stands twice among fewer than two
+pub too_few : (tests : List PropTest) → length tests < 2 → has_twice (map (λ test. test.name) tests) ≡ false
+too_few [] few = refl
+too_few (test ∷ []) few = refl
+too_few (test ∷ other ∷ tests) few = absurd (omega (arith, few))
 
 shuffled : (a b c d : Bool) → ((a || b) || (c || d)) ≡ ((a || c) || (b || d))
 shuffled true b c d = refl

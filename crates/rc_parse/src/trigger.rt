@@ -101,10 +101,14 @@ impl Triggers {
         Ok(self)
     }
 
-    /// Whether some property is tested twice.
+    /// Whether some property is tested twice. One test alone is looked up nowhere.
+    #[tactic(auto, using(crate::proofs::Seen::too_few))]
     fn has_twice(&self, alloc: Global) -> Result<bool, NoMemory>
         ensures { IfOk result (λ answer. answer ≡ has_twice (map (λ test. test.name) self.now.props)) }
     {
+        if self.props.len() < 2 {
+            return Ok(false);
+        }
         let mut seen = BTreeSet::new(alloc);
         for test in self.props.items() {
             if !seen.insert(test.name.bytes())? {
