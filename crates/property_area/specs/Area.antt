@@ -87,7 +87,8 @@ pub record WordsHold (words : List ℕ) (m : Moment) : Type 0 where
 
 -- the lists of clients that have no seat now
 abbrev pub ClientsHold : World → List Client → Type 0
-ClientsHold w clients = (i : ℕ) (c : Client) → get_elem? clients i ≡ some c → ListHolds w c.began c.list
+ClientsHold w [] = Unit {0}
+ClientsHold w (c ∷ clients) = ListHolds w c.began c.list × ClientsHold w clients
 
 -- the writer's view is the moment; the view of another seat is a reader's
 abbrev pub PartHolds : World → Moment → ℕ → CellView → AreaView → Type 0
@@ -136,4 +137,5 @@ begins words = record {
   words = words;
   head = 0;
   clients = [];
+  out = [];
 }

@@ -6,8 +6,10 @@
 //! file for each.
 #![tactic(auto)]
 
+mod area;
 mod rule;
 mod view;
 
+pub use area::{Area, AreaRefusal, WriterSeat};
 pub use rule::WordArea;
 pub use view::{AreaView, Client};

@@ -12,8 +12,8 @@ pub struct Client {
     pub list: LinkedList<ClientItem>,
 }
 
-/// The writer's part is in `cell`, `head` (the number that word 0 has) and `clients` (those that were there and have no seat
-/// now); a reader's in `cell`, `who` (its client), `began` and `list` (the client's). Of each seat `trie` is what it knows of
+/// The writer's part is in `cell`, `head` (the number that word 0 has), `clients` (those that were there and have no seat
+/// now) and `out` (those that have one); a reader's in `cell`, `who` (its client), `began` and `list` (the client's). Of each seat `trie` is what it knows of
 /// the trie, and `words` the number of words.
 pub struct AreaView {
     pub cell: CellView,
@@ -24,4 +24,5 @@ pub struct AreaView {
     pub words: u64,
     pub head: u64,
     pub clients: LinkedList<Client>,
+    pub out: LinkedList<u64>,
 }

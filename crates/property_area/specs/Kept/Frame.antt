@@ -1,5 +1,5 @@
 -- A step at the area changes one word and one seat's view: what has to be shown of each kind.
-use Rattle.std.proofs.Common.{◌≡◌, ◌≢◌, ℕ, List, [], length, get_or, set, Option, Some, sym, ◌∙◌, subst, inr, ⊎_elim, arith, length-set}
+use Rattle.std.proofs.Common.{◌≡◌, ◌≢◌, ℕ, List, [], ◌∷◌, length, get_or, set, Option, Some, sym, ◌∙◌, subst, inr, ⊎_elim, arith, length-set}
 use mathlib.Core.Option.{some}
 use lib.ListN.{get_elem?}
 use lib.Seq.{set-get_or}
@@ -49,7 +49,8 @@ mine words m id v sets making h is =
 
 -- the lists of the clients that have no seat, at a later moment
 pub clients_later : (w w' : World) → Later w w' → (clients : List Client) → ClientsHold w clients → ClientsHold w' clients
-clients_later w w' later clients h i c e = list_later w w' later c.began c.list (h i c e)
+clients_later w w' later [] h = tt
+clients_later w w' later (c ∷ clients) h = (list_later w w' later c.began c.list h.0, clients_later w w' later clients h.1)
 
 -- a step of a reader, or one that changes no word: its new view holds
 pub reads : (s : St) (h : AreaHolds s) (i id : ℕ) (cs : Carried) (w : AreaView) → ViewHolds s.words h.moment id w

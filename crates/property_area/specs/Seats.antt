@@ -1,0 +1,43 @@
+-- What callers see of the seats at an area.
+use Rattle.std.specs.Prelude.{◌≡◌, ℕ, ◌+◌, ◌<◌, ◌≤◌, ◌^◌, nat_lt, IsTrue, List, [], ◌∷◌, ◌++◌, length, Option, Some, None, if◌then◌else◌}
+use Rattle.atomic_table.specs.Seated.{TableId}
+use Rattle.init_machine.specs.Sets.{Set}
+use Rattle.serial_value.specs.declared.view.CellView.TheVariants.{Writer, Reader}
+use Rattle.serial_value.specs.Cell.{sets_of}
+use Rattle.property_trie.specs.TrieSteps.{IsAtRest}
+use Rattle.property_area.specs.declared.view.AreaView.{AreaView}
+use Rattle.property_area.specs.declared.area.AreaRefusal.{AreaRefusal}
+use Rattle.property_area.specs.declared.area.AreaRefusal.TheVariants.{TooSmall, TooBig}
+use Rattle.property_area.specs.Area.{Settled}
+
+-- which area a seat is of, which of its seats it is, and its view
+pub record Seated : Type 0 where
+  pub table : TableId
+  pub id : ℕ
+  pub view : AreaView
+
+-- why an area of so many words is refused, none where it isn't
+abbrev pub size_refusal : ℕ → Option AreaRefusal
+size_refusal words =
+    if nat_lt words 64 then Some (TooSmall words) else (if nat_lt 1048576 words then Some (TooBig words) else None)
+
+abbrev pub HasSize : TableId → Type 0
+HasSize table = (64 ≤ table.words) × (table.words ≤ 1048576)
+
+-- the accepted sets, as a seat of the writer knows them
+abbrev pub sets_in : AreaView → List Set
+sets_in v = sets_of v.cell
+
+-- the view of the writer's seat between its calls: no set is being made, and word 0 is the number of sets
+pub record IsWriterView (table : TableId) (v : AreaView) : Type 0 where
+  pub writes : v.cell ≡ Writer (sets_of v.cell) None
+  pub settled : Settled v
+  pub rests : IsAtRest v.trie
+  pub wide : v.words ≡ table.words
+  pub few : length (sets_of v.cell) < 2 ^ 55
+
+-- the view of a reader's seat between its calls
+pub record IsReaderView (table : TableId) (v : AreaView) (number : ℕ) : Type 0 where
+  pub reads : v.cell ≡ Reader number None
+  pub rests : IsAtRest v.trie
+  pub wide : v.words ≡ table.words
