@@ -1,1 +1,4 @@
 pub mod Opening
+pub mod Meaning
+pub mod AreaSerial
+pub mod Looking

@@ -1,3 +1,4 @@
 pub mod Area
 pub mod Seats
+pub mod Meaning
 pub mod Kept

@@ -3,12 +3,12 @@ use Rattle.std.specs.Prelude.{◌≡◌, ℕ, ◌+◌, ◌<◌, ◌≤◌, ◌^�
 use Rattle.atomic_table.specs.Seated.{TableId}
 use Rattle.init_machine.specs.Sets.{Set}
 use Rattle.serial_value.specs.declared.view.CellView.TheVariants.{Writer, Reader}
-use Rattle.serial_value.specs.Cell.{sets_of}
+use Rattle.serial_value.specs.Cell.{sets_of, accepted}
 use Rattle.property_trie.specs.TrieSteps.{IsAtRest}
 use Rattle.property_area.specs.declared.view.AreaView.{AreaView}
 use Rattle.property_area.specs.declared.area.AreaRefusal.{AreaRefusal}
 use Rattle.property_area.specs.declared.area.AreaRefusal.TheVariants.{TooSmall, TooBig}
-use Rattle.property_area.specs.Area.{Settled}
+use Rattle.property_area.specs.Area.{Settled, with_trie, with_cell}
 
 -- which area a seat is of, which of its seats it is, and its view
 pub record Seated : Type 0 where
@@ -41,3 +41,19 @@ pub record IsReaderView (table : TableId) (v : AreaView) (number : ℕ) : Type 0
   pub reads : v.cell ≡ Reader number None
   pub rests : IsAtRest v.trie
   pub wide : v.words ≡ table.words
+
+-- word 0 has become the number of sets
+abbrev pub settled_view : AreaView → AreaView
+settled_view v = record v { head = length (sets_of v.cell) }
+
+-- nothing has changed but what the seat knows of the trie
+abbrev pub IsBeside : AreaView → AreaView → Type 0
+IsBeside v after = after ≡ with_trie v after.trie
+
+-- the view of the writer's seat once the set is accepted and word 0 stored, but for what it knows of the trie
+abbrev pub IsSet : AreaView → List ℕ → List ℕ → AreaView → Type 0
+IsSet v name value after = IsBeside (settled_view (with_cell v (accepted v.cell name value))) after
+
+-- the writer, while it makes no set at a cell that is there
+abbrev pub IsUnmaking : AreaView → Type 0
+IsUnmaking v = v.cell ≡ Writer (sets_of v.cell) None

@@ -7,7 +7,9 @@
 #![tactic(auto)]
 
 mod area;
+mod head;
 mod rule;
+mod store;
 mod view;
 
 pub use area::{Area, AreaRefusal, WriterSeat};
