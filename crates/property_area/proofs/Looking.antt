@@ -1,20 +1,21 @@
 -- What the writer's look at a name, and its set, mean for the store.
 use Rattle.std.proofs.Common.{◌≡◌, ◌≢◌, ℕ, ◌+◌, ◌<◌, ◌≤◌, ◌^◌, List, [], ◌∷◌, ◌++◌, length, take, Option, Some, None, sym, refl, ap, ◌∙◌, subst, arith}
 use Rattle.init_machine.specs.Sets.{Set, LastSet}
-use Rattle.init_machine.specs.Props.{Property, lookup_in, full_for, IsLookUp}
+use Rattle.init_machine.specs.Props.{Property, lookup_in, full_for, with_set, used_in, IsLookUp}
 use Rattle.serial_value.specs.declared.view.CellView.{CellView}
 use Rattle.serial_value.specs.declared.view.CellView.TheVariants.{Writer}
 use Rattle.serial_value.specs.declared.read.CellAnswer.TheVariants.{Found}
 use Rattle.serial_value.specs.Cell.{sets_of, accepted, Answers}
 use Rattle.property_trie.specs.Parts.{parts_of}
-use Rattle.property_trie.specs.Tree.{find}
-use Rattle.property_trie.specs.TrieSteps.{tree_of, Finds, HasCellAt, CellInside, Lacks}
+use Rattle.property_trie.specs.Tree.{find, each_once}
+use Rattle.init_machine.specs.Kept.Room.{full_with}
+use Rattle.property_trie.specs.TrieSteps.{tree_of, names_of, need_if_absent, Finds, HasCellAt, CellInside, Lacks}
 use Rattle.property_trie.specs.Additions.{mark_of, new_place}
 use Rattle.property_area.specs.declared.view.AreaView.{AreaView}
 use Rattle.property_area.specs.Area.{with_cell, with_trie, noted}
 use Rattle.property_area.specs.Meaning.{props_of}
-use Rattle.property_area.specs.Seats.{sets_in, IsSet}
-use Rattle.property_area.proofs.Meaning.{lookup_last, lookup_none, room_number, room_fits, mark_kept, mark_added}
+use Rattle.property_area.specs.Seats.{sets_in, store_of, IsSet}
+use Rattle.property_area.proofs.Meaning.{room_is, props_count, props_more, props_used, lookup_last, lookup_none, room_number, room_fits, mark_kept, mark_added}
 
 module _ (v : AreaView) (sets : List Set) (is : v.cell ≡ Writer sets None) (name : List ℕ) (after : AreaView) where
   -- the name has no cell
@@ -66,3 +67,18 @@ pub used_more : (v w after : AreaView) (name value : List ℕ) (used : ℕ) → 
     → used ≡ new_place (sets_in w) name + 13 → IsSet w name value after → used ≡ mark_of (sets_in after)
 used_more v w after name value used same none is set =
     is ∙ ap (λ (s : List Set). new_place s name + 13) same ∙ sym (ap mark_of (sets_after w name value after set ∙ ap (λ (s : List Set). s ++ (name, value) ∷ []) same) ∙ mark_added (sets_in v) name value none)
+
+pub store_count : (v : AreaView) → (store_of v).count ≡ length (sets_in v)
+store_count v = props_count (record { held = []; count = 0; capacity = v.words }) (sets_in v) ∙ omega arith
+
+-- the store after a set
+pub store_after : (v : AreaView) (name value : List ℕ) (after : AreaView) → IsSet v name value after → store_of after ≡ with_set (store_of v) name value
+store_after v name value after is = ap store_of is ∙ props_more (record { held = []; count = 0; capacity = v.words }) (sets_in v) name value
+
+pub store_used : (v : AreaView) → used_in (store_of v) ≡ mark_of (sets_in v)
+store_used v = props_used v.words (sets_in v)
+
+-- what the test of room says
+pub room_told : (v : AreaView) (name : List ℕ) (need : Option ℕ) (used words count : ℕ) → need ≡ need_if_absent (each_once (names_of (sets_in v))) name → used ≡ mark_of (sets_in v)
+    → words ≡ v.words → count ≡ length (sets_in v) → full_with need used words count ≡ full_for (store_of v) name
+room_told v name need used words count a b c d = (λ i. full_with (a i) (b i) (c i) (d i)) ∙ room_is v.words (sets_in v) name

@@ -14,3 +14,4 @@ pub mod Fresh
 pub mod Parts
 pub mod Nodes
 pub mod Linking
+pub mod Stores

@@ -8,6 +8,8 @@ use Rattle.property_trie.specs.TrieSteps.{IsAtRest}
 use Rattle.property_area.specs.declared.view.AreaView.{AreaView}
 use Rattle.property_area.specs.declared.area.AreaRefusal.{AreaRefusal}
 use Rattle.property_area.specs.declared.area.AreaRefusal.TheVariants.{TooSmall, TooBig}
+use Rattle.init_machine.specs.Props.{Props}
+use Rattle.property_area.specs.Meaning.{props_of}
 use Rattle.property_area.specs.Area.{Settled, with_trie, with_cell}
 
 -- which area a seat is of, which of its seats it is, and its view
@@ -57,3 +59,12 @@ IsSet v name value after = IsBeside (settled_view (with_cell v (accepted v.cell 
 -- the writer, while it makes no set at a cell that is there
 abbrev pub IsUnmaking : AreaView → Type 0
 IsUnmaking v = v.cell ≡ Writer (sets_of v.cell) None
+
+-- the store of properties that the writer's seat knows
+abbrev pub store_of : AreaView → Props
+store_of v = props_of v.words (sets_in v)
+
+-- nothing has changed beside the sets and what the seat knows of the trie
+abbrev pub IsSameBeside : Seated → Seated → Type 0
+IsSameBeside s t =
+    (s.table ≡ t.table) × (s.id ≡ t.id) × (s.view.words ≡ t.view.words) × (s.view.clients ≡ t.view.clients) × (s.view.out ≡ t.view.out)

@@ -112,4 +112,11 @@ impl Area {
             },
         ))
     }
+
+    /// The number of words.
+    pub fn words(&self) -> usize
+        ensures { result ≡ self.now.words }
+    {
+        self.table.word_count()
+    }
 }

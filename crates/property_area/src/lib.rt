@@ -8,10 +8,13 @@
 
 mod area;
 mod head;
+mod room;
 mod rule;
 mod store;
 mod view;
+mod writer;
 
 pub use area::{Area, AreaRefusal, WriterSeat};
 pub use rule::WordArea;
 pub use view::{AreaView, Client};
+pub use writer::AreaWriter;

@@ -8,8 +8,7 @@ ghost use Rattle.property_trie.specs.Parts.{parts_of};
 ghost use Rattle.property_trie.specs.Tree.{each_once, find as find_in};
 ghost use Rattle.property_trie.specs.TrieSteps.{names_of, need_if_absent, tree_of};
 ghost use Rattle.property_area.specs.Area.{Linked};
-ghost use Rattle.property_area.specs.Seats.{sets_in, IsWriterView, IsBeside, IsSet};
-ghost use Rattle.property_area.specs.Meaning.{props_of};
+ghost use Rattle.property_area.specs.Seats.{sets_in, IsWriterView, IsBeside, IsSet, store_of};
 
 use crate::area::Area;
 use crate::head::store_serial;
@@ -33,7 +32,7 @@ pub(crate) fn look_up(
     requires writer { (seat.old.table_id ≡ area.now) × (seat.old.me.1 ≡ []) × IsWriterView seat.old.table_id seat.old.me.0 }
     ensures seat { IsSameSeat seat.old seat.new × (seat.new.me.1 ≡ []) × IsWriterView seat.new.table_id seat.new.me.0 }
     ensures view { IsBeside seat.old.me.0 seat.new.me.0 }
-    ensures found { IsLookUp (lookup_in (props_of area.now.words (sets_in seat.old.me.0)).held name.entry.bytes.now) result out.new }
+    ensures found { IsLookUp (lookup_in (store_of seat.old.me.0).held name.entry.bytes.now) result out.new }
 {
     let at = find(&area.table, seat, name)?;
     match read_cell(&area.table, seat, at, name, out) {
@@ -109,7 +108,7 @@ pub(crate) fn set(
     used: usize,
 ) -> usize
     requires writer { (seat.old.table_id ≡ area.now) × (seat.old.me.1 ≡ []) × IsWriterView seat.old.table_id seat.old.me.0 }
-    requires room { full_for (props_of area.now.words (sets_in seat.old.me.0)) name.bytes.now ≡ None }
+    requires room { full_for (store_of seat.old.me.0) name.bytes.now ≡ None }
     requires number { number ≡ length (sets_in seat.old.me.0) + 1 }
     requires used { used ≡ mark_of (sets_in seat.old.me.0) }
     ensures seat { IsSameSeat seat.old seat.new × (seat.new.me.1 ≡ []) × IsWriterView seat.new.table_id seat.new.me.0 }

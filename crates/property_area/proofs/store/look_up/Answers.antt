@@ -13,7 +13,7 @@ returns-in_err-at-clause-found c =
     let v = c.args.seat.now.me.0 in
     let name = c.args.name.bytes.now in
     let after = c.find.new.seat.me.0 in
-    let words = c.args.area.now.words in
+    let words = v.words in
     subst (λ (o : Option (ℕ × ℕ)). IsLookUp (lookup_in (props_of words (sets_in v)).held name) o c.args.out.now) (sym c.from_residual.ensures)
     (look_none v (sets_in v) c.requires.writer.2.writes name after words c.args.out.now
     (subst (λ (o : Option ℕ). Finds with_trie noted v.words v.cell v.trie v name o after) c.in_err-at.was c.find.ensures.found))
@@ -26,5 +26,5 @@ returns-clause-found c =
     let writes = c.requires.writer.2.writes in
     let f = found_some v (sets_in v) writes name after c.in_ok-at.at
     (subst (λ (o : Option ℕ). Finds with_trie noted v.words v.cell v.trie v name o after) c.in_ok-at.was c.find.ensures.found) in
-    look_found after (sets_in v) (ap (λ (x : AreaView). x.cell) f.2 ∙ writes) name c.read_cell.new.seat.me.0 c.args.area.now.words c.in-Found.len c.in-Found.number c.args.out.now c.read_cell.new.out
+    look_found after (sets_in v) (ap (λ (x : AreaView). x.cell) f.2 ∙ writes) name c.read_cell.new.seat.me.0 v.words c.in-Found.len c.in-Found.number c.args.out.now c.read_cell.new.out
     c.in-Found.ensures.answer

@@ -1,4 +1,6 @@
-use Rattle.std.proofs.Common.{◌≡◌, sym, ap, subst, ◌∙◌, ℕ, Option}
+use Rattle.std.proofs.Common.{◌≡◌, sym, ap, subst, ◌∙◌, ℕ, ◌+◌, ◌≤◌, Option}
+use Rattle.atomic_table.specs.Seated.{TableId}
+use Rattle.property_trie.specs.Additions.{new_place}
 use Rattle.property_trie.specs.TrieSteps.{Finds}
 use Rattle.property_area.specs.declared.view.AreaView.{AreaView}
 use Rattle.property_area.specs.Area.{with_trie, noted}
@@ -13,7 +15,7 @@ set_at-requires-clause-number c =
     let name = c.args.name.bytes.now in
     let f = found_some v (sets_in v) c.requires.writer.2.writes name w c.in-Some.at
     (subst (λ (o : Option ℕ). Finds with_trie noted v.words v.cell v.trie v name o w) c.in-Some.is c.find.ensures.found) in
-    next_number v w (ap sets_in f.2) c.args.area.now.words name c.requires.room c.args.number c.requires.number c.requires.writer.2.few
+    next_number v w (ap sets_in f.2) v.words name c.requires.room c.args.number c.requires.number c.requires.writer.2.few
 
 pub set_new-requires-clause-room : goal.set_new-requires-clause-room
 set_new-requires-clause-room c =
@@ -22,7 +24,8 @@ set_new-requires-clause-room c =
     let name = c.args.name.bytes.now in
     let f = found_none v (sets_in v) c.requires.writer.2.writes name w
     (subst (λ (o : Option ℕ). Finds with_trie noted v.words v.cell v.trie v name o w) c.in-None.is c.find.ensures.found) in
-    new_fits v w (ap sets_in f.1) c.args.area.now.words name c.requires.room f.0
+    subst (λ (n : ℕ). new_place (sets_in w) name + 13 ≤ n) (c.requires.writer.2.wide ∙ ap (λ (t : TableId). t.words) c.requires.writer.0)
+    (new_fits v w (ap sets_in f.1) v.words name c.requires.room f.0)
 
 pub set_new-requires-clause-number : goal.set_new-requires-clause-number
 set_new-requires-clause-number c =
@@ -31,7 +34,7 @@ set_new-requires-clause-number c =
     let name = c.args.name.bytes.now in
     let f = found_none v (sets_in v) c.requires.writer.2.writes name w
     (subst (λ (o : Option ℕ). Finds with_trie noted v.words v.cell v.trie v name o w) c.in-None.is c.find.ensures.found) in
-    next_number v w (ap sets_in f.1) c.args.area.now.words name c.requires.room c.args.number c.requires.number c.requires.writer.2.few
+    next_number v w (ap sets_in f.1) v.words name c.requires.room c.args.number c.requires.number c.requires.writer.2.few
 
 pub returns-in-Some-clause-used : goal.returns-in-Some-clause-used
 returns-in-Some-clause-used c =
