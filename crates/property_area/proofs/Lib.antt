@@ -2,3 +2,4 @@ pub mod Opening
 pub mod Meaning
 pub mod AreaSerial
 pub mod Looking
+pub mod Readers

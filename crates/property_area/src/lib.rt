@@ -8,6 +8,7 @@
 
 mod area;
 mod head;
+mod reader;
 mod room;
 mod rule;
 mod store;
@@ -15,6 +16,7 @@ mod view;
 mod writer;
 
 pub use area::{Area, AreaRefusal, WriterSeat};
+pub use reader::{ReadAnswer, Reader};
 pub use rule::WordArea;
 pub use view::{AreaView, Client};
 pub use writer::AreaWriter;
