@@ -3,3 +3,4 @@ pub mod Meaning
 pub mod AreaSerial
 pub mod Looking
 pub mod Readers
+pub mod Hearing

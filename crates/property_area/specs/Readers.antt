@@ -115,3 +115,13 @@ ClientStands sets client = ListStands sets None client.began client.list × FewA
 abbrev pub EachClientStands : List Set → List Client → Type 0
 EachClientStands sets [] = Unit {0}
 EachClientStands sets (c ∷ clients) = ClientStands sets c × EachClientStands sets clients
+
+-- how many sets a reader has seen after an answer
+abbrev pub seen_in : ReadAnswer → ℕ
+seen_in (AnswerFound len number) = number
+seen_in (AnswerAbsent number) = number
+seen_in (AnswerAgain number first second) = seen_again number second
+
+-- a reader that has loaded word 0 has seen no fewer sets than before, and as many as it was told
+abbrev pub Catches : AreaView → ℕ → AreaView → Type 0
+Catches v number after = (seen_by v.cell ≤ number) × Hears v (Caught number) number after

@@ -72,3 +72,7 @@ IsSameBeside s t =
 -- a reader, while no read of it is under way
 abbrev pub IsResting : AreaView → Type 0
 IsResting v = (number : ℕ) × (v.cell ≡ Reader number None)
+
+-- it is still that seat of that area, of that client
+abbrev pub IsSameReader : Seated → Seated → Type 0
+IsSameReader s t = (t.table ≡ s.table) × (t.id ≡ s.id) × (t.view.who ≡ s.view.who) × (t.view.began ≡ s.view.began)

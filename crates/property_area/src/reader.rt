@@ -3,8 +3,8 @@
 ghost use Rattle.std.specs.Prelude.{◌≡◌, ◌≤◌, [], max, None};
 ghost use Rattle.init_machine.specs.Orderly.{seen_again};
 ghost use Rattle.serial_value.specs.Steps.{IsSameSeat};
-ghost use Rattle.serial_value.specs.declared.view.CellView.TheVariants.{Reader as Reads_cell};
 ghost use Rattle.property_area.specs.Seats.{IsReaderView};
+ghost use Rattle.property_area.specs.Readers.{Reads, seen_in};
 
 use crate::area::Area;
 use crate::head::load_serial;
@@ -54,4 +54,97 @@ fn seen_then(number: u64, second: u64) -> u64
 {
     let (_, own, dirty) = parts(second);
     if dirty { number } else { number.max(own) }
+}
+
+/// One attempt to read a property, at a seat that has seen so many sets.
+fn read_once(
+    area: &Area,
+    seat: &mut Seat<(), AreaView>,
+    number: u64,
+    name: PropName<'_>,
+    out: &mut [u8; 91],
+) -> ReadAnswer
+    requires reader { (seat.old.table_id ≡ area.now) × (seat.old.me.1 ≡ []) × IsReaderView seat.old.table_id seat.old.me.0 number }
+    ensures seat { IsSameSeat seat.old seat.new × (seat.new.me.1 ≡ []) }
+    ensures told { Reads seat.old.me.0 name.entry.bytes.now result out.old out.new seat.new.me.0
+        × IsReaderView seat.old.table_id seat.new.me.0 (seen_in result) }
+{
+    let Some(at) = find(&area.table, seat, name) else {
+        return ReadAnswer::Absent { number };
+    };
+    match read_cell(&area.table, seat, at, name, out) {
+        CellAnswer::Found { len, number: own } => ReadAnswer::Found {
+            len,
+            number: number.max(own),
+        },
+        CellAnswer::Again { first, second } => ReadAnswer::Again {
+            number,
+            first,
+            second,
+        },
+    }
+}
+
+impl ReadAnswer {
+    ghost use Rattle.std.specs.Prelude.{◌≡◌};
+    ghost use Rattle.property_area.specs.Readers.{seen_in};
+
+    /// How many sets the reader has seen then.
+    fn seen(&self) -> u64
+        ensures { result ≡ seen_in self.now }
+    {
+        match *self {
+            ReadAnswer::Found { len: _, number } => number,
+            ReadAnswer::Absent { number } => number,
+            ReadAnswer::Again {
+                number,
+                first: _,
+                second,
+            } => seen_then(number, second),
+        }
+    }
+}
+
+impl Reader {
+    ghost use Rattle.std.specs.Prelude.{◌≡◌, max};
+    ghost use Rattle.property_area.specs.Seats.{IsSameReader};
+    ghost use Rattle.property_area.specs.Readers.{seen_by, Reads, Catches};
+
+    /// One attempt to read a property. It adds one reading to the client's list, and answers that reading: the value, which
+    /// stands at the front of `out` then, or that the property is absent, or that a write was met, exactly where the two
+    /// serials that it loaded differ.
+    pub fn read(&mut self, area: &Area, name: PropName<'_>, out: &mut [u8; 91]) -> ReadAnswer
+        requires area { self.old.table ≡ area.now }
+        ensures reader { IsSameReader self.old self.new }
+        ensures told { Reads self.old.view name.entry.bytes.now result out.old out.new self.new.view }
+    {
+        let answer = read_once(area, &mut self.seat, self.number, name, out);
+        self.number = answer.seen();
+        answer
+    }
+
+    /// Loads the area serial, and answers how many sets the reader has seen then.
+    pub fn catch_up(&mut self, area: &Area) -> u64
+        requires area { self.old.table ≡ area.now }
+        ensures reader { IsSameReader self.old self.new }
+        ensures told { Catches self.old.view result self.new.view }
+    {
+        let count = load_serial(area, &mut self.seat);
+        self.number = self.number.max(count);
+        self.number
+    }
+
+    /// How many sets the reader has seen.
+    pub fn number(&self) -> u64
+        ensures { result ≡ seen_by self.now.view.cell }
+    {
+        self.number
+    }
+
+    /// The client that it reads for.
+    pub fn who(&self) -> ClientId
+        ensures { result.0 ≡ self.now.view.who }
+    {
+        self.who
+    }
 }
