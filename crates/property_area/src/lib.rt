@@ -7,6 +7,7 @@
 #![tactic(auto)]
 
 mod area;
+mod handing;
 mod head;
 mod reader;
 mod room;
