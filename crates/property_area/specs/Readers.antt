@@ -56,10 +56,14 @@ handed who v = let client = client_in v.clients who (sets_in v) in record {
   out = [];
 }
 
+-- the client of a reader's seat
+abbrev pub client_of : AreaView → Client
+client_of reader = record { who = reader.who; began = reader.began; list = reader.list }
+
 -- the view of the writer once it has taken the seat of a client in, and the view that the seat is left with
 abbrev pub taking : AreaView → AreaView → AreaView
 taking v reader = record v {
-  clients = record { who = reader.who; began = reader.began; list = reader.list } ∷ others_in v.clients reader.who;
+  clients = client_of reader ∷ others_in v.clients reader.who;
   out = without v.out reader.who;
 }
 

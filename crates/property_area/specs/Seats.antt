@@ -76,3 +76,7 @@ IsResting v = (number : ℕ) × (v.cell ≡ Reader number None)
 -- it is still that seat of that area, of that client
 abbrev pub IsSameReader : Seated → Seated → Type 0
 IsSameReader s t = (t.table ≡ s.table) × (t.id ≡ s.id) × (t.view.who ≡ s.view.who) × (t.view.began ≡ s.view.began)
+
+-- it is still that seat of that area
+abbrev pub IsSameSeated : Seated → Seated → Type 0
+IsSameSeated s t = (t.table ≡ s.table) × (t.id ≡ s.id)

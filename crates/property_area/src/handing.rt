@@ -8,6 +8,7 @@ ghost use Rattle.property_area.specs.Readers.{handing, handed, taking, synced, E
 use crate::area::Area;
 use crate::view::AreaView;
 use atomic_table::{Join, Play, Seat, Split};
+use init_base::ClientId;
 use std::marker::{Brand, PhantomData};
 
 /// What such a step is about, for proofs alone: the client, and how many words the area has.
@@ -73,7 +74,12 @@ impl Play<(), AreaView> for Standing {
 }
 
 /// The client's seat, split off the writer's.
-pub(crate) fn split_off<Q: Handing>(area: &Area, seat: &mut Seat<(), AreaView>) -> Seat<(), AreaView>
+pub(crate) fn split_off<Q: Handing>(
+    area: &Area,
+    seat: &mut Seat<(), AreaView>,
+    _who: ClientId,
+) -> Seat<(), AreaView>
+    requires asked { _who.0 ≡ Q.who }
     requires table { seat.old.table_id ≡ area.now }
     requires writer { IsUnmaking seat.old.me.0 }
     ensures writer { IsSameSeat seat.old seat.new × (seat.new.me ≡ (handing Q.who seat.old.me.0, seat.old.me.1)) }
@@ -98,7 +104,8 @@ pub(crate) fn join_in<Q: Handing>(
 }
 
 /// The client is told the count.
-pub(crate) fn tell_count<Q: Handing>(area: &Area, seat: &mut Seat<(), AreaView>)
+pub(crate) fn tell_count<Q: Handing>(area: &Area, seat: &mut Seat<(), AreaView>, _who: ClientId)
+    requires asked { _who.0 ≡ Q.who }
     requires table { seat.old.table_id ≡ area.now }
     requires writer { IsUnmaking seat.old.me.0 }
     ensures seat { IsSameSeat seat.old seat.new }

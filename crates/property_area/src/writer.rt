@@ -3,14 +3,16 @@
 ghost use Rattle.std.specs.Prelude.{◌≡◌};
 
 use crate::area::{Area, WriterSeat};
+use crate::handing::{clients_stand, join_in, split_off, tell_count};
+use crate::reader::Reader;
 use crate::room::check_room;
 use crate::store::{look_up, need_if_new, set};
 use crate::view::AreaView;
 use atomic_table::Seat;
-use init_base::{NoMemory, PropName, PropValue};
+use init_base::{ClientId, NoMemory, PropName, PropValue};
 use init_machine::{Full, PropStore};
 use std::alloc::Global;
-use std::marker::Model;
+use std::marker::{Brand, Model};
 
 /// The writer of an area. Each of its sets is seen by the readers while it is made, and takes no memory.
 pub struct AreaWriter<'a> {
@@ -66,6 +68,52 @@ impl<'a> AreaWriter<'a> {
         ensures { result ≡ self.now.view.words }
     {
         self.area.words() as u64
+    }
+}
+
+impl<'a> AreaWriter<'a> {
+    ghost use Rattle.std.specs.Prelude.{◌≡◌, IsOkAnd, length};
+    ghost use Rattle.property_area.specs.Seats.{sets_in, IsSameSeated};
+    ghost use Rattle.property_area.specs.Readers.{IsIn, handing, handed, taking, synced as with_synced, ClientStands, client_of};
+
+    /// Gives a client a reader's seat. It begins with the sets that there are, and with the list that the client had when its
+    /// last seat was taken in. It always succeeds.
+    pub fn hand_out(&mut self, who: ClientId) -> Result<Reader, NoMemory>
+        requires client { IsIn self.old.view who.0 }
+        ensures reader { IsOkAnd result (λ reader. (reader.table ≡ self.old.table) × (reader.view ≡ handed who.0 self.old.view)) }
+        ensures writer { IsSameSeated self.old self.new × (self.new.view ≡ handing who.0 self.old.view) }
+    {
+        let number = self.count;
+        let seat = split_off::<Brand>(self.area, &mut self.seat, who);
+        Ok(Reader { seat, who, number })
+    }
+
+    /// Takes a client's seat in, and answers which client it is. What the client was told stands in the sets, and at most two
+    /// of its reads of a name met a write for each set of the name since its list began.
+    pub fn take_in(&mut self, reader: Reader) -> ClientId
+        requires area { reader.table ≡ self.old.table }
+        ensures client { result.0 ≡ reader.view.who }
+        ensures writer { IsSameSeated self.old self.new × (self.new.view ≡ taking self.old.view reader.view) }
+        ensures stands { ClientStands (sets_in self.old.view) (client_of reader.view) }
+    {
+        let Reader {
+            seat,
+            who,
+            number: _,
+        } = reader;
+        join_in::<Brand>(self.area, &mut self.seat, seat);
+        clients_stand(self.area, &mut self.seat);
+        who
+    }
+
+    /// Tells a client that has no seat how many sets there are, and answers it.
+    pub fn synced(&mut self, who: ClientId) -> u64
+        requires client { IsIn self.old.view who.0 }
+        ensures count { result ≡ length (sets_in self.old.view) }
+        ensures writer { IsSameSeated self.old self.new × (self.new.view ≡ with_synced who.0 self.old.view) }
+    {
+        tell_count::<Brand>(self.area, &mut self.seat, who);
+        self.count
     }
 }
 
