@@ -40,6 +40,7 @@ impl From<AllocError> for AreaRefusal {
 }
 
 /// The words that the writer and the readers share. Any number of threads may hold a `&Area`.
+#[derive(Drop)]
 pub struct Area {
     pub(crate) table: Table<(), AreaView, u64, WordArea, Global>,
 }
@@ -56,6 +57,7 @@ impl Model for Area {
 }
 
 /// The writer's seat. There is one for each area.
+#[derive(Drop)]
 pub struct WriterSeat {
     pub(crate) seat: Seat<(), AreaView>,
     pub(crate) used: usize,

@@ -13,6 +13,8 @@ mod reader;
 mod room;
 mod rule;
 mod store;
+#[cfg(test)]
+mod tests;
 mod view;
 mod writer;
 

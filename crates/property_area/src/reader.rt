@@ -12,16 +12,21 @@ use crate::view::AreaView;
 use atomic_table::Seat;
 use init_base::{ClientId, PropName};
 use property_trie::find;
-use serial_value::{CellAnswer, parts, read_cell};
+use serial_value::{CellAnswer, parts, read_cell, reader_history};
 use std::marker::Model;
 
 /// What one attempt to read a property tells.
 #[derive(Clone, Copy, Debug, PartialEq, Eq)]
 pub enum ReadAnswer {
     /// The value has this length and stands at the front of the buffer; the property has it after so many sets.
-    Found { len: u8, number: u64 },
+    Found {
+        len: u8,
+        number: u64,
+    },
     /// The property is absent after so many sets.
-    Absent { number: u64 },
+    Absent {
+        number: u64,
+    },
     /// The read met a write: the two serials that it loaded differ.
     Again {
         number: u64,
@@ -31,6 +36,7 @@ pub enum ReadAnswer {
 }
 
 /// A client's seat. It takes no lock and no memory, and waits for nothing.
+#[derive(Drop)]
 pub struct Reader {
     pub(crate) seat: Seat<(), AreaView>,
     pub(crate) who: ClientId,
@@ -107,6 +113,7 @@ impl ReadAnswer {
 
 impl Reader {
     ghost use Rattle.std.specs.Prelude.{◌≡◌, max};
+    ghost use Rattle.serial_value.specs.History.{SomeHistory, FewRanks};
     ghost use Rattle.property_area.specs.Seats.{IsSameReader};
     ghost use Rattle.property_area.specs.Readers.{seen_by, Reads, Catches};
 
@@ -132,6 +139,17 @@ impl Reader {
         let count = load_serial(area, &mut self.seat);
         self.number = self.number.max(count);
         self.number
+    }
+
+    /// What the client was told holds of one history, whose first sets are those that there were when its list began, and its
+    /// reads of a name met few writes (`reader_history`). It is one load, and changes nothing.
+    pub fn told(&mut self, area: &Area)
+        requires area { self.old.table ≡ area.now }
+        ensures reader { self.new ≡ self.old }
+        ensures history { SomeHistory self.old.view.cell self.old.view.began self.old.view.list }
+        ensures few { FewRanks self.old.view.cell self.old.view.began self.old.view.list }
+    {
+        reader_history(&area.table, &mut self.seat);
     }
 
     /// How many sets the reader has seen.

@@ -15,6 +15,7 @@ use std::alloc::Global;
 use std::marker::{Brand, Model};
 
 /// The writer of an area. Each of its sets is seen by the readers while it is made, and takes no memory.
+#[derive(Drop)]
 pub struct AreaWriter<'a> {
     area: &'a Area,
     seat: Seat<(), AreaView>,
