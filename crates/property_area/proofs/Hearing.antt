@@ -1,5 +1,5 @@
 -- From the steps of a read to what it answers.
-use Rattle.std.proofs.Common.{◌≡◌, ◌≢◌, ℕ, ◌+◌, ◌<◌, ◌≤◌, List, [], length, take, max, Option, Some, None, sym, refl, ap, ◌∙◌, subst, arith}
+use Rattle.std.proofs.Common.{◌≡◌, ℕ, List, max, Some, None, sym, refl, ap, ◌∙◌, subst, arith}
 use Rattle.std.proofs.Math.Nat.{le-max_left}
 use Rattle.atomic_table.specs.Seated.{TableId}
 use Rattle.init_machine.specs.Orderly.{seen_again}
@@ -8,10 +8,8 @@ use Rattle.init_machine.specs.declared.report.Reading.TheVariants.{Found, Absent
 use Rattle.serial_value.specs.declared.view.CellView.{CellView}
 use Rattle.serial_value.specs.declared.view.CellView.TheVariants.{Reader}
 use Rattle.serial_value.specs.declared.read.CellAnswer.TheVariants.{Found as CellFound, Again as CellAgain}
-use Rattle.serial_value.specs.Words.{IsValue}
 use Rattle.serial_value.specs.Cell.{Answers}
-use Rattle.property_trie.specs.TrieSteps.{Finds, Lacks, IsAtRest, CellInside, HasCellAt, knowing}
-use Rattle.property_trie.specs.declared.view.TrieView.{TrieView}
+use Rattle.property_trie.specs.TrieSteps.{Finds, Lacks, IsAtRest}
 use Rattle.property_area.specs.declared.view.AreaView.{AreaView}
 use Rattle.property_area.specs.declared.reader.ReadAnswer.{ReadAnswer}
 use Rattle.property_area.specs.declared.reader.ReadAnswer.TheVariants.{Found as AnswerFound, Absent as AnswerAbsent, Again as AnswerAgain}

@@ -1,11 +1,11 @@
 -- What the writer's look at a name, and its set, mean for the store.
-use Rattle.std.proofs.Common.{◌≡◌, ◌≢◌, ℕ, ◌+◌, ◌<◌, ◌≤◌, ◌^◌, List, [], ◌∷◌, ◌++◌, length, take, Option, Some, None, sym, refl, ap, ◌∙◌, subst, arith}
-use Rattle.init_machine.specs.Sets.{Set, LastSet}
+use Rattle.std.proofs.Common.{◌≡◌, ℕ, ◌+◌, ◌<◌, ◌≤◌, ◌^◌, List, [], ◌∷◌, ◌++◌, length, take, Option, Some, None, sym, refl, ap, ◌∙◌, subst, arith}
+use Rattle.init_machine.specs.Sets.{Set}
 use Rattle.init_machine.specs.Props.{Property, lookup_in, full_for, with_set, used_in, IsLookUp}
 use Rattle.serial_value.specs.declared.view.CellView.{CellView}
 use Rattle.serial_value.specs.declared.view.CellView.TheVariants.{Writer}
 use Rattle.serial_value.specs.declared.read.CellAnswer.TheVariants.{Found}
-use Rattle.serial_value.specs.Cell.{sets_of, accepted, Answers}
+use Rattle.serial_value.specs.Cell.{Answers}
 use Rattle.property_trie.specs.Parts.{parts_of}
 use Rattle.property_trie.specs.Tree.{find, each_once}
 use Rattle.init_machine.specs.Kept.Room.{full_with}

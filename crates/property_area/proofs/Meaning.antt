@@ -1,10 +1,9 @@
 -- The store that the sets mean: its count, its names, its words, and the last set of each name.
-use Rattle.std.proofs.Common.{◌≡◌, ◌≢◌, ℕ, zero, suc, ◌+◌, ◌<◌, ◌≤◌, ◌⊎◌, List, [], ◌∷◌, ◌++◌, length, drop, take, Option, Some, None, Bool, true, false, not, ◌||◌, nat_lt, ◌&&◌, ◌==◌, if◌then◌else◌, sym, refl, ap, ◌∙◌, subst, inl, inr, ⊎_elim, arith, ne_eqb, ◌^◌}
+use Rattle.std.proofs.Common.{◌≡◌, ◌≢◌, ℕ, zero, suc, ◌+◌, ◌<◌, ◌≤◌, ◌⊎◌, List, [], ◌∷◌, ◌++◌, length, drop, Option, Some, None, Bool, true, false, not, ◌||◌, nat_lt, ◌&&◌, ◌==◌, if◌then◌else◌, sym, refl, ap, ◌∙◌, subst, inl, inr, ⊎_elim, arith, ne_eqb, ◌^◌}
 use Rattle.std.specs.Str.{bytes_eq}
 use Rattle.std.proofs.lemmas.Bool.{cases_Bool}
 use Rattle.std.proofs.lemmas.Slice.Eq.{bytes_eq-Decides}
-use mathlib.Core.Option.{some, some-injective, some-ne-none}
-use lib.ListN.{get_elem?}
+use mathlib.Core.Option.{some, some-injective}
 use Rattle.init_machine.specs.Sets.{Set, NoneBetween, LastSet}
 use Rattle.init_machine.specs.Props.{Property, Props, lookup_in, put_in, is_absent, with_set, used_in, names_of as held_names, full_for, last_number}
 use Rattle.init_machine.specs.Words.{is_among, need_of, used_of}
@@ -15,7 +14,7 @@ use Rattle.init_machine.specs.declared.store.Full.TheVariants.{Words, Numbers}
 use Rattle.std.proofs.lemmas.Bool.Decides.{nat_tests}
 use Rattle.serial_value.specs.Kept.Sets.{last_once}
 use Rattle.property_trie.specs.Parts.{parts_of}
-use Rattle.property_trie.specs.Tree.{Trie, find, depth, node_sizes, cell_place, with_property, trie_of, each_once_from, each_once}
+use Rattle.property_trie.specs.Tree.{Trie, find, node_sizes, each_once_from, each_once}
 use Rattle.property_trie.specs.TrieSteps.{names_of, tree_of, need_if_absent}
 use Rattle.property_trie.specs.Additions.{mark_of, new_place}
 use Rattle.property_trie.proofs.Marks.{trie_is, need_parts}

@@ -1,16 +1,14 @@
 -- A client's seat is split off and taken in, and a client is told the count of sets: the rule of the area holds.
-use Rattle.std.proofs.Common.{◌≡◌, ◌≢◌, ℕ, zero, suc, ◌+◌, ◌<◌, ◌≤◌, ◌⊎◌, List, [], ◌∷◌, ◌++◌, length, get_or, set, max, Option, Some, None, Bool, true, false, ◌==◌, if◌then◌else◌, sym, refl, ap, ◌∙◌, subst, inl, inr, ⊎_elim, arith, length-set, length-append}
+use Rattle.std.proofs.Common.{◌≡◌, ◌≢◌, ℕ, ◌+◌, ◌≤◌, List, [], ◌∷◌, ◌++◌, length, get_or, set, max, Option, None, true, false, ◌==◌, if◌then◌else◌, sym, refl, ap, ◌∙◌, subst, ⊎_elim, arith, length-set, length-append}
 use mathlib.Core.Option.{some, some-ne-none}
 use lib.ListN.{get_elem?}
 use Rattle.std.proofs.Math.Nat.{le-max_left, max-le}
-use Rattle.std.proofs.lemmas.Bool.{cases_Bool}
 use Rattle.std.proofs.lemmas.List.{append-nil}
 use Rattle.atomic_table.specs.Table.{Me, Allows, Splits, Joins, keeps}
 use Rattle.atomic_table.proofs.Lists.{at_set, set_else}
 use Rattle.init_machine.specs.Sets.{Set}
 use Rattle.init_machine.specs.Orderly.{ListStands}
 use Rattle.init_machine.specs.declared.report.Reading.TheVariants.{Synced, Caught}
-use Rattle.init_machine.specs.declared.client.ClientItem.{ClientItem}
 use Rattle.init_machine.specs.declared.client.ClientItem.TheVariants.{Told}
 use Rattle.serial_value.specs.declared.view.Making.{Making}
 use Rattle.serial_value.specs.declared.view.CellView.{CellView}
@@ -24,8 +22,8 @@ use Rattle.property_area.specs.declared.view.Client.{Client}
 use Rattle.property_area.specs.declared.view.AreaView.{AreaView}
 use Rattle.property_area.specs.Area.{Moment, world_of, ClientsHold, PartHolds, ViewHolds, AreaHolds}
 use Rattle.property_area.specs.Seats.{sets_in}
-use Rattle.property_area.specs.Readers.{client_in, others_in, handing, handed, taking, spent, synced, seen_by, caught, ClientStands, EachClientStands}
-use Rattle.property_area.specs.Kept.Frame.{St, Mine, mine, reads}
+use Rattle.property_area.specs.Readers.{client_in, others_in, handing, handed, taking, spent, synced, seen_by, caught, EachClientStands}
+use Rattle.property_area.specs.Kept.Frame.{mine, reads}
 
 -- an empty list that begins with the sets that there are, or with none
 fresh_list : (w : World) (began more : List Set) → w.sets ≡ began ++ more → ListHolds w began []

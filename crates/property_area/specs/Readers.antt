@@ -1,5 +1,5 @@
 -- How clients get a reader's seat and give it back, and what a reader is told.
-use Rattle.std.specs.Prelude.{◌≡◌, ◌≢◌, ℕ, ◌+◌, ◌*◌, ◌<◌, ◌≤◌, Bool, true, false, ◌||◌, ◌==◌, max, List, [], ◌∷◌, ◌++◌, length, take, drop, Option, Some, None, if◌then◌else◌}
+use Rattle.std.specs.Prelude.{◌≡◌, ◌≢◌, ℕ, ◌≤◌, Bool, true, false, ◌||◌, ◌==◌, max, List, [], ◌∷◌, ◌++◌, length, take, None, if◌then◌else◌}
 use Rattle.init_machine.specs.Sets.{Set}
 use Rattle.init_machine.specs.Orderly.{ListStands, seen_again}
 use Rattle.init_machine.specs.declared.report.Reading.{Reading}

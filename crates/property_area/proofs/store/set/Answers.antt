@@ -1,8 +1,7 @@
-use Rattle.std.proofs.Common.{◌≡◌, sym, ap, subst, ◌∙◌, ℕ, ◌+◌, ◌≤◌, Option}
+use Rattle.std.proofs.Common.{ap, subst, ◌∙◌, ℕ, ◌+◌, ◌≤◌, Option}
 use Rattle.atomic_table.specs.Seated.{TableId}
 use Rattle.property_trie.specs.Additions.{new_place}
 use Rattle.property_trie.specs.TrieSteps.{Finds}
-use Rattle.property_area.specs.declared.view.AreaView.{AreaView}
 use Rattle.property_area.specs.Area.{with_trie, noted}
 use Rattle.property_area.specs.Seats.{sets_in}
 use Rattle.property_area.proofs.Looking.{found_none, found_some, next_number, new_fits, used_kept, used_more}
