@@ -1,6 +1,6 @@
 -- A header alone, as it is read with each `!=` as `=`.
 use Rattle.std.proofs.Common.{◌≡◌, ℕ, Bool, true, false, IsTrue, List, [], ◌∷◌, ◌++◌, None, Result, Ok, Err, refl, sym, ◌∙◌}
-use Rattle.std.specs.Prelude.{◌↔◌, is_ok}
+use Rattle.std.specs.Prelude.{◌↔◌, ◌&&◌, is_ok}
 use Rattle.init_machine.specs.declared.diagnostic.DiagKind.{DiagKind}
 use Rattle.init_machine.specs.declared.diagnostic.Diagnostic.{Diagnostic}
 use Rattle.rc_parse.specs.Readings.{diagnostic}
@@ -37,3 +37,8 @@ pub good_alone : (args : List (List ℕ)) (parsed : Parsed) (good : Bool)
     → IsTrue good ↔ (parsed.diagnostics ≡ []) → good ≡ is_ok (triggers_of args)
 unfolding wrong alone header_of
 good_alone args parsed good is test = tells args (triggers_of args) parsed.diagnostics good is.diagnostics_are test
+
+-- words without `!` aren't looked at
+pub no_bang : (found good : Bool) → found ≡ false → false ≡ (found && good)
+no_bang false good none = refl
+no_bang true good none = cc

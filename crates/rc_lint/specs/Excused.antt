@@ -48,12 +48,19 @@ number_if test line = if test line then line.number ∷ [] else []
 abbrev pub numbers_of : (Line → Bool) → List Line → List ℕ
 numbers_of test lines = flat_map (number_if test) lines
 
--- the triggers of a header are well-formed where each `!=` is read as `=`
-abbrev pub is_good_as_equal : Section → Bool
-is_good_as_equal section = is_ok (triggers_of (map as_equal (header_args section)))
+abbrev pub is_bang : ℕ → Bool
+is_bang byte = nat_eq byte 33
+
+-- a word with `!`, as each test with `!=` has it
+abbrev pub has_bang : List ℕ → Bool
+has_bang word = list_any is_bang word
+
+-- words with `!`, which are well-formed triggers where each `!=` is read as `=`
+abbrev pub are_good_as_equal : List (List ℕ) → Bool
+are_good_as_equal words = list_any has_bang words && is_ok (triggers_of (map as_equal words))
 
 abbrev pub good_header : Section → List ℕ
-good_header section = if is_good_as_equal section then section.header.number ∷ [] else []
+good_header section = if are_good_as_equal (header_args section) then section.header.number ∷ [] else []
 
 -- The lines of a section of which another init takes the word, or the header with `!=`.
 abbrev pub taken_elsewhere : List (List ℕ) → Section → List ℕ

@@ -1,11 +1,12 @@
 //! Which lines of a file another init takes. The rule is `all_taken_elsewhere` of `specs/Excused.antt`.
 
 ghost use Rattle.std.specs.Prelude.{◌≡◌, ◌++◌, ◌∷◌, [], map, position, is_ok, IfOk, OnOk};
+ghost use Rattle.std.specs.List.{list_any};
 ghost use Rattle.init_base.specs.Tree.{has_name};
 ghost use Rattle.rc_parse.specs.Lines.{lines_before_header};
 ghost use Rattle.rc_parse.specs.Triggers.{is_equals_sign, triggers_of};
 ghost use Rattle.rc_lint.specs.Code.Steps.{HasNumbers, is_excused_at as is_excused_at_lem};
-ghost use Rattle.rc_lint.specs.Excused.{all_taken_elsewhere, as_equal as as_equal_lem, good_header, is_excused_command as is_excused_command_lem, is_excused_in_action as is_excused_in_action_lem, is_excused_in_service as is_excused_in_service_lem, is_excused_option as is_excused_option_lem, number_if, numbers_of, taken_elsewhere as taken_elsewhere_lem, without_bang as without_bang_lem};
+ghost use Rattle.rc_lint.specs.Excused.{all_taken_elsewhere, are_good_as_equal as are_good_as_equal_lem, as_equal as as_equal_lem, good_header, has_bang as has_bang_lem, is_excused_command as is_excused_command_lem, is_excused_in_action as is_excused_in_action_lem, is_excused_in_service as is_excused_in_service_lem, is_excused_option as is_excused_option_lem, number_if, numbers_of, taken_elsewhere as taken_elsewhere_lem, without_bang as without_bang_lem};
 
 use crate::lines::{arguments, before_header, first_word, is_header, is_on, is_service};
 use crate::not_modelled::{is_command_not_modelled, is_option_not_modelled};
@@ -116,9 +117,33 @@ fn equal_words(alloc: Global, words: &[Text]) -> Result<List<Text>, NoMemory>
     Ok(equal)
 }
 
-/// Whether the triggers behind `on` are well-formed where each `!=` is read as `=`.
+/// Whether a word has a `!`, as each test with `!=` does.
+fn has_bang(word: &Text) -> bool
+    ensures { result ≡ has_bang_lem word.now }
+{
+    word.bytes().iter().any(|byte| *byte == b'!')
+}
+
+fn have_bang(words: &[Text]) -> bool
+    ensures { result ≡ list_any has_bang_lem words.now }
+{
+    words.iter().any(|word| has_bang(word))
+}
+
+/// Whether the words behind `on` have a `!`, and are well-formed triggers where each `!=` is read as `=`.
+fn are_good_as_equal(alloc: Global, words: &[Text]) -> Result<bool, NoMemory>
+    ensures { IfOk result (λ good. good ≡ are_good_as_equal_lem words.now) }
+{
+    if have_bang(words) {
+        are_triggers_as_equal(alloc, words)
+    } else {
+        Ok(false)
+    }
+}
+
+/// Whether the words are well-formed triggers where each `!=` is read as `=`.
 #[tactic(auto, using(crate::proofs::Headers::good_alone))]
-fn is_good_as_equal(alloc: Global, words: &[Text]) -> Result<bool, NoMemory>
+fn are_triggers_as_equal(alloc: Global, words: &[Text]) -> Result<bool, NoMemory>
     ensures { IfOk result (λ good. good ≡ is_ok (triggers_of (map as_equal_lem words.now))) }
 {
     let tokens = Tokens::of_line(alloc, 1, equal_words(alloc, words)?)?;
@@ -161,7 +186,7 @@ fn add_lines(
 fn add_header(alloc: Global, numbers: &mut List<u32>, header: &Line<'_>) -> Result<(), NoMemory>
     ensures { OnOk result (numbers.new ≡ numbers.old ++ good_header (record { header = header.now; body = [] })) }
 {
-    if is_good_as_equal(alloc, arguments(header.words()))? {
+    if are_good_as_equal(alloc, arguments(header.words()))? {
         numbers.push(header.number())
     } else {
         Ok(())
