@@ -236,6 +236,49 @@ def script_of_most_bytes(shape, lines=99_998):
     shape.script("client u shell\n" + "".join(pair[k % 2].format(k) for k in range(lines)) + "step 1\n")
 
 
+# -- policies, build files and stores of the limits' sizes
+
+CONTEXTS = "* default_prop\nq. wanted_label prefix string\n"
+
+
+def most_lines(lines):
+    """The front of some lines that a text of the limit's size has room for."""
+    kept, size = [], 0
+    for it in lines:
+        size += len(it) + 1
+        if size > MOST_BYTES:
+            break
+        kept.append(it)
+    return "".join(it + "\n" for it in kept)
+
+
+def client_sets(shape, name, count=99_000):
+    """A client that asks for so many sets, in a machine with little else to do."""
+    shape.root("on boot", "    setprop a 1")
+    shape.script(WIDE + "client c shell\n" + "".join(f"@c set {name(k)} {k}\n" for k in range(count)))
+
+
+def many_allow_lines(shape):
+    """An allow text that fills the limit, of which the last line is wanted at each of 99,000 sets."""
+    client_sets(shape, lambda k: f"q.{k % 1000}")
+    shape.put("tree/property_contexts", CONTEXTS)
+    shape.put("tree/property_allow", most_lines([f"allow shell label_{k}" for k in range(44_000)] + ["allow shell wanted_label"]))
+
+
+def many_contexts(shape):
+    """Contexts that fill the limit, each with a name of its own, which 99,000 sets go through."""
+    client_sets(shape, lambda k: f"p{k % 40_000}")
+    shape.put("tree/property_contexts", most_lines(["* default_prop"] + [f"p{k} wanted_label exact int" for k in range(200_000)]))
+    shape.put("tree/property_allow", "allow shell wanted_label\n")
+
+
+def many_build_pairs(shape):
+    """A build file that fills the limit."""
+    shape.root("on boot", "    setprop a 1")
+    shape.put("tree/system/build.prop", most_lines(f"n{k}=v" for k in range(200_000)))
+    shape.script(WIDE + "step 5\n")
+
+
 SHAPES = dict([
     *read_trees(),
     *many_actions(),
@@ -250,6 +293,9 @@ SHAPES = dict([
     ("setprop_900", setprop_900),
     ("device", device),
     ("script_mib_16", script_of_most_bytes),
+    ("allow_mib_1", many_allow_lines),
+    ("contexts_mib_1", many_contexts),
+    ("build_mib_1", many_build_pairs),
 ])
 
 

@@ -1,6 +1,6 @@
 -- A run of plain bytes stands for itself in q form.
-use Rattle.std.proofs.Common.{◌≡◌, ℕ, suc, ◌+◌, Bool, true, false, cond, List, [], ◌∷◌, ◌++◌, take, drop, length, slice_index, ◌<◌, append_assoc, refl, sym, ap, ◌∙◌, arith, if◌then◌else◌}
-use Rattle.std.specs.List.{flat_map, prefix_len}
+use Rattle.std.proofs.Common.{◌≡◌, ℕ, suc, ◌+◌, Bool, true, false, cond, List, [], ◌∷◌, ◌++◌, take, drop, length, slice_index, ◌<◌, append_assoc, refl, sym, ap, ◌∙◌, arith, if◌then◌else◌, ◌&&◌}
+use Rattle.std.specs.List.{flat_map, list_all, prefix_len}
 use Rattle.std.proofs.Math.Seq.{drop-cons}
 use Rattle.init_trace.specs.Quoted.{hex_byte, is_plain, quoted_byte}
 
@@ -37,3 +37,13 @@ byte_left old bytes run is below =
     append_assoc (old ++ take run bytes) (quoted_byte (slice_index bytes run)) (flat_map quoted_byte (drop (run + 1) bytes))
     ∙ ap (λ r. (old ++ take run bytes) ++ flat_map quoted_byte r) (sym front)
     ∙ run_left old bytes run is
+
+-- plain bytes alone stand for themselves
+pub plain_whole : (xs : List ℕ) → list_all is_plain xs ≡ true → xs ≡ flat_map quoted_byte xs
+plain_whole [] is = refl
+plain_whole (x ∷ xs) is = by (is_plain x) refl is (plain_whole xs)
+  where
+    by : (b : Bool) → is_plain x ≡ b → (b && list_all is_plain xs) ≡ true → (list_all is_plain xs ≡ true → xs ≡ flat_map quoted_byte xs)
+        → x ∷ xs ≡ quoted_byte x ++ flat_map quoted_byte xs
+    by true plain rest whole = ap (λ ys. x ∷ ys) (whole rest) ∙ ap (λ q. q ++ flat_map quoted_byte xs) (sym (plain_byte x plain))
+    by false plain rest whole = absurd (cc)

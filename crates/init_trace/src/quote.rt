@@ -2,7 +2,7 @@
 
 ghost use Rattle.std.specs.Prelude.{◌≡◌, ◌++◌, ◌∷◌, [], ◌<◌, ◌≤◌, IfOk, OnOk, false, length, drop};
 ghost use Rattle.std.specs.Fmt.{decimal, digit_glyph};
-ghost use Rattle.std.specs.List.{flat_map, prefix_len};
+ghost use Rattle.std.specs.List.{flat_map, list_all, prefix_len};
 ghost use Rattle.init_trace.specs.Quoted.{hex16, hex_byte as hex_byte_lem, is_plain as is_plain_lem, quoted as quoted_lem, quoted_byte as quoted_byte_lem};
 
 use init_base::NoMemory;
@@ -34,14 +34,29 @@ pub fn quoted(page: &mut Vec<u8>, bytes: &[u8]) -> Result<(), NoMemory>
     }
 }
 
+#[tactic(auto, using(crate::proofs::Runs::plain_whole))]
 fn quoted_bytes(page: &mut Vec<u8>, bytes: &[u8]) -> Result<(), NoMemory>
     ensures { OnOk result (page.new.items ≡ page.old.items ++ flat_map quoted_byte_lem bytes.now) }
 {
+    if are_plain(bytes) {
+        return put(page, bytes);
+    }
     let mut at = 0;
     while at < bytes.len() {
         at += quoted_run(page, &bytes[at..])?;
     }
     Ok(())
+}
+
+/// Whether all bytes are plain. It goes on behind one that isn't, so that many bytes are judged at a time.
+fn are_plain(bytes: &[u8]) -> bool
+    ensures { result ≡ list_all is_plain_lem bytes.now }
+{
+    let mut plain = true;
+    for byte in bytes {
+        plain = plain & is_plain(*byte);
+    }
+    plain
 }
 
 /// Adds the run of plain bytes at the front, as they are, and then the byte that ends it. Answers how many bytes these are.

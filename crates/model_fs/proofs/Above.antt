@@ -1,7 +1,8 @@
 -- What stands above a path, and what is made there, by the path's last part.
-use Rattle.std.proofs.Common.{ℕ, zero, suc, ◌≤◌, length, length-append, false, not, ◌&&◌, if◌then◌else◌, arith, ◌≡◌, Bool, true, ◌||◌, List, [], ◌∷◌, ◌++◌, map, refl, sym, ap, ◌∙◌}
+use Rattle.std.proofs.Common.{ℕ, zero, suc, ◌≤◌, length, length-append, false, not, ◌&&◌, if◌then◌else◌, arith, ◌≡◌, Bool, true, ◌||◌, List, [], ◌∷◌, ◌++◌, map, Option, refl, sym, ap, ◌∙◌}
 use Rattle.std.specs.List.{fold, list_any}
 use Rattle.init_machine.specs.FileTree.{Place, node_at, above, is_there, is_directory, is_other, is_under_other, put_node, with_parent, with_parents}
+use Rattle.init_machine.specs.declared.node.Node.{Node}
 use Rattle.init_machine.specs.declared.node.Node.TheVariants.{Directory}
 use Rattle.model_fs.proofs.Children.{last_of}
 use Rattle.model_fs.proofs.Trees.{node_put, node_put_other}
@@ -71,6 +72,10 @@ other_or_not : (a b : Bool) → a ≡ true → (a && not b) ≡ false → b ≡ 
 other_or_not true true there no_other = refl
 other_or_not true false there no_other = absurd (cc)
 other_or_not false b there no_other = absurd (cc)
+
+-- what stands and is no other is a directory
+pub standing_is_directory : (node : Option Node) → is_there node ≡ true → is_other node ≡ false → is_directory node ≡ true
+standing_is_directory node there no_other = other_or_not (is_there node) (is_directory node) there no_other
 
 -- a parent that was made is a directory
 pub parent_is_directory : (tree : List Place) (path : List (List ℕ)) → is_other (node_at tree path) ≡ false → is_directory (node_at (with_parent tree path) path) ≡ true

@@ -4,7 +4,7 @@ use Rattle.std.proofs.lemmas.List.Sums.{sum_by-cons, sum_by-set}
 use Rattle.std.proofs.lemmas.Option.{none-some, same_Some}
 use Rattle.std.specs.Cmp.Lexicographic.{bytes_decides}
 use Rattle.std.specs.Str.{bytes_eq}
-use Rattle.init_machine.specs.FileTree.{same_path, is_below}
+use Rattle.init_machine.specs.FileTree.{same_path, is_below, is_root}
 use Rattle.model_fs.specs.Entries.{is_child}
 use Rattle.model_fs.proofs.Same.{both_true}
 
@@ -44,6 +44,14 @@ last_of q [] = ([], q, refl)
 last_of q (r ∷ qs) =
     let rest = last_of r qs in
     (q ∷ rest.0, rest.1, ap (λ xs. q ∷ xs) rest.2)
+
+pub some_parts : (path : List (List ℕ)) → is_root path ≡ false → (front : List (List ℕ)) × (last : List ℕ) × (path ≡ front ++ last ∷ [])
+some_parts [] is = absurd (cc)
+some_parts (q ∷ qs) is = last_of q qs
+
+pub no_parts : (path : List (List ℕ)) → is_root path ≡ true → path ≡ []
+no_parts [] is = refl
+no_parts (q ∷ qs) is = absurd (cc)
 
 -- How many pass.
 

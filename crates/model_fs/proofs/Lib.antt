@@ -2,10 +2,14 @@ pub mod Above
 pub mod Below
 pub mod Calls
 pub mod Children
+pub mod Dots
+pub mod Fronts
 pub mod Kept
 pub mod Parts
 pub mod Positions
 pub mod Same
 pub mod Shown
+pub mod Slots
+pub mod Standing
 pub mod Steps
 pub mod Trees

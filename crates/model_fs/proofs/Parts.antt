@@ -1,6 +1,6 @@
 -- The parts of a text, from its end.
 use Rattle.std.proofs.Common.{◌≡◌, ℕ, zero, suc, ◌-◌, ◌<◌, ◌≤◌, Bool, true, false, ◌==◌, ◌&&◌, cond, nat_lt, List, [], ◌∷◌, ◌++◌, length, take, drop, filter, get_or, refl, sym, ap, ◌∙◌, arith, append_assoc, ◌⊎◌, inl, inr, ⊎_elim, ◌||◌, length-drop}
-use Rattle.std.proofs.Math.Seq.{take-length}
+use Rattle.std.proofs.Math.Seq.{take-length, drop-cons, drop-length}
 use Rattle.std.proofs.lemmas.List.{append-nil, get_or-take, length-take-le, take-append-drop}
 use Rattle.std.specs.List.{list_all, slice_split, onto_first}
 use Rattle.std.specs.Str.{bytes_eq}
@@ -8,7 +8,7 @@ use Rattle.init_machine.specs.FileTree.{parts_of, same_path, is_below}
 use Rattle.model_fs.specs.Paths.{is_no_slash}
 
 -- the first part is there
-split_some : (p : ℕ → Bool) (xs : List ℕ) → (first : List ℕ) × (rest : List (List ℕ)) × (slice_split p xs ≡ first ∷ rest)
+pub split_some : (p : ℕ → Bool) (xs : List ℕ) → (first : List ℕ) × (rest : List (List ℕ)) × (slice_split p xs ≡ first ∷ rest)
 split_some p [] = ([], [], refl)
 split_some p (x ∷ xs) =
     let more = split_some p xs in
@@ -130,3 +130,36 @@ below-last (x ∷ ps) (y ∷ qs) q = ap (λ b. bytes_eq x y && b) (below-last ps
 
 pub below_by_last : (ps qs gs : List (List ℕ)) (q : List ℕ) → qs ≡ gs ++ q ∷ [] → is_below ps qs ≡ same_path ps gs || is_below ps gs
 below_by_last ps qs gs q is = ap (is_below ps) is ∙ below-last ps gs q
+
+pub take_shorter : (s n : ℕ) (xs : List ℕ) → s ≤ n → take s (take n xs) ≡ take s xs
+take_shorter zero n xs within = refl
+take_shorter (suc s) zero xs within = absurd (omega arith)
+take_shorter (suc s) (suc n) [] within = refl
+take_shorter (suc s) (suc n) (x ∷ xs) within = ap (λ ys. x ∷ ys) (take_shorter s n xs (omega arith))
+
+-- the first part, and those behind it
+pub cut_first : (t : List ℕ) (n : ℕ) → 0 < n → n ≤ length t → list_all is_no_slash (take n t) ≡ true → (n < length t → get_or t n 0 ≡ 47)
+    → parts_of t ≡ take n t ∷ parts_of (drop n t)
+cut_first t n some within part slash = ⊎_elim (λ less. inner less) (λ same. whole same) (less_or_same n (length t) (length t) within refl)
+  where
+    one : parts_of (take n t) ≡ take n t ∷ []
+    one = parts-whole (take n t) part (omega (arith, length-take-le n t within))
+
+    inner : n < length t → parts_of t ≡ take n t ∷ parts_of (drop n t)
+    inner less =
+        let here : drop n t ≡ 47 ∷ drop (suc n) t = drop-cons t n 0 less ∙ ap (λ b. b ∷ drop (suc n) t) (slash less) in
+        ap parts_of (sym (take-append-drop n t) ∙ ap (λ ys. take n t ++ ys) here)
+        ∙ parts-append (take n t) (drop (suc n) t)
+        ∙ ap (λ ps. ps ++ parts_of (drop (suc n) t)) one
+        ∙ ap (λ ys. take n t ∷ parts_of ys) (sym here)
+
+    whole : n ≡ length t → parts_of t ≡ take n t ∷ parts_of (drop n t)
+    whole same =
+        let all : take n t ≡ t = ap (λ m. take m t) same ∙ take-length t in
+        let none : drop n t ≡ [] = ap (λ m. drop m t) same ∙ drop-length t in
+        ap parts_of (sym all) ∙ one ∙ ap (λ ys. take n t ∷ parts_of ys) (sym none)
+
+-- what doesn't begin with a slash has a first part
+pub not_at_slash : (t : List ℕ) (n : ℕ) → 0 < length t → (get_or t 0 0 ≡ 47 → ⊥) → (n < length t → get_or t n 0 ≡ 47) → 0 < n
+not_at_slash t zero some no_slash slash = absurd (no_slash (slash some))
+not_at_slash t (suc n) some no_slash slash = omega arith

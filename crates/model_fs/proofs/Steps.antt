@@ -1,5 +1,5 @@
 -- Steps and the paths that they lead to.
-use Rattle.std.proofs.Common.{◌≡◌, ℕ, zero, suc, ◌+◌, ◌<◌, Bool, true, false, List, [], ◌∷◌, ◌++◌, length, get_or, slice_get, Option, Some, None, position, refl, sym, ap, ◌∙◌, arith, subst, is_some, if◌then◌else◌, ◌⊎◌, inl, inr, ⊎_elim, nat_eq, ◌&&◌, add-zero, zero-add, length-append}
+use Rattle.std.proofs.Common.{◌≡◌, ℕ, zero, suc, ◌+◌, ◌<◌, Bool, true, false, List, [], ◌∷◌, ◌++◌, length, get_or, slice_get, Option, Some, None, position, refl, sym, ap, ◌∙◌, arith, subst, is_some, if◌then◌else◌, ◌⊎◌, inl, inr, ⊎_elim, nat_eq, ◌&&◌, add-zero, zero-add, length-append, append-nil, append_assoc}
 use Rattle.std.proofs.Math.ListN.{get_or-append}
 use Rattle.std.proofs.Math.Seq.{get_or-append_seam}
 use Rattle.std.proofs.lemmas.Bool.{eqb-true, eq-eqb}
@@ -255,6 +255,19 @@ not_found names steps ok front part never = by (place_of (paths_of names steps) 
 pub no_parent : (names : List (List ℕ)) (steps : List Step) → IsNumbered names steps → (front : List (List ℕ)) (part : List ℕ)
     → place_of (paths_of names steps) front ≡ None → None ≡ place_of (paths_of names steps) (front ++ part ∷ [])
 no_parent names steps ok front part none = not_found names steps ok front part (λ i (found : IsFound names steps front part i). none-some found.parent (sym none ∙ found.above))
+
+more_none : (names : List (List ℕ)) (steps : List Step) → IsNumbered names steps → (path more : List (List ℕ)) → place_of (paths_of names steps) path ≡ None
+    → place_of (paths_of names steps) (path ++ more) ≡ None
+more_none names steps ok path [] none = ap (place_of (paths_of names steps)) (append-nil path) ∙ none
+more_none names steps ok path (x ∷ more) none =
+    ap (place_of (paths_of names steps)) (sym (append_assoc path (x ∷ []) more))
+    ∙ more_none names steps ok (path ++ x ∷ []) more (sym (no_parent names steps ok path x none))
+
+-- what lies behind a path that has no place has none
+pub none_behind : (names : List (List ℕ)) (steps : List Step) → IsNumbered names steps → (front : List (List ℕ)) (part : List ℕ) (more : List (List ℕ))
+    → place_of (paths_of names steps) (front ++ part ∷ []) ≡ None → place_of (paths_of names steps) (front ++ part ∷ more) ≡ None
+none_behind names steps ok front part more none =
+    ap (place_of (paths_of names steps)) (sym (append_assoc front (part ∷ []) more)) ∙ more_none names steps ok (front ++ part ∷ []) more none
 
 pub no_name : (names : List (List ℕ)) (steps : List Step) → IsNumbered names steps → (front : List (List ℕ)) (part : List ℕ)
     → position (bytes_eq part) names ≡ None → None ≡ place_of (paths_of names steps) (front ++ part ∷ [])

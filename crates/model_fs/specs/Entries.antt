@@ -2,10 +2,11 @@
 use Rattle.std.specs.Prelude.{◌≡◌, ℕ, ◌+◌, ◌-◌, Bool, true, false, ◌&&◌, List, [], ◌∷◌, ◌++◌, length, position, count_by, slice_get, slice_index_or, slice_set, nat_lt, Option, Some, None, is_some, if◌then◌else◌}
 use Rattle.std.specs.List.{list_any}
 use Rattle.std.specs.Str.{bytes_eq}
-use Rattle.init_machine.specs.FileTree.{Place, same_path, node_of, node_at, with_mode, is_there, is_directory, is_below, is_root}
+use Rattle.init_machine.specs.FileTree.{Place, same_path, node_of, node_at, with_mode, is_there, is_directory, is_below, is_root, is_under_other}
 use Rattle.init_machine.specs.declared.node.Node.{Node}
 use Rattle.model_fs.specs.Steps.{place_of, AreDistinct}
 use Rattle.model_fs.specs.declared.entries.Entry.{Entry}
+use Rattle.model_fs.specs.declared.entries.Walk.{Walk}
 
 -- what stands at paths, by their entries
 abbrev pub shown : List (List (List ℕ)) → List Entry → List Place
@@ -24,6 +25,13 @@ with_place tree path = if is_some (place_in tree path) then tree else tree ++ re
 -- what stands at a place
 abbrev pub node_in : List Place → ℕ → Option Node
 node_in tree at = node_of (slice_get tree at)
+
+-- where a path leads in a tree: its place and that of its front, and whether a file or a link stands above it
+pub record IsWalk (tree : List Place) (path : List (List ℕ)) (walk : Walk) : Type 0 where
+  pub at : walk.at ≡ place_in tree path
+  pub parent : (front : List (List ℕ)) (last : List ℕ) → path ≡ front ++ last ∷ [] → walk.parent ≡ place_in tree front
+  pub behind : is_root path ≡ false → walk.parent ≡ None → walk.at ≡ None
+  pub under : walk.is_under_other ≡ is_under_other tree path
 
 -- whether something stands below a path
 abbrev pub has_below : List Place → List (List ℕ) → Bool

@@ -1,7 +1,8 @@
 -- The paths that have places, each by its step: the place of its parent, and the number of its last part.
 use Rattle.std.specs.Prelude.{◌≡◌, ℕ, ◌<◌, Bool, true, false, ◌&&◌, nat_eq, List, [], ◌∷◌, ◌++◌, length, position, slice_get, slice_index_or, Option, Some, None, is_some, if◌then◌else◌}
 use Rattle.std.specs.Str.{bytes_eq}
-use Rattle.init_machine.specs.FileTree.{same_path}
+use Rattle.init_machine.specs.FileTree.{is_path, parts_of, same_path}
+use Rattle.model_fs.specs.declared.noted.Noted.{Noted}
 use Rattle.model_fs.specs.declared.places.Step.{Step}
 
 -- the path behind that of a parent, of the parts by their numbers; the root has no parent
@@ -51,3 +52,12 @@ pub record IsNumbered (names : List (List ℕ)) (steps : List Step) : Type 0 whe
   pub rooted : 0 < length steps
   pub stepped : (place : ℕ) (step : Step) → slice_get steps place ≡ Some step → IsStepAt names place step.parent step.name
   pub distinct : (place other : ℕ) (step : Step) → slice_get steps place ≡ Some step → slice_get steps other ≡ Some step → place ≡ other
+
+-- a noted text is that of a path, and its place is the path's
+abbrev pub IsNoted : List (List (List ℕ)) → Noted → Type 0
+IsNoted paths noted = (is_path noted.text.items ≡ true) × (place_of paths (parts_of noted.text.items) ≡ Some noted.place)
+
+-- steps, and what is noted in slots
+pub record IsIndexed (names : List (List ℕ)) (steps : List Step) (slots : ℕ → Option Noted) : Type 0 where
+  pub numbered : IsNumbered names steps
+  pub noted : (slot : ℕ) (noted : Noted) → slots slot ≡ Some noted → IsNoted (paths_of names steps) noted

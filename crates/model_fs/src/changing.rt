@@ -3,8 +3,9 @@
 ghost use Rattle.std.specs.Prelude.{◌≡◌, None, true, false, OnOk};
 ghost use Rattle.init_machine.specs.FileTree.{parts_of, node_at, is_directory, is_under_other, with_file, tree_after, tree_refusal};
 ghost use Rattle.init_machine.specs.declared.task.TreeCall.TheVariants as call;
+ghost use Rattle.model_fs.specs.Entries.{IsWalk};
 
-use crate::entries::Entries;
+use crate::entries::{Entries, Walk};
 use crate::node::{content_of, mode_for};
 use init_base::{NoMemory, Text};
 use init_machine::Node;
@@ -13,72 +14,95 @@ use init_machine::Node;
 const LINK_MODE: u16 = 0o777;
 
 #[tactic(auto, unfolding(init_machine::specs::FileTree::tree_after))]
-pub fn write(entries: &mut Entries, path: &[u8], content: Text) -> Result<(), NoMemory>
-    requires { tree_refusal entries.old (call.Write path.now content) ≡ None }
+pub fn write(entries: &mut Entries, path: &[u8], walk: Walk, content: Text) -> Result<(), NoMemory>
+    requires walk { IsWalk entries.old (parts_of path.now) walk }
+    requires passes { tree_refusal entries.old (call.Write path.now content) ≡ None }
     ensures { OnOk result (entries.new ≡ tree_after entries.old (call.Write path.now content)) }
 {
-    put_file(entries, path, content)?;
+    put_file(entries, path, walk, content)?;
     Ok(())
 }
 
 #[tactic(auto, unfolding(init_machine::specs::FileTree::tree_after))]
-pub fn copy(entries: &mut Entries, from: &[u8], to: &[u8]) -> Result<(), NoMemory>
-    requires { tree_refusal entries.old (call.Copy from.now to.now) ≡ None }
+pub fn copy(
+    entries: &mut Entries,
+    from: &[u8],
+    to: &[u8],
+    walks: (Walk, Walk),
+) -> Result<(), NoMemory>
+    requires walk_from { IsWalk entries.old (parts_of from.now) walks.0 }
+    requires walk_to { IsWalk entries.old (parts_of to.now) walks.1 }
+    requires passes { tree_refusal entries.old (call.Copy from.now to.now) ≡ None }
     ensures { OnOk result (entries.new ≡ tree_after entries.old (call.Copy from.now to.now)) }
 {
-    let content = content_of(entries.node_at(from))?;
-    put_file(entries, to, content)?;
+    entries.remember(from, walks.0);
+    let content = content_of(entries.node_at(from, walks.0))?;
+    put_file(entries, to, walks.1, content)?;
     Ok(())
 }
 
 #[tactic(auto, unfolding(init_machine::specs::FileTree::tree_after))]
-pub fn make_directory(entries: &mut Entries, path: &[u8], mode: u16) -> Result<(), NoMemory>
-    requires { tree_refusal entries.old (call.MakeDirectory path.now mode) ≡ None }
+pub fn make_directory(
+    entries: &mut Entries,
+    path: &[u8],
+    walk: Walk,
+    mode: u16,
+) -> Result<(), NoMemory>
+    requires walk { IsWalk entries.old (parts_of path.now) walk }
+    requires passes { tree_refusal entries.old (call.MakeDirectory path.now mode) ≡ None }
     ensures { OnOk result (entries.new ≡ tree_after entries.old (call.MakeDirectory path.now mode)) }
 {
-    entries.put(path, Node::Directory { mode })?;
+    entries.put(path, walk, Node::Directory { mode })?;
     Ok(())
 }
 
 #[tactic(auto, unfolding(init_machine::specs::FileTree::tree_after))]
-pub fn link(entries: &mut Entries, target: Text, path: &[u8]) -> Result<(), NoMemory>
-    requires { tree_refusal entries.old (call.Link target path.now) ≡ None }
+pub fn link(entries: &mut Entries, target: Text, path: &[u8], walk: Walk) -> Result<(), NoMemory>
+    requires walk { IsWalk entries.old (parts_of path.now) walk }
+    requires passes { tree_refusal entries.old (call.Link target path.now) ≡ None }
     ensures { OnOk result (entries.new ≡ tree_after entries.old (call.Link target path.now)) }
 {
     let mode = LINK_MODE;
-    entries.put(path, Node::Link { mode, target })?;
+    entries.put(path, walk, Node::Link { mode, target })?;
     Ok(())
 }
 
 #[tactic(auto, unfolding(init_machine::specs::FileTree::tree_after))]
-pub fn remove_file(entries: &mut Entries, path: &[u8])
-    requires { tree_refusal entries.old (call.Remove path.now) ≡ None }
+pub fn remove_file(entries: &mut Entries, path: &[u8], walk: Walk)
+    requires walk { IsWalk entries.old (parts_of path.now) walk }
+    requires passes { tree_refusal entries.old (call.Remove path.now) ≡ None }
     ensures { entries.new ≡ tree_after entries.old (call.Remove path.now) }
 {
-    entries.remove(path);
+    entries.remember(path, walk);
+    entries.remove(path, walk);
 }
 
 #[tactic(auto, unfolding(init_machine::specs::FileTree::tree_after))]
-pub fn remove_directory(entries: &mut Entries, path: &[u8])
-    requires { tree_refusal entries.old (call.RemoveDirectory path.now) ≡ None }
+pub fn remove_directory(entries: &mut Entries, path: &[u8], walk: Walk)
+    requires walk { IsWalk entries.old (parts_of path.now) walk }
+    requires passes { tree_refusal entries.old (call.RemoveDirectory path.now) ≡ None }
     ensures { entries.new ≡ tree_after entries.old (call.RemoveDirectory path.now) }
 {
-    entries.remove(path);
+    entries.remember(path, walk);
+    entries.remove(path, walk);
 }
 
 #[tactic(auto, unfolding(init_machine::specs::FileTree::tree_after))]
-pub fn change_mode(entries: &mut Entries, path: &[u8], mode: u16)
+pub fn change_mode(entries: &mut Entries, path: &[u8], walk: Walk, mode: u16)
+    requires { IsWalk entries.old (parts_of path.now) walk }
     ensures { entries.new ≡ tree_after entries.old (call.ChangeMode mode path.now) }
 {
-    entries.set_mode(path, mode);
+    entries.remember(path, walk);
+    entries.set_mode(path, walk, mode);
 }
 
 /// Puts a file at the path, where no directory is, and makes its missing parents.
-fn put_file(entries: &mut Entries, path: &[u8], content: Text) -> Result<(), NoMemory>
+fn put_file(entries: &mut Entries, path: &[u8], walk: Walk, content: Text) -> Result<(), NoMemory>
+    requires walk { IsWalk entries.old (parts_of path.now) walk }
     requires under { is_under_other entries.old (parts_of path.now) ≡ false }
     requires directory { is_directory (node_at entries.old (parts_of path.now)) ≡ false }
     ensures { OnOk result (entries.new ≡ with_file entries.old (parts_of path.now) content) }
 {
-    let mode = mode_for(entries.node_at(path));
-    entries.put(path, Node::File { mode, content })
+    let mode = mode_for(entries.node_at(path, walk));
+    entries.put(path, walk, Node::File { mode, content })
 }

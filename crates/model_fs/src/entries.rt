@@ -5,7 +5,7 @@ ghost use Rattle.init_machine.specs.FileTree.{is_there};
 ghost use Rattle.model_fs.specs.Entries.{entry_at, grown, mode_changed, one_more, with_entry, with_node, without_entry};
 
 use crate::node::{DIRECTORY_MODE, is_other, is_there, set_mode};
-use crate::path::{is_root, split_last};
+use crate::path::{is_path, is_path_behind, is_root, split_first, split_last};
 use crate::places::Places;
 use init_base::NoMemory;
 use init_machine::Node;
@@ -21,9 +21,33 @@ struct Entry {
 
 /// Where a path leads: its place, if it has one, and whether a file or a link stands above it.
 #[derive(Clone, Copy)]
-struct Walk {
+struct Lead {
     at: Option<usize>,
     is_under_other: bool,
+}
+
+/// Where the front of a path leads: its place, if it has one, and whether a file or a link stands at it or above.
+#[derive(Clone, Copy)]
+struct Above {
+    at: Option<usize>,
+    has_other: bool,
+}
+
+/// Where a path leads, for one call: its place and that of its front, if they have one, whether a file or a link stands
+/// above it, and whether the place of its front was noted.
+#[derive(Clone, Copy)]
+pub struct Walk {
+    parent: Option<usize>,
+    at: Option<usize>,
+    pub is_under_other: bool,
+    is_noted: bool,
+}
+
+/// What a call sees of a path: where it leads, and what stands there.
+#[derive(Clone, Copy)]
+pub struct Sight<'a> {
+    pub walk: Walk,
+    pub node: Option<&'a Node>,
 }
 
 /// What stands at paths.
@@ -47,10 +71,10 @@ impl Model for Entries {
 }
 
 impl Entries {
-    ghost use Rattle.std.specs.Prelude.{◌≡◌, ℕ, [], ◌∷◌, ◌++◌, List as Items, ◌&&◌, true, false, Some, None, OnOk, IfOk, if◌then◌else◌};
+    ghost use Rattle.std.specs.Prelude.{◌≡◌, ℕ, [], ◌∷◌, ◌++◌, List as Items, ◌&&◌, ◌||◌, true, false, Some, None, OnOk, IfOk, MatchOption, if◌then◌else◌};
     ghost use Rattle.std.specs.Option.{option_copied};
-    ghost use Rattle.init_machine.specs.FileTree.{first_tree, parts_of, node_at as node_at_lem, is_under_other as is_under_other_lem, is_full as is_full_lem, is_other as is_other_lem, is_there as is_there_lem, is_directory, put_node, without_path, change_mode, with_parent, with_parents};
-    ghost use Rattle.model_fs.specs.Entries.{place_in, node_in, has_below};
+    ghost use Rattle.init_machine.specs.FileTree.{first_tree, is_path as is_path_lem, parts_of, node_at as node_at_lem, is_under_other as is_under_other_lem, is_full as is_full_lem, is_other as is_other_lem, is_there as is_there_lem, is_directory, put_node, without_path, change_mode, with_parent, with_parents};
+    ghost use Rattle.model_fs.specs.Entries.{place_in, node_in, has_below, IsWalk};
 
     /// The root directory alone.
     pub fn new(alloc: Global) -> Result<Entries, NoMemory>
@@ -72,45 +96,121 @@ impl Entries {
         entries.get(at?)?.node.as_ref()
     }
 
-    /// Where a path leads, by one look at each of its parts.
-    fn walk(&self, path: &[u8]) -> Walk
-        ensures at { result.at ≡ place_in self.now (parts_of path.now) }
-        ensures under { result.is_under_other ≡ is_under_other_lem self.now (parts_of path.now) }
+    /// What a call sees of a path. None exactly where the text is that of no path.
+    pub fn look(&self, path: &[u8]) -> Option<Sight<'_>>
+        ensures { MatchOption result (is_path_lem path.now ≡ false) (λ sight. (is_path_lem path.now ≡ true) × IsWalk self.now (parts_of path.now) sight.walk × (option_copied sight.node ≡ node_at_lem self.now (parts_of path.now))) }
     {
-        let places = &self.places;
+        let walk = self.walk(path)?;
+        let node = self.node(walk.at);
+        Some(Sight { walk, node })
+    }
+
+    /// Where a path leads. None exactly where the text is that of no path.
+    fn walk(&self, path: &[u8]) -> Option<Walk>
+        ensures { MatchOption result (is_path_lem path.now ≡ false) (λ walk. (is_path_lem path.now ≡ true) × IsWalk self.now (parts_of path.now) walk) }
+    {
         let Some((front, part)) = split_last(path) else {
-            return Walk {
-                at: Some(0),
-                is_under_other: false,
-            };
+            return self.walk_to_root(path);
         };
-        let above = self.walk(front);
-        let is_under_other = above.is_under_other || is_other(self.node(above.at));
-        Walk {
-            at: places.child(above.at, part),
-            is_under_other,
+        let noted = self.places.noted(front);
+        if !is_path_behind(path, front, part, noted.is_some()) {
+            return None;
+        }
+        let above = self.above(front, noted);
+        Some(Walk {
+            parent: above.at,
+            at: self.places.child(above.at, part),
+            is_under_other: above.has_other,
+            is_noted: noted.is_some(),
+        })
+    }
+
+    /// Where the path of the root leads, which has no part.
+    fn walk_to_root(&self, path: &[u8]) -> Option<Walk>
+        requires { parts_of path.now ≡ [] }
+        ensures { MatchOption result (is_path_lem path.now ≡ false) (λ walk. (is_path_lem path.now ≡ true) × IsWalk self.now (parts_of path.now) walk) }
+    {
+        let _ = &self.places;
+        if !is_path(path) {
+            return None;
+        }
+        Some(Walk {
+            parent: None,
+            at: Some(0),
+            is_under_other: false,
+            is_noted: true,
+        })
+    }
+
+    /// Where the front of a path leads, of which the place may be known. Above what stands, directories alone stand.
+    fn above(&self, front: &[u8], known: Option<usize>) -> Above
+        requires { (at : ℕ) → known ≡ Some at → place_in self.now (parts_of front.now) ≡ Some at }
+        ensures at { result.at ≡ place_in self.now (parts_of front.now) }
+        ensures other { result.has_other ≡ (is_under_other_lem self.now (parts_of front.now) || is_other_lem (node_at_lem self.now (parts_of front.now))) }
+    {
+        let _ = &self.places;
+        if let Some(at) = known {
+            let node = self.node(Some(at));
+            if is_there(node) {
+                let has_other = is_other(node);
+                return Above {
+                    at: known,
+                    has_other,
+                };
+            }
+        }
+        let lead = self.lead(front);
+        let has_other = lead.is_under_other || is_other(self.node(lead.at));
+        Above {
+            at: lead.at,
+            has_other,
         }
     }
 
-    /// What stands at a path.
-    pub fn node_at(&self, path: &[u8]) -> Option<&Node>
-        ensures { option_copied result ≡ node_at_lem self.now (parts_of path.now) }
+    /// Where a path leads, by a look at each of its parts.
+    fn lead(&self, path: &[u8]) -> Lead
+        ensures at { result.at ≡ place_in self.now (parts_of path.now) }
+        ensures under { result.is_under_other ≡ is_under_other_lem self.now (parts_of path.now) }
     {
-        self.node(self.walk(path).at)
+        let _ = &self.places;
+        self.lead_on(0, false, path)
     }
 
-    /// Whether a file or a link stands above the path.
-    pub fn is_under_other(&self, path: &[u8]) -> bool
-        ensures { result ≡ is_under_other_lem self.now (parts_of path.now) }
+    /// Where the parts of a text lead on from a place, up to the first that has none.
+    fn lead_on(&self, at: usize, is_under_other: bool, rest: &[u8]) -> Lead
+        ensures at { (front : Items (Items ℕ)) → place_in self.now front ≡ Some at → result.at ≡ place_in self.now (front ++ parts_of rest.now) }
+        ensures under { (front : Items (Items ℕ)) → place_in self.now front ≡ Some at → is_under_other ≡ is_under_other_lem self.now front → result.is_under_other ≡ is_under_other_lem self.now (front ++ parts_of rest.now) }
     {
-        self.walk(path).is_under_other
+        let Some((part, behind)) = split_first(rest) else {
+            return Lead {
+                at: Some(at),
+                is_under_other,
+            };
+        };
+        let is_under_other = is_under_other | is_other(self.node(Some(at)));
+        match self.places.child(Some(at), part) {
+            Some(next) => self.lead_on(next, is_under_other, behind),
+            None => Lead {
+                at: None,
+                is_under_other,
+            },
+        }
+    }
+
+    /// What stands where a walk led.
+    pub fn node_at(&self, path: &[u8], walk: Walk) -> Option<&Node>
+        requires { IsWalk self.now (parts_of path.now) walk }
+        ensures { option_copied result ≡ node_at_lem self.now (parts_of path.now) }
+    {
+        self.node(walk.at)
     }
 
     /// Whether something stands below the path. The root counts as full.
-    pub fn is_full(&self, path: &[u8]) -> bool
+    pub fn is_full(&self, path: &[u8], walk: Walk) -> bool
+        requires { IsWalk self.now (parts_of path.now) walk }
         ensures { result ≡ is_full_lem self.now (parts_of path.now) }
     {
-        is_root(path) || self.has_children(self.walk(path).at)
+        is_root(path) || self.has_children(walk.at)
     }
 
     /// Whether something stands below a place.
@@ -128,7 +228,8 @@ impl Entries {
     }
 
     /// Puts a node at the path, and makes the missing directories above it. A directory isn't replaced by something else.
-    pub fn put(&mut self, path: &[u8], node: Node) -> Result<(), NoMemory>
+    pub fn put(&mut self, path: &[u8], walk: Walk, node: Node) -> Result<(), NoMemory>
+        requires walk { IsWalk self.old (parts_of path.now) walk }
         requires under { is_under_other_lem self.old (parts_of path.now) ≡ false }
         requires kept { is_directory (node_at_lem self.old (parts_of path.now)) ≡ true → is_directory (Some node) ≡ true }
         ensures { OnOk result (self.new ≡ put_node (with_parents self.old (parts_of path.now)) (parts_of path.now) node) }
@@ -137,37 +238,82 @@ impl Entries {
             self.put_root(node);
             return Ok(());
         };
-        let parent = self.make_directories(front)?;
+        let parent = self.make_front(front, walk.parent)?;
+        self.note(front, parent, walk.is_noted);
         self.put_child(parent, part, node)?;
         Ok(())
     }
 
+    /// Notes the place of a path's front, where the walk found one that wasn't noted.
+    pub fn remember(&mut self, path: &[u8], walk: Walk)
+        requires { IsWalk self.old (parts_of path.now) walk }
+        ensures { self.new ≡ self.old }
+    {
+        let Some((front, _)) = split_last(path) else {
+            return;
+        };
+        if let Some(parent) = walk.parent {
+            self.note(front, parent, walk.is_noted);
+        }
+    }
+
+    /// Notes the place of a path, unless it was noted.
+    fn note(&mut self, path: &[u8], at: usize, is_noted: bool)
+        requires { place_in self.old (parts_of path.now) ≡ Some at }
+        ensures { self.new ≡ self.old }
+    {
+        if !is_noted {
+            self.places.note(path, at);
+        }
+    }
+
     /// Takes away what stands at the path. It isn't a directory below which something stands.
-    pub fn remove(&mut self, path: &[u8])
-        requires { (is_directory (node_at_lem self.old (parts_of path.now)) && is_full_lem self.old (parts_of path.now)) ≡ false }
+    pub fn remove(&mut self, path: &[u8], walk: Walk)
+        requires walk { IsWalk self.old (parts_of path.now) walk }
+        requires empty { (is_directory (node_at_lem self.old (parts_of path.now)) && is_full_lem self.old (parts_of path.now)) ≡ false }
         ensures { self.new ≡ without_path self.old (parts_of path.now) }
     {
-        let places = &self.places;
-        let Some((front, part)) = split_last(path) else {
+        let _ = &self.places;
+        if is_root(path) {
+            return;
+        }
+        let Some(at) = walk.at else {
             return;
         };
-        let parent = self.walk(front).at;
-        let Some(at) = places.child(parent, part) else {
-            return;
-        };
-        let Some(parent) = parent else {
+        let Some(parent) = walk.parent else {
             return;
         };
         take_entry(&mut self.entries, at, parent);
     }
 
     /// Gives what stands at the path another mode.
-    pub fn set_mode(&mut self, path: &[u8], mode: u16)
+    pub fn set_mode(&mut self, path: &[u8], walk: Walk, mode: u16)
+        requires { IsWalk self.old (parts_of path.now) walk }
         ensures { self.new ≡ change_mode self.old (parts_of path.now) mode (node_at_lem self.old (parts_of path.now)) }
     {
-        if let Some(at) = self.walk(path).at {
+        let _ = path;
+        if let Some(at) = walk.at {
             set_entry_mode(&mut self.entries, at, mode);
         }
+    }
+
+    /// Makes the missing directories at the front of a path and above it, where its place may be known, and answers its place.
+    /// Above what stands, nothing is missing.
+    fn make_front(&mut self, front: &[u8], known: Option<usize>) -> Result<usize, NoMemory>
+        requires known { known ≡ place_in self.old (parts_of front.now) }
+        requires under { is_under_other_lem self.old (parts_of front.now) ≡ false }
+        requires other { is_other_lem (node_at_lem self.old (parts_of front.now)) ≡ false }
+        ensures tree { OnOk result (self.new ≡ with_parent (with_parents self.old (parts_of front.now)) (parts_of front.now)) }
+        ensures place { IfOk result (λ at. place_in self.new (parts_of front.now) ≡ Some at) }
+        ensures directory { OnOk result (is_directory (node_at_lem self.new (parts_of front.now)) ≡ true) }
+    {
+        let _ = &self.places;
+        if let Some(at) = known {
+            if is_there(self.node(Some(at))) {
+                return Ok(at);
+            }
+        }
+        self.make_directories(front)
     }
 
     /// Puts a directory in the root's place.

@@ -8,6 +8,7 @@ mod changing;
 mod entries;
 mod judging;
 mod node;
+mod noted;
 mod path;
 mod places;
 #[cfg(test)]

@@ -1,8 +1,11 @@
 //! The places of paths: each path at which something was ever made has one, by the order of the first making.
 //!
-//! A path is found from the root on, by two look-ups for each of its parts, so in time of its length.
+//! A path is found from the root on, by two look-ups for each of its parts, so in time of its length. The places of some
+//! texts of paths are noted, so that one of them is found by one comparison of its bytes.
 
-use indexmap::IndexSet;
+use crate::noted::{Noted, slot_of};
+use crate::path::is_path;
+use indexmap::{IndexMap, IndexSet};
 use init_base::NoMemory;
 use std::alloc::Global;
 use std::marker::Model;
@@ -21,6 +24,7 @@ struct Step {
 pub struct Places {
     names: TextIndex,
     steps: IndexSet<Step>,
+    noted: IndexMap<u16, Noted>,
 }
 
 impl Model for Places {
@@ -28,15 +32,18 @@ impl Model for Places {
 
     ghost Value = { List (List (List ℕ)) };
 
-    ghost use Rattle.model_fs.specs.Steps.{paths_of, IsNumbered};
+    ghost use Rattle.std.specs.Prelude.{nat_eq};
+    ghost use Rattle.indexmap.specs.IndexMap.{get};
+    ghost use Rattle.model_fs.specs.Steps.{paths_of, IsIndexed};
 
     ghost view = { λ places. paths_of places.names places.steps.keys };
 
-    ghost invariant = { λ places. IsNumbered places.names places.steps.keys };
+    ghost invariant = { λ places. IsIndexed places.names places.steps.keys (get nat_eq places.noted) };
 }
 
 impl Places {
-    ghost use Rattle.std.specs.Prelude.{◌≡◌, ◌<◌, ℕ, List as Items, [], ◌∷◌, ◌++◌, length, Some, None, OnOk, OnErr, IfOk};
+    ghost use Rattle.std.specs.Prelude.{◌≡◌, ◌<◌, ℕ, List as Items, [], ◌∷◌, ◌++◌, true, length, Some, None, OnOk, OnErr, IfOk, IfSome};
+    ghost use Rattle.init_machine.specs.FileTree.{is_path as is_path_lem, parts_of};
     ghost use Rattle.model_fs.specs.Steps.{place_of, with_path, AreDistinct};
 
     /// The place of the root alone.
@@ -49,19 +56,57 @@ impl Places {
             parent: None,
             name: 0,
         })?;
-        Ok(Places { names, steps })
+        let noted = IndexMap::new(alloc);
+        Ok(Places {
+            names,
+            steps,
+            noted,
+        })
     }
 
     /// The place of the path that is a part behind the path of a place. A path behind one that has no place has none.
     pub fn child(&self, parent: Option<usize>, part: &[u8]) -> Option<usize>
         ensures place { (front : Items (Items ℕ)) → place_of self.now front ≡ parent → result ≡ place_of self.now (front ++ part.now ∷ []) }
         ensures none { parent ≡ None → result ≡ None }
+        ensures behind { result ≡ None → (front more : Items (Items ℕ)) → place_of self.now front ≡ parent → place_of self.now (front ++ part.now ∷ more) ≡ None }
     {
         let (names, steps) = (&self.names, &self.steps);
         let parent = Some(parent?);
         let name = names.place(part)?;
         steps.get_index_of(&Step { parent, name })
     }
+
+    /// The place that is noted of a text, which is then that of a path.
+    pub fn noted(&self, text: &[u8]) -> Option<usize>
+        ensures { IfSome result (λ place. (is_path_lem text.now ≡ true) × (place_of self.now (parts_of text.now) ≡ Some place)) }
+    {
+        let noted = self.noted.get(&slot_of(text))?;
+        if noted.text.as_slice() == text {
+            Some(noted.place)
+        } else {
+            None
+        }
+    }
+
+    /// Notes the place of a path's text, unless there is no memory for it.
+    pub fn note(&mut self, text: &[u8], place: usize)
+        requires { place_of self.old (parts_of text.now) ≡ Some place }
+        ensures { self.new ≡ self.old }
+    {
+        if !is_path(text) {
+            return;
+        }
+        let alloc = *self.noted.allocator();
+        let slot = slot_of(text);
+        let Ok(text) = Vec::from_slice(alloc, text) else {
+            return;
+        };
+        match self.noted.insert(slot, Noted { text, place }) {
+            Ok(_) => {}
+            Err(_) => {}
+        }
+    }
+
     /// Gives a place to the path that is a part behind the path of a place, unless it has one, and answers its place.
     pub fn add(&mut self, parent: usize, part: &[u8]) -> Result<usize, NoMemory>
         requires { parent < length self.old }

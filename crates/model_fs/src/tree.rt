@@ -14,7 +14,6 @@ use crate::judging::{
     judge_remove_directory, judge_write,
 };
 use crate::node::is_there;
-use crate::path::is_path;
 use init_base::{NoMemory, Text};
 use init_machine::FsRefusal;
 use std::alloc::Global;
@@ -51,7 +50,10 @@ impl Tree {
     pub fn has(&self, path: &[u8]) -> bool
         ensures { result ≡ has_node self.now path.now }
     {
-        is_path(path) && is_there(self.entries.node_at(path))
+        match self.entries.look(path) {
+            Some(sight) => is_there(sight.node),
+            None => false,
+        }
     }
 
     /// Makes or replaces a file.
@@ -59,8 +61,8 @@ impl Tree {
         ensures done { OnOk result (IsDone self.old (call.Write path.now content) self.new) }
         ensures refused { IfErr result (IsRefused self.old (call.Write path.now content) self.new) }
     {
-        judge_write(&self.entries, path)?;
-        or_refused(write(&mut self.entries, path, content))
+        let walk = judge_write(&self.entries, path)?;
+        or_refused(write(&mut self.entries, path, walk, content))
     }
 
     /// Makes or replaces a file, with the content of another one.
@@ -68,8 +70,8 @@ impl Tree {
         ensures done { OnOk result (IsDone self.old (call.Copy from.now to.now) self.new) }
         ensures refused { IfErr result (IsRefused self.old (call.Copy from.now to.now) self.new) }
     {
-        judge_copy(&self.entries, from, to)?;
-        or_refused(copy(&mut self.entries, from, to))
+        let walks = judge_copy(&self.entries, from, to)?;
+        or_refused(copy(&mut self.entries, from, to, walks))
     }
 
     /// Makes a directory, or gives one another mode.
@@ -77,8 +79,8 @@ impl Tree {
         ensures done { OnOk result (IsDone self.old (call.MakeDirectory path.now mode) self.new) }
         ensures refused { IfErr result (IsRefused self.old (call.MakeDirectory path.now mode) self.new) }
     {
-        judge_make_directory(&self.entries, path)?;
-        or_refused(make_directory(&mut self.entries, path, mode))
+        let walk = judge_make_directory(&self.entries, path)?;
+        or_refused(make_directory(&mut self.entries, path, walk, mode))
     }
 
     /// Makes a link. Its target is kept as it is given.
@@ -86,8 +88,8 @@ impl Tree {
         ensures done { OnOk result (IsDone self.old (call.Link target path.now) self.new) }
         ensures refused { IfErr result (IsRefused self.old (call.Link target path.now) self.new) }
     {
-        judge_link(&self.entries, path)?;
-        or_refused(link(&mut self.entries, target, path))
+        let walk = judge_link(&self.entries, path)?;
+        or_refused(link(&mut self.entries, target, path, walk))
     }
 
     /// Takes a file or a link away.
@@ -95,8 +97,8 @@ impl Tree {
         ensures done { OnOk result (IsDone self.old (call.Remove path.now) self.new) }
         ensures refused { IfErr result (IsRefused self.old (call.Remove path.now) self.new) }
     {
-        judge_remove(&self.entries, path)?;
-        remove_file(&mut self.entries, path);
+        let walk = judge_remove(&self.entries, path)?;
+        remove_file(&mut self.entries, path, walk);
         Ok(())
     }
 
@@ -105,8 +107,8 @@ impl Tree {
         ensures done { OnOk result (IsDone self.old (call.RemoveDirectory path.now) self.new) }
         ensures refused { IfErr result (IsRefused self.old (call.RemoveDirectory path.now) self.new) }
     {
-        judge_remove_directory(&self.entries, path)?;
-        remove_directory(&mut self.entries, path);
+        let walk = judge_remove_directory(&self.entries, path)?;
+        remove_directory(&mut self.entries, path, walk);
         Ok(())
     }
 
@@ -115,8 +117,8 @@ impl Tree {
         ensures done { OnOk result (IsDone self.old (call.ChangeMode mode path.now) self.new) }
         ensures refused { IfErr result (IsRefused self.old (call.ChangeMode mode path.now) self.new) }
     {
-        judge_change_mode(&self.entries, path)?;
-        change_mode(&mut self.entries, path, mode);
+        let walk = judge_change_mode(&self.entries, path)?;
+        change_mode(&mut self.entries, path, walk, mode);
         Ok(())
     }
 }

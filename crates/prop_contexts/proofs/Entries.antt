@@ -5,7 +5,7 @@ use Rattle.indexmap.specs.IndexMap.{insert_entry}
 use Rattle.std.specs.Str.{bytes_eq}
 use Rattle.init_machine.specs.Policy.{ContextLine}
 use Rattle.init_machine.specs.declared.policy.Context.{Context}
-use Rattle.prop_contexts.specs.Given.{named, has_name}
+use Rattle.prop_contexts.specs.NameLines.{named, has_name}
 
 abbrev pub entry_lines : {A : Type 0} → List (Vec ℕ A × Context) → List ContextLine
 entry_lines entries = map (λ entry. named entry.0.items entry.1) entries

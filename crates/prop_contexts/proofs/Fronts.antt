@@ -1,5 +1,5 @@
 -- The longest name that is a front of another, by looking up each front.
-use Rattle.std.proofs.Common.{◌≡◌, ℕ, suc, zero, ◌+◌, ◌-◌, ◌<◌, ◌≤◌, inl, inr, Bool, true, false, cond, nat_lt, Option, Some, None, List, [], ◌∷◌, ◌++◌, length, length-append, take, take-take, refl, ap, sym, ◌∙◌, find, filter, Vec, arith}
+use Rattle.std.proofs.Common.{◌≡◌, ℕ, suc, zero, ◌+◌, ◌-◌, ◌<◌, ◌≤◌, inl, inr, ◌⊎◌, ◌||◌, Bool, true, false, cond, nat_lt, Option, Some, None, List, [], ◌∷◌, ◌++◌, length, length-append, take, take-take, refl, ap, sym, ◌∙◌, find, filter, Vec, arith}
 use Rattle.std.proofs.Math.Seq.{take-append_seam}
 use Rattle.std.proofs.lemmas.Bool.{cases_lt, ltb-true, lt-ltb, false_from_ne_true}
 use Rattle.std.proofs.lemmas.List.{length-take}
@@ -9,7 +9,7 @@ use Rattle.std.specs.Option.{option_map}
 use Rattle.std.specs.Str.{bytes_eq}
 use Rattle.init_machine.specs.Policy.{ContextLine, is_line_for, is_prefix_for, longest, longer}
 use Rattle.init_machine.specs.declared.policy.Context.{Context}
-use Rattle.prop_contexts.specs.Given.{named}
+use Rattle.prop_contexts.specs.NameLines.{named, has_name}
 use Rattle.prop_contexts.proofs.Entries.{entry_lines}
 
 abbrev pub or_else : {A : Type 0} → Option A → Option A → Option A
@@ -177,13 +177,13 @@ lookup-is (entry ∷ entries) name =
     ]
 
 -- what a front decides
-decided : {A : Type 0} (name front : List ℕ) (entries : List (Vec ℕ A × Context)) → IsLeft name (entry_lines entries) front
-    → longest (filter (is_prefix_for name) (entry_lines entries)) ≡ or_else (find (is_line_for front) (entry_lines entries)) (below name (entry_lines entries) (length front))
-decided name front entries left =
-    sym (down-is name (entry_lines entries))
+decided : (name front : List ℕ) (lines : List ContextLine) → IsLeft name lines front
+    → longest (filter (is_prefix_for name) lines) ≡ or_else (find (is_line_for front) lines) (below name lines (length front))
+decided name front lines left =
+    sym (down-is name lines)
     ∙ sym left.decides
-    ∙ down-here name (entry_lines entries) (length front)
-    ∙ ap (λ f. or_else (find (is_line_for f) (entry_lines entries)) (below name (entry_lines entries) (length front))) (sym left.is)
+    ∙ down-here name lines (length front)
+    ∙ ap (λ f. or_else (find (is_line_for f) lines) (below name lines (length front))) (sym left.is)
 
 first_found : (context : Context) (found other : Option ContextLine) → Some context ≡ option_map (λ line. line.context) found
     → Some context ≡ option_map (λ line. line.context) (or_else found other)
@@ -194,29 +194,28 @@ none_found : (found : Option ContextLine) → option_map (λ line. line.context)
 none_found None h = refl
 none_found (Some line) h = absurd (cc h)
 
-pub found_here : {A : Type 0} (name front : List ℕ) (entries : List (Vec ℕ A × Context)) (context : Context) → IsLeft name (entry_lines entries) front
-    → Some context ≡ lookup (λ k. bytes_eq front k.items) entries
-    → Some context ≡ option_map (λ line. line.context) (longest (filter (is_prefix_for name) (entry_lines entries)))
-found_here name front entries context left there =
-    first_found context (find (is_line_for front) (entry_lines entries)) (below name (entry_lines entries) (length front)) (there ∙ lookup-is entries front)
-    ∙ ap (option_map (λ line. line.context)) (sym (decided name front entries left))
+pub found_here : (name front : List ℕ) (lines : List ContextLine) (context : Context) → IsLeft name lines front
+    → Some context ≡ option_map (λ line. line.context) (find (is_line_for front) lines)
+    → Some context ≡ option_map (λ line. line.context) (longest (filter (is_prefix_for name) lines))
+found_here name front lines context left there =
+    first_found context (find (is_line_for front) lines) (below name lines (length front)) there
+    ∙ ap (option_map (λ line. line.context)) (sym (decided name front lines left))
 
-pub none_left : {A : Type 0} (name front : List ℕ) (entries : List (Vec ℕ A × Context)) → IsLeft name (entry_lines entries) front
-    → lookup (λ k. bytes_eq front k.items) entries ≡ None → length front ≡ 0
-    → None ≡ option_map (λ line. line.context) (longest (filter (is_prefix_for name) (entry_lines entries)))
+pub none_left : (name front : List ℕ) (lines : List ContextLine) → IsLeft name lines front
+    → option_map (λ line. line.context) (find (is_line_for front) lines) ≡ None → length front ≡ 0
+    → None ≡ option_map (λ line. line.context) (longest (filter (is_prefix_for name) lines))
 unfolding below
-none_left name [] entries left none short =
+none_left name [] lines left none short =
     ap (option_map (λ line. line.context))
-    (sym (decided name [] entries left ∙ ap (λ f. or_else f None) (none_found (find (is_line_for []) (entry_lines entries)) (sym (lookup-is entries []) ∙ none))))
-none_left name (b ∷ front) entries left none short = absurd (omega arith)
+    (sym (decided name [] lines left ∙ ap (λ f. or_else f None) (none_found (find (is_line_for []) lines) none)))
+none_left name (b ∷ front) lines left none short = absurd (omega arith)
 
-pub one_less : {A : Type 0} (name front shorter : List ℕ) (last : ℕ) (entries : List (Vec ℕ A × Context)) → IsLeft name (entry_lines entries) front
-    → lookup (λ k. bytes_eq front k.items) entries ≡ None → front ≡ shorter ++ last ∷ []
-    → IsLeft name (entry_lines entries) shorter
-one_less name front shorter last entries left none is =
-    let lines : List ContextLine = entry_lines entries in
+pub one_less : (name front shorter : List ℕ) (last : ℕ) (lines : List ContextLine) → IsLeft name lines front
+    → option_map (λ line. line.context) (find (is_line_for front) lines) ≡ None → front ≡ shorter ++ last ∷ []
+    → IsLeft name lines shorter
+one_less name front shorter last lines left none is =
     let long : length front ≡ length shorter + 1 = omega (arith, ap length is, length-append shorter (last ∷ [])) in
-    let front_none : find (is_line_for front) lines ≡ None = none_found (find (is_line_for front) lines) (sym (lookup-is entries front) ∙ none) in
+    let front_none : find (is_line_for front) lines ≡ None = none_found (find (is_line_for front) lines) none in
     let whole : take (length shorter) front ≡ take (length shorter) name =
     ap (take (length shorter)) left.is ∙ take-take (length shorter) (length front) name (omega (arith, long)) in
     let here : down name lines (length front) ≡ below name lines (length front) =
@@ -228,3 +227,35 @@ one_less name front shorter last entries left none is =
       is = sym (take-append_seam shorter (last ∷ [])) ∙ ap (take (length shorter)) (sym is) ∙ whole;
       decides = ap (down name lines) one ∙ sym (below-is name lines (length front) (omega (arith, long))) ∙ sym here ∙ left.decides;
     }
+
+-- a name without a line is for none
+none_for : (lines : List ContextLine) (name : List ℕ) → has_name lines name ≡ false → find (is_line_for name) lines ≡ None
+none_for [] name none = refl
+none_for (line ∷ lines) name none = by (is_line_for name line) none (λ rest. none_for lines name rest)
+  where
+    by : (v : Bool) → (v || has_name lines name) ≡ false → (has_name lines name ≡ false → find (is_line_for name) lines ≡ None) → cond v (Some line) (find (is_line_for name) lines) ≡ None
+    by true h more = absurd (cc h)
+    by false h more = more h
+
+-- where no longer front has a line, the front decides
+decides_down : (name : List ℕ) (lines : List ContextLine) (known n : ℕ) → known ≤ n → ((m : ℕ) → known < m → m ≤ n → find (is_line_for (take m name)) lines ≡ None)
+    → down name lines known ≡ down name lines n
+decides_down name lines known zero less none =
+    let is : known ≡ zero = omega (arith, less) in
+    ap (down name lines) is
+decides_down name lines known (suc n) less none = by (cases_lt n known)
+    (λ low. decides_down name lines known n low (λ m more fits. none m more (omega (arith, fits))))
+  where
+    by : (n < known) ⊎ (known ≤ n) → (known ≤ n → down name lines known ≡ down name lines n) → down name lines known ≡ down name lines (suc n)
+    by (inl high) rest =
+        let is : known ≡ suc n = omega (arith, high, less) in
+        ap (down name lines) is
+    by (inr low) rest = rest low ∙ ap (λ f. or_else f (down name lines n)) (sym (none (suc n) (omega (arith, low)) (omega arith)))
+
+pub known_first : (name front : List ℕ) (lines : List ContextLine) → front ≡ take (length front) name
+    → ((n : ℕ) → length front < n → n ≤ length name → has_name lines (take n name) ≡ false) → IsLeft name lines front
+known_first name front lines is none = record {
+  is = is;
+  decides = decides_down name lines (length front) (length name) (omega (arith, ap length is, length-take (length front) name))
+      (λ m more less. none_for lines (take m name) (none m more less));
+}

@@ -6,3 +6,5 @@ pub mod AllowReadings
 pub mod Fronts
 pub mod LookUps
 pub mod Readers
+pub mod Pairs
+pub mod Digests

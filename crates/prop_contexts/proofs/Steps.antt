@@ -9,7 +9,8 @@ use Rattle.std.proofs.lemmas.List.Folds.{list_all-append, list_any-append}
 use Rattle.init_machine.specs.Policy.{ContextLine, is_line_for}
 use Rattle.init_machine.specs.declared.policy.Context.{Context}
 use Rattle.prop_contexts.specs.Contexts.{ScopedLine, read_in, reading_of, default_in, exact_in, prefix_in, scoped_lines, default_contexts, exact_lines, prefix_lines}
-use Rattle.prop_contexts.specs.Given.{Given, given_by, first_of, has_name, has_for, has_line, with_for, Takes, IsLineRefusal, IsTextRefusal}
+use Rattle.prop_contexts.specs.NameLines.{has_name}
+use Rattle.prop_contexts.specs.Given.{Given, given_by, first_of, has_for, has_line, with_for, Takes, IsLineRefusal, IsTextRefusal}
 use Rattle.prop_contexts.specs.Grammar.{contexts_fit, is_formed, names_differ}
 use Rattle.prop_contexts.specs.Lines.{lines_of}
 use Rattle.prop_contexts.specs.declared.refusal.PolicyRefusal.{PolicyRefusal}

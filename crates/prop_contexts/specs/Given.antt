@@ -1,9 +1,8 @@
 -- What lines give, as the reader of the contexts text keeps it.
-use Rattle.std.specs.Prelude.{◌≡◌, ◌≤◌, ℕ, ⊤, Bool, true, false, IsTrue, is_some, List, [], ◌∷◌, ◌++◌, length, map, Option, Some, None, Vec}
-use Rattle.std.specs.List.{list_any}
-use Rattle.init_machine.specs.Policy.{ContextLine, is_line_for}
+use Rattle.std.specs.Prelude.{◌≡◌, ◌≤◌, ℕ, ⊤, Bool, true, false, IsTrue, is_some, List, [], ◌∷◌, ◌++◌, length, Option, Some, None}
+use Rattle.init_machine.specs.Policy.{ContextLine}
 use Rattle.init_machine.specs.declared.policy.Context.{Context}
-use Rattle.indexmap.specs.IndexMap.{IndexMap}
+use Rattle.prop_contexts.specs.NameLines.{lines_in, has_name}
 use Rattle.prop_contexts.specs.Contexts.{ScopedLine, default_contexts, exact_lines, prefix_lines}
 use Rattle.prop_contexts.specs.Grammar.{contexts_fit, IsBadContext, IsTwice}
 use Rattle.prop_contexts.specs.Lines.{lines_of}
@@ -32,20 +31,11 @@ given_by lines = record {
   prefixes = prefix_lines lines;
 }
 
-abbrev pub named : List ℕ → Context → ContextLine
-named name context = record { name = name; context = context }
-
-abbrev pub lines_in : {A S : Type 0} → IndexMap (Vec ℕ A) Context S → List ContextLine
-lines_in names = map (λ entry. named entry.0.items entry.1) names.entries
-
 abbrev pub given : Contexts → Given
-given contexts = record { default = contexts.default; exact = lines_in contexts.exact; prefixes = lines_in contexts.prefixes }
+given contexts = record { default = contexts.default; exact = lines_in contexts.exact; prefixes = contexts.prefixes }
 
 abbrev pub nothing_given : Given
 nothing_given = record { default = None; exact = []; prefixes = [] }
-
-abbrev pub has_name : List ContextLine → List ℕ → Bool
-has_name lines name = list_any (is_line_for name) lines
 
 -- whether there is a line of this name and kind
 abbrev pub has_for : Given → Scope → List ℕ → Bool

@@ -1,7 +1,10 @@
 pub mod Lines
 pub mod Contexts
 pub mod Named
+pub mod NameLines
 pub mod Given
+pub mod Digests
+pub mod Allowances
 pub mod Allowed
 pub mod Allows
 pub mod Grammar

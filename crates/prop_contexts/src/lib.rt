@@ -6,6 +6,7 @@
 #![tactic(auto)]
 
 mod allow_line;
+mod allowances;
 mod allows;
 mod context_line;
 mod contexts;
@@ -13,6 +14,7 @@ mod laws;
 mod line;
 mod names;
 mod policy;
+mod prefixes;
 mod refusal;
 #[cfg(test)]
 mod tests;

@@ -4,12 +4,14 @@ ghost use Rattle.std.specs.Prelude.{◌≡◌, ◌≤◌, IfOk, IfErr, length};
 ghost use Rattle.init_machine.specs.Policy.{context_of, is_allowed};
 ghost use Rattle.prop_contexts.specs.Grammar.{IsPolicy, IsRefused};
 
+use crate::allowances::Allowances;
 use crate::allows::read_allows;
 use crate::contexts::{Contexts, read_contexts};
-use crate::names::{Names, longest_prefix};
+use crate::names::Names;
+use crate::prefixes::Prefixes;
 use crate::refusal::PolicyRefusal;
-use init_base::{List, PropName};
-use init_machine::{AllowLine, Context, PolicyView};
+use init_base::PropName;
+use init_machine::{Context, PolicyView};
 use std::alloc::Global;
 use std::marker::Model;
 
@@ -18,17 +20,17 @@ use std::marker::Model;
 pub struct Policy {
     default: Context,
     exact: Names,
-    prefixes: Names,
-    allows: List<AllowLine>,
+    prefixes: Prefixes,
+    allows: Allowances,
 }
 
 impl Model for Policy {
     ghost use Rattle.init_machine.specs.Policy.{PolicyLines};
-    ghost use Rattle.prop_contexts.specs.Given.{lines_in};
+    ghost use Rattle.prop_contexts.specs.NameLines.{lines_in};
 
     ghost Value = { PolicyLines };
 
-    ghost view = { λ p. record { default = p.default; exact = lines_in p.exact; prefixes = lines_in p.prefixes; allows = p.allows } };
+    ghost view = { λ p. record { default = p.default; exact = lines_in p.exact; prefixes = p.prefixes; allows = p.allows } };
 }
 
 impl PolicyView for Policy {
@@ -57,7 +59,7 @@ impl Policy {
             default,
             exact,
             prefixes,
-            allows,
+            allows: Allowances::of(alloc, allows)?,
         })
     }
 
@@ -71,20 +73,17 @@ impl Policy {
         if let Some(context) = self.exact.get(name) {
             return context;
         }
-        match longest_prefix(&self.prefixes, name) {
+        match self.prefixes.longest(name) {
             Some(context) => context,
             None => &self.default,
         }
     }
 
-    /// Whether the allow text has this domain with this label. It takes no memory.
+    /// Whether the allow text has this domain with this label. It takes no memory, and time of the two words.
     #[tactic(auto, unfolding(init_machine::specs::Policy::is_allowed))]
     pub fn allows(&self, domain: &[u8], label: &[u8]) -> bool
         ensures { result ≡ is_allowed self.now domain.now label.now }
     {
-        self.allows
-            .items()
-            .iter()
-            .any(|line| line.domain.is(domain) && line.label.is(label))
+        self.allows.has(domain, label)
     }
 }

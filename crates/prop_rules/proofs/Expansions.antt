@@ -1,6 +1,6 @@
 -- A text that is expanded piece by piece: what is left decides.
-use Rattle.std.proofs.Common.{◌≡◌, ℕ, zero, suc, ◌+◌, ◌-◌, ◌<◌, ◌≤◌, List, [], ◌∷◌, ◌++◌, length, drop, slice_index, true, false, not, ◌&&◌, if◌then◌else◌, ◌==◌, position, Option, Some, None, Result, Ok, Err, refl, sym, ap, ◌∙◌, append_assoc, arith}
-use Rattle.std.specs.List.{list_all}
+use Rattle.std.proofs.Common.{◌≡◌, ℕ, zero, suc, ◌+◌, ◌-◌, ◌<◌, ◌≤◌, List, [], ◌∷◌, ◌++◌, length, drop, slice_index, true, false, not, ◌&&◌, ◌||◌, if◌then◌else◌, ◌==◌, position, Option, Some, None, Result, Ok, Err, refl, sym, ap, ◌∙◌, append_assoc, arith}
+use Rattle.std.specs.List.{list_all, list_any}
 use Rattle.std.proofs.Math.Seq.{drop-cons}
 use Rattle.std.proofs.lemmas.List.{drop-drop}
 use Rattle.init_machine.specs.Expand.{Plain, Bad, Written, up_to, behind_brace, behind_dollar, joined, pieces_from, values_of, piece_value, first_piece}
@@ -115,3 +115,12 @@ plain_values look_up place (b ∷ rest) is =
       | true ↦ λ h. cc
       | false ↦ λ h. ap (joined (Ok (b ∷ []))) (plain_values look_up (place + 1) rest h)
     ] is
+
+-- no byte is one exactly where none is found
+pub none_is : (byte : ℕ) (text : List ℕ) → not (list_any (λ b. b == byte) text) ≡ list_all (λ b. not (b == byte)) text
+none_is byte [] = refl
+none_is byte (b ∷ text) =
+    elim (b == byte) as (λ v. not (v || list_any (λ b. b == byte) text) ≡ not v && list_all (λ b. not (b == byte)) text) [
+      | true ↦ refl
+      | false ↦ none_is byte text
+    ]

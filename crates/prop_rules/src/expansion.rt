@@ -160,7 +160,7 @@ fn append_all<S: PropStore>(
 fn is_plain(text: &[u8]) -> bool
     ensures { result ≡ list_all (λ b. not (b == 36)) text.now }
 {
-    text.iter().all(|byte| *byte != b'$')
+    !text.contains(&b'$')
 }
 
 /// The text that came out, if it isn't too long.

@@ -104,16 +104,16 @@ module _ (words : List ℕ) (sets : List Set) (name value : List ℕ) (linked li
       let e = enough in
       ap (λ (qs : Parts). (trie_of (names_of sets)).mark + node_sizes qs) (take_enough linked (missing_parts (tree_of sets) ps) (omega arith))
 
-  tree_is : later.tree ≡ with_cell tree ps free
+  pub tree_is : later.tree ≡ with_cell tree ps free
   tree_is =
       let e = enough in
       ap (λ (t : Trie). t.tree) (trie_more sets name value absent)
       ∙ (λ i. with_cell (grown_enough (length ps) linked (tree_of sets) ps (trie_of (names_of sets)).mark (omega arith) e i) ps (sym free_is i))
 
-  mark_is : later.mark ≡ free + 13
+  pub mark_is : later.mark ≡ free + 13
   mark_is = ap (λ (t : Trie). t.mark) (trie_more sets name value absent) ∙ ap (λ (k : ℕ). k + 13) (sym free_is)
 
-  in_tree : (16 ≤ link) × (link < free)
+  pub in_tree : (16 ≤ link) × (link < free)
   in_tree = h.trie.lies.within link (nodes_take tree link (ends_in tree ps link ends))
 
   -- the trie has the new name

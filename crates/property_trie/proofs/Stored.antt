@@ -145,7 +145,7 @@ pub alike_whole : (ps : Parts) → alike ps ps ≡ length ps
 alike_whole [] = refl
 alike_whole (p ∷ ps) = alike_self p ps ∙ (let rest = alike_whole ps in omega arith)
 
-drop_small : (n : ℕ) (ps : Parts) (p : List ℕ) (qs : Parts) → drop n ps ≡ p ∷ qs → n < length ps
+pub drop_small : (n : ℕ) (ps : Parts) (p : List ℕ) (qs : Parts) → drop n ps ≡ p ∷ qs → n < length ps
 drop_small zero [] p qs left = absurd (cc)
 drop_small (suc n) [] p qs left = absurd (cc)
 drop_small zero (x ∷ xs) p qs left = omega arith

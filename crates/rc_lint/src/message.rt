@@ -28,6 +28,8 @@ pub struct Teller<'a> {
     /// The names of the services, in the same order.
     names: TextIndex,
     seen: &'a [Seen],
+    /// Where the last line of a build file was found that was told of.
+    found: BuildLine,
     /// What the paths of imports are expanded in.
     view: ListStore,
 }
@@ -50,6 +52,7 @@ impl<'a> Teller<'a> {
             services,
             names,
             seen: seen.items(),
+            found: BuildLine::FIRST,
             view: boot_view(alloc, &config.pairs)?,
         })
     }
@@ -104,9 +107,10 @@ impl<'a> Teller<'a> {
     }
 
     /// A line of a build file that sets no property.
-    fn bad_prop(&self, diagnostic: &Diagnostic) -> Result<Text, NoMemory> {
+    fn bad_prop(&mut self, diagnostic: &Diagnostic) -> Result<Text, NoMemory> {
+        let alloc = self.alloc;
         let line = self.line_of_build_file(diagnostic);
-        let message = Message::of(self.alloc, b"NAME=VALUE is expected, ")?
+        let message = Message::of(alloc, b"NAME=VALUE is expected, ")?
             .quote(line)?
             .say(b" is given")?;
         let message = if line.contains(&b'=') {
@@ -117,21 +121,56 @@ impl<'a> Teller<'a> {
         message.end()
     }
 
-    /// The line of a build file that has a diagnostic, without the blanks round it.
-    fn line_of_build_file(&self, diagnostic: &Diagnostic) -> &[u8] {
+    /// The line of a build file that has a diagnostic, without the blanks round it. It is looked for behind the last one that
+    /// was told of.
+    fn line_of_build_file(&mut self, diagnostic: &Diagnostic) -> &'a [u8] {
         let file = diagnostic.file.bytes();
-        let Some(seen) = self.seen.iter().find(|seen| seen.path.is(file)) else {
+        let Some(place) = self.seen.iter().position(|seen| seen.path.is(file)) else {
             return &[];
         };
-        let mut number: u32 = 0;
-        for line in seen.text.bytes().split(|byte| *byte == b'\n') {
-            number = number.saturating_add(1);
-            if number == diagnostic.line {
+        if self.found.place != place || self.found.number > diagnostic.line {
+            self.found = BuildLine {
+                place,
+                ..BuildLine::FIRST
+            };
+        }
+        self.go_to(diagnostic.line)
+    }
+
+    /// Goes to a line of the build file, and answers it without the blanks round it.
+    fn go_to(&mut self, number: u32) -> &'a [u8] {
+        let found = &mut self.found;
+        let Some(seen) = self.seen.get(found.place) else {
+            return &[];
+        };
+        let behind = seen.text.bytes().get(found.start..).unwrap_or_default();
+        for line in behind.split(|byte| *byte == b'\n') {
+            if found.number == number {
                 return line.trim_ascii();
             }
+            found.number = found.number.saturating_add(1);
+            found.start = found.start.saturating_add(line.len()).saturating_add(1);
         }
         &[]
     }
+}
+
+/// A physical line of a build file.
+#[derive(Clone, Copy, Debug, PartialEq, Eq)]
+struct BuildLine {
+    /// The place of the file among those that were read.
+    place: usize,
+    number: u32,
+    /// The bytes before it.
+    start: usize,
+}
+
+impl BuildLine {
+    const FIRST: BuildLine = BuildLine {
+        place: 0,
+        number: 1,
+        start: 0,
+    };
 }
 
 /// A file that ends inside a token.

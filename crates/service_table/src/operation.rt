@@ -25,12 +25,9 @@ pub fn step(marks: &mut Marks, op: Op) -> Move
         Op::ExecStart => exec_start(marks),
         Op::Timeout => timeout(marks),
         Op::Spawned { pid, now } => {
-            *marks = Marks {
-                pid: Some(pid),
-                killed: false,
-                started: now,
-                ..*marks
-            };
+            marks.pid = Some(pid);
+            marks.killed = false;
+            marks.started = now;
             Move::Nothing
         }
         Op::NoPid => {
@@ -60,14 +57,11 @@ fn start(marks: &mut Marks) -> Move
 {
     let is_running = marks.pid.is_some();
     let is_stopping = marks.oneshot && (marks.disabled || marks.reset);
-    *marks = Marks {
-        again: is_running && (marks.again || is_stopping),
-        disabled: false,
-        reset: false,
-        restarting: false,
-        wanted: false,
-        ..*marks
-    };
+    marks.again = is_running && (marks.again || is_stopping);
+    marks.disabled = false;
+    marks.reset = false;
+    marks.restarting = false;
+    marks.wanted = false;
     if is_running {
         Move::Nothing
     } else {
@@ -102,13 +96,10 @@ fn stop(marks: &mut Marks) -> Move
     ensures marks { marks.new ≡ (stop_cell marks.old.pid marks.old).marks }
     ensures todo { result ≡ (stop_cell marks.old.pid marks.old).todo }
 {
-    *marks = Marks {
-        restarting: false,
-        wanted: false,
-        again: false,
-        disabled: true,
-        ..*marks
-    };
+    marks.restarting = false;
+    marks.wanted = false;
+    marks.again = false;
+    marks.disabled = true;
     end(marks)
 }
 
@@ -117,14 +108,11 @@ fn reset(marks: &mut Marks) -> Move
     ensures marks { marks.new ≡ (reset_cell marks.old.pid marks.old).marks }
     ensures todo { result ≡ (reset_cell marks.old.pid marks.old).todo }
 {
-    *marks = Marks {
-        restarting: false,
-        wanted: false,
-        again: false,
-        disabled: marks.disabled || marks.declared,
-        reset: marks.reset || !marks.declared,
-        ..*marks
-    };
+    marks.restarting = false;
+    marks.wanted = false;
+    marks.again = false;
+    marks.disabled = marks.disabled || marks.declared;
+    marks.reset = marks.reset || !marks.declared;
     end(marks)
 }
 
@@ -139,13 +127,10 @@ fn restart(marks: &mut Marks, only_running: bool) -> Move
             start(marks)
         };
     };
-    *marks = Marks {
-        disabled: false,
-        reset: false,
-        wanted: false,
-        again: true,
-        ..*marks
-    };
+    marks.disabled = false;
+    marks.reset = false;
+    marks.wanted = false;
+    marks.again = true;
     kill(marks, pid)
 }
 
@@ -201,14 +186,11 @@ fn reaped(marks: &mut Marks) -> Move
 {
     let is_done = marks.oneshot && !marks.again && !marks.reset;
     let is_stopped = marks.disabled || is_done || marks.reset;
-    *marks = Marks {
-        pid: None,
-        killed: false,
-        disabled: marks.disabled || is_done,
-        again: false,
-        restarting: marks.restarting || !is_stopped,
-        ..*marks
-    };
+    marks.pid = None;
+    marks.killed = false;
+    marks.disabled = marks.disabled || is_done;
+    marks.again = false;
+    marks.restarting = marks.restarting || !is_stopped;
     if is_stopped {
         Move::Stopped
     } else {

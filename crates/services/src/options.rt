@@ -22,9 +22,12 @@ pub(crate) fn restart_time(def: &ServiceDef, marks: Marks) -> Result<Option<Mill
 pub(crate) fn timeout_time(def: &ServiceDef, marks: Marks) -> Result<Option<Millis>, NoMemory>
     ensures { IfOk result (λ time. number_of time ≡ timeout_time def.now marks) }
 {
-    match (marks.pid, def.timeout) {
-        (Some(_), Some(timeout)) => Ok(Some(later(marks.started, timeout)?)),
-        _ => Ok(None),
+    if marks.pid.is_none() {
+        return Ok(None);
+    }
+    match def.timeout {
+        Some(timeout) => Ok(Some(later(marks.started, timeout)?)),
+        None => Ok(None),
     }
 }
 

@@ -3,8 +3,9 @@
 use super::{NoteKind, Notes};
 use crate::finding::WarningKind;
 use crate::message::Message;
-use init_base::{List, NoMemory, Text};
+use init_base::{NoMemory, Text};
 use init_machine::{Action, Command, Config, Word};
+use std::alloc::Global;
 use text_index::TextIndex;
 
 /// The events that AOSP's init triggers itself (init.cpp, reboot.cpp and builtins.cpp, Android 10 to 15).
@@ -27,8 +28,64 @@ const OWN_EVENTS: [&[u8]; 11] = [
 struct Events {
     awaited: TextIndex,
     sent: TextIndex,
-    /// What stands before the first `$` of an event that is expanded when it is triggered.
-    begun: List<Text>,
+    begun: Begun,
+}
+
+/// What is triggered, as it is found.
+#[derive(Drop)]
+struct Sending {
+    alloc: Global,
+    sent: TextIndex,
+    /// What stands before the first `$` of the events that are expanded when they are triggered.
+    begun: Vec<Vec<u8>>,
+}
+
+/// What stands before the first `$` of the events that are expanded when they are triggered: in order, and none begins with
+/// another.
+#[derive(Drop)]
+struct Begun {
+    texts: Vec<Vec<u8>>,
+}
+
+impl Begun {
+    fn of(alloc: Global, texts: Vec<Vec<u8>>) -> Result<Begun, NoMemory> {
+        let mut texts = texts;
+        texts.sort()?;
+        let mut begun = Begun {
+            texts: Vec::new(alloc),
+        };
+        for text in texts {
+            begun.add_behind(text)?;
+        }
+        Ok(begun)
+    }
+
+    /// Adds a text that isn't less than those that are there.
+    fn add_behind(&mut self, text: Vec<u8>) -> Result<(), NoMemory> {
+        let is_known = match self.texts.last() {
+            Some(last) => text.starts_with(last.as_slice()),
+            None => false,
+        };
+        if !is_known {
+            self.texts.push(text)?;
+        }
+        Ok(())
+    }
+
+    /// Whether an event begins with one of them.
+    fn begins(&self, event: &[u8]) -> bool {
+        let place = self
+            .texts
+            .binary_search_by(|text| text.as_slice().cmp(event));
+        let before = match place {
+            Ok(_) => return true,
+            Err(place) => place.checked_sub(1),
+        };
+        match before.and_then(|last| self.texts.get(last)) {
+            Some(text) => event.starts_with(text.as_slice()),
+            None => false,
+        }
+    }
 }
 
 /// Adds a warning for each event that goes astray.
@@ -45,44 +102,53 @@ pub fn add(notes: &mut Notes, config: &Config) -> Result<(), NoMemory> {
 }
 
 fn events_of(notes: &Notes, config: &Config) -> Result<Events, NoMemory> {
-    let mut events = Events {
-        awaited: TextIndex::new(notes.alloc),
+    let mut sending = Sending {
+        alloc: notes.alloc,
         sent: TextIndex::new(notes.alloc),
-        begun: List::new(notes.alloc),
+        begun: Vec::new(notes.alloc),
     };
+    let mut awaited = TextIndex::new(notes.alloc);
     for event in OWN_EVENTS {
-        events.sent.add(event)?;
+        sending.sent.add(event)?;
     }
     for action in config.actions.items() {
         if let Some(event) = &action.event {
-            events.awaited.add(event.bytes())?;
+            awaited.add(event.bytes())?;
         }
-        add_sent(&mut events, action.commands.items())?;
+        add_sent(&mut sending, action.commands.items())?;
     }
     for service in config.services.items() {
-        add_sent(&mut events, service.onrestart.items())?;
+        add_sent(&mut sending, service.onrestart.items())?;
     }
-    Ok(events)
+    Ok(Events {
+        awaited,
+        sent: sending.sent,
+        begun: Begun::of(notes.alloc, sending.begun)?,
+    })
 }
 
 /// Adds the events that some commands trigger.
-fn add_sent(events: &mut Events, commands: &[Command]) -> Result<(), NoMemory> {
+fn add_sent(sending: &mut Sending, commands: &[Command]) -> Result<(), NoMemory> {
     for command in commands {
         if let Some(event) = triggered(command) {
-            add_event(events, event)?;
+            add_event(sending, event)?;
         }
     }
     Ok(())
 }
 
-fn add_event(events: &mut Events, event: &Text) -> Result<(), NoMemory> {
-    match event.bytes().iter().position(|byte| *byte == b'$') {
-        Some(at) => events.begun.push(event.slice(0, at)?),
+fn add_event(sending: &mut Sending, event: &Text) -> Result<(), NoMemory> {
+    let event = event.bytes();
+    match event.iter().position(|byte| *byte == b'$') {
+        Some(at) => {
+            let alloc = sending.alloc;
+            sending.begun.push(Vec::from_slice(alloc, &event[..at])?)?;
+        }
         None => {
-            events.sent.add(event.bytes())?;
-            Ok(())
+            sending.sent.add(event)?;
         }
     }
+    Ok(())
 }
 
 /// The event that a command triggers.
@@ -95,12 +161,7 @@ fn triggered(command: &Command) -> Option<&Text> {
 
 /// Whether something triggers an event, or may.
 fn is_sent(events: &Events, event: &[u8]) -> bool {
-    events.sent.place(event).is_some()
-        || events
-            .begun
-            .items()
-            .iter()
-            .any(|begun| event.starts_with(begun.bytes()))
+    events.sent.place(event).is_some() || events.begun.begins(event)
 }
 
 fn add_action(notes: &mut Notes, events: &Events, action: &Action) -> Result<(), NoMemory> {

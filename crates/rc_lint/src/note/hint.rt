@@ -6,6 +6,7 @@ use crate::loading::{SYSTEM_PATH, VENDOR_PATH};
 use crate::message::Message;
 use crate::watched::Seen;
 use init_base::NoMemory;
+use memchr::{memchr, memchr_iter};
 
 const BYTE_ORDER_MARK: &[u8] = b"\xef\xbb\xbf";
 
@@ -79,6 +80,7 @@ fn behind_plain(byte: u8, line: u32) -> Place {
 
 /// The line on which the first quotes begin that go over the end of a line.
 fn spanned_line(text: &[u8]) -> Option<u32> {
+    memchr(b'"', text)?;
     let mut place = Place::Between;
     let mut line: u32 = 1;
     for byte in text {
@@ -129,16 +131,43 @@ fn header_meant(word: &[u8]) -> Option<&'static [u8]> {
     None
 }
 
-fn add_capital_headers(notes: &mut Notes, file: &Seen) -> Result<(), NoMemory> {
-    let mut number: u32 = 0;
-    for line in file.text.bytes().split(|byte| *byte == b'\n') {
-        number = number.saturating_add(1);
-        let word = first_word(line);
-        if let Some(header) = header_meant(word) {
-            add_capital_header(notes, file, number, word, header)?;
-        }
+/// Whether the first letter of a physical line is that of a header.
+fn may_be_header(line: &[u8]) -> bool {
+    match line.trim_ascii_start() {
+        [first, ..] => matches!(*first, b'o' | b'O' | b's' | b'S' | b'i' | b'I'),
+        [] => false,
     }
-    Ok(())
+}
+
+fn add_capital_headers(notes: &mut Notes, file: &Seen) -> Result<(), NoMemory> {
+    let text = file.text.bytes();
+    let mut start = 0;
+    let mut number: u32 = 1;
+    for end in memchr_iter(b'\n', text) {
+        let line = text.get(start..end).unwrap_or_default();
+        add_if_capital(notes, file, number, line)?;
+        start = end.saturating_add(1);
+        number = number.saturating_add(1);
+    }
+    let last = text.get(start..).unwrap_or_default();
+    add_if_capital(notes, file, number, last)
+}
+
+/// Adds a hint where a physical line begins with a header's word but for its capitals.
+fn add_if_capital(
+    notes: &mut Notes,
+    file: &Seen,
+    number: u32,
+    line: &[u8],
+) -> Result<(), NoMemory> {
+    if !may_be_header(line) {
+        return Ok(());
+    }
+    let word = first_word(line);
+    match header_meant(word) {
+        Some(header) => add_capital_header(notes, file, number, word, header),
+        None => Ok(()),
+    }
 }
 
 fn add_capital_header(

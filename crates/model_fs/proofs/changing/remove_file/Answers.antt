@@ -1,5 +1,9 @@
+use Rattle.std.proofs.Common.{◌&&◌, ap, ◌∙◌}
+use Rattle.init_machine.specs.FileTree.{is_directory, is_full, node_at, parts_of}
 use Rattle.model_fs.proofs.Calls.{remove_passes}
 use Rattle.model_fs.proofs.changing.remove_file.Goals as goal
 
-pub remove-requires : goal.remove-requires
-remove-requires c = remove_passes c.args.entries.now c.args.path.now c.requires
+pub remove-requires-clause-empty : goal.remove-requires-clause-empty
+remove-requires-clause-empty c =
+    ap (λ t. is_directory (node_at t (parts_of c.args.path.now)) && is_full t (parts_of c.args.path.now)) c.remember.ensures
+    ∙ remove_passes c.args.entries.now c.args.path.now c.requires.passes

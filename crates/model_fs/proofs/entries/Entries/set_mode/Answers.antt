@@ -12,7 +12,7 @@ pub set_entry_mode-requires : goal.set_entry_mode-requires
 set_entry_mode-requires c =
     let path = parts_of c.args.path.now in
     place_within c.self.inside.places c.self.inside.entries.items path c.in-Some.at c.self.invariant.long
-    (ap (λ t. place_in t path) c.self.view_is ∙ sym c.walk.ensures.at ∙ c.in-Some.is)
+    (ap (λ t. place_in t path) c.self.view_is ∙ sym c.requires.at ∙ c.in-Some.is)
 
 pub invariant_of-self : goal.invariant_of-self
 invariant_of-self c =
@@ -20,7 +20,7 @@ invariant_of-self c =
     let entries = c.self.inside.entries.items in
     let path = parts_of c.args.path.now in
     let is : place_of paths path ≡ Some c.in-Some.at =
-    sym (place_shown paths entries path c.self.invariant.long) ∙ ap (λ t. place_in t path) c.self.view_is ∙ sym c.walk.ensures.at ∙ c.in-Some.is in
+    sym (place_shown paths entries path c.self.invariant.long) ∙ ap (λ t. place_in t path) c.self.view_is ∙ sym c.requires.at ∙ c.in-Some.is in
     subst (IsKept paths) (sym c.set_entry_mode.ensures) (kept_mode paths entries path c.in-Some.at c.args.mode c.self.invariant is)
 
 pub returns-in-Some : goal.returns-in-Some
@@ -29,11 +29,11 @@ returns-in-Some c =
     let entries = c.self.inside.entries.items in
     let path = parts_of c.args.path.now in
     let is : place_of paths path ≡ Some c.in-Some.at =
-    sym (place_shown paths entries path c.self.invariant.long) ∙ ap (λ t. place_in t path) c.self.view_is ∙ sym c.walk.ensures.at ∙ c.in-Some.is in
+    sym (place_shown paths entries path c.self.invariant.long) ∙ ap (λ t. place_in t path) c.self.view_is ∙ sym c.requires.at ∙ c.in-Some.is in
     ap (shown paths) c.set_entry_mode.ensures ∙ shown_mode paths entries path c.in-Some.at c.args.mode c.self.invariant is
     ∙ ap (λ t. change_mode t path c.args.mode (node_at t path)) c.self.view_is
 
 pub returns-in_default : goal.returns-in_default
 returns-in_default c =
     let path = parts_of c.args.path.now in
-    sym (ap (change_mode c.args.self.now path c.args.mode) (node_not_found c.args.self.now path (sym c.walk.ensures.at ∙ c.in_default.is)))
+    sym (ap (change_mode c.args.self.now path c.args.mode) (node_not_found c.args.self.now path (sym c.requires.at ∙ c.in_default.is)))

@@ -1,7 +1,7 @@
 use Rattle.std.proofs.Common.{◌≡◌, ℕ, List, Bor, refl, ◌∙◌}
 use Rattle.init_machine.specs.Policy.{PolicyLines, context_of}
 use Rattle.init_machine.specs.declared.policy.Context.{Context}
-use Rattle.prop_contexts.specs.Given.{lines_in}
+use Rattle.prop_contexts.specs.NameLines.{lines_in}
 use Rattle.prop_contexts.proofs.LookUps.{exact_found, prefix_found, default_used}
 use Rattle.prop_contexts.proofs.policy.Policy.context_of.Goals as goal
 
@@ -13,20 +13,20 @@ seen context inside policy bytes name found same_policy same_name = found ∙ (�
 pub returns-in-Some : goal.returns-in-Some
 returns-in-Some c =
     let inside = c.self.inside in
-    let lines : PolicyLines = record { default = inside.default; exact = lines_in inside.exact; prefixes = lines_in inside.prefixes; allows = inside.allows } in
+    let lines : PolicyLines = record { default = inside.default; exact = lines_in inside.exact; prefixes = inside.prefixes; allows = inside.allows } in
     seen c.in-Some.context.now lines c.args.self.now c.bytes-name.result c.args.name.bytes
     (exact_found lines c.bytes-name.result.now inside.exact.entries c.in-Some.context.now refl c.in-Some.ensures.value) c.self.view_is c.bytes-name.ensures.same
 
-pub returns-in-Some-longest_prefix : goal.returns-in-Some-longest_prefix
-returns-in-Some-longest_prefix c =
+pub returns-in-Some-longest : goal.returns-in-Some-longest
+returns-in-Some-longest c =
     let inside = c.self.inside in
-    let lines : PolicyLines = record { default = inside.default; exact = lines_in inside.exact; prefixes = lines_in inside.prefixes; allows = inside.allows } in
-    seen c.in-Some-longest_prefix.context.now lines c.args.self.now c.bytes-name.result c.args.name.bytes
-    (prefix_found lines c.bytes-name.result.now inside.exact.entries c.in-Some-longest_prefix.context.now refl c.in_default.ensures.value c.in-Some-longest_prefix.ensures) c.self.view_is c.bytes-name.ensures.same
+    let lines : PolicyLines = record { default = inside.default; exact = lines_in inside.exact; prefixes = inside.prefixes; allows = inside.allows } in
+    seen c.in-Some-longest.context.now lines c.args.self.now c.bytes-name.result c.args.name.bytes
+    (prefix_found lines c.bytes-name.result.now inside.exact.entries c.in-Some-longest.context.now refl c.in_default.ensures.value c.in-Some-longest.ensures) c.self.view_is c.bytes-name.ensures.same
 
 pub returns-in-None : goal.returns-in-None
 returns-in-None c =
     let inside = c.self.inside in
-    let lines : PolicyLines = record { default = inside.default; exact = lines_in inside.exact; prefixes = lines_in inside.prefixes; allows = inside.allows } in
+    let lines : PolicyLines = record { default = inside.default; exact = lines_in inside.exact; prefixes = inside.prefixes; allows = inside.allows } in
     seen inside.default lines c.args.self.now c.bytes-name.result c.args.name.bytes
     (default_used lines c.bytes-name.result.now inside.exact.entries refl c.in_default.ensures.value c.in-None.ensures) c.self.view_is c.bytes-name.ensures.same

@@ -1,0 +1,281 @@
+// The area in plain Rust, for comparison: the same words, loads and stores, sequentially consistent, and the same walk and
+// checks of names. `plain read|absent|put NAMES N`; and `plain map|map_absent NAMES N`, which reads a hash map behind a lock for
+// reading.
+use std::cmp::Ordering;
+use std::collections::HashMap;
+use std::sync::atomic::{AtomicU64, Ordering::SeqCst};
+use std::sync::RwLock;
+
+const BACKUP: usize = 4;
+
+struct Area {
+    words: Vec<AtomicU64>,
+}
+
+fn is_name_byte(b: u8) -> bool {
+    b.is_ascii_alphanumeric() || matches!(b, b'.' | b'-' | b'_' | b'@' | b':')
+}
+
+fn is_legal(name: &[u8]) -> bool {
+    let mut before = b'.';
+    for &b in name {
+        if !is_name_byte(b) || (b == b'.' && before == b'.') {
+            return false;
+        }
+        before = b;
+    }
+    (1..=255).contains(&name.len()) && before != b'.'
+}
+
+fn word_of(value: &[u8], k: usize) -> u64 {
+    let mut bytes = [0u8; 8];
+    for j in 0..8 {
+        if 8 * k + j < value.len() {
+            bytes[j] = value[8 * k + j];
+        }
+    }
+    u64::from_le_bytes(bytes)
+}
+
+enum End {
+    Cell(usize),
+    NoCell(usize),
+    NoNode(usize, usize),
+}
+
+impl Area {
+    fn load(&self, at: usize) -> u64 {
+        self.words[at].load(SeqCst)
+    }
+
+    fn store(&self, at: usize, word: u64) {
+        self.words[at].store(word, SeqCst)
+    }
+
+    fn compare(&self, place: usize, part: &[u8]) -> Ordering {
+        let len = self.load(place) as usize;
+        if part.len() != len {
+            return part.len().cmp(&len);
+        }
+        for k in 0..len.div_ceil(8) {
+            let a = word_of(part, k).swap_bytes();
+            let b = self.load(place + 5 + k).swap_bytes();
+            if a != b {
+                return a.cmp(&b);
+            }
+        }
+        Ordering::Equal
+    }
+
+    fn search(&self, name: &[u8]) -> End {
+        let mut from = 0;
+        let mut link = 1;
+        loop {
+            let rest = &name[from..];
+            let len = rest.iter().position(|&b| b == b'.').unwrap_or(rest.len());
+            let place = loop {
+                let place = self.load(link) as usize;
+                if place == 0 {
+                    return End::NoNode(link, from);
+                }
+                match self.compare(place, &rest[..len]) {
+                    Ordering::Less => link = place + 1,
+                    Ordering::Greater => link = place + 2,
+                    Ordering::Equal => break place,
+                }
+            };
+            let end = from + len;
+            if end == name.len() {
+                return match self.load(place + 4) as usize {
+                    0 => End::NoCell(place + 4),
+                    cell => End::Cell(cell),
+                };
+            }
+            from = end + 1;
+            link = place + 3;
+        }
+    }
+
+    fn read(&self, name: &[u8], out: &mut [u8; 91]) -> Option<bool> {
+        let End::Cell(cell) = self.search(name) else {
+            return Some(false);
+        };
+        let first = self.load(cell);
+        let base = if first % 2 == 1 { BACKUP } else { cell + 1 };
+        let mut words = [0; 12];
+        for k in 0..12 {
+            words[k] = self.load(base + k);
+        }
+        if self.load(cell) != first {
+            return None;
+        }
+        for k in 0..12 {
+            let bytes = words[k].to_le_bytes();
+            for j in 0..8 {
+                if 8 * k + j < 91 {
+                    out[8 * k + j] = bytes[j];
+                }
+            }
+        }
+        Some(true)
+    }
+
+    fn write_cell(&self, cell: usize, number: u64, value: &[u8]) {
+        let clean = self.load(cell);
+        let mut old = [0; 12];
+        for k in 0..12 {
+            old[k] = self.load(cell + 1 + k);
+        }
+        for k in 0..12 {
+            self.store(BACKUP + k, old[k]);
+        }
+        self.store(cell, clean + 1);
+        for k in 0..12 {
+            self.store(cell + 1 + k, word_of(value, k));
+        }
+        self.store(cell, ((value.len() as u64) << 56) + number * 2);
+    }
+
+    fn add(&self, end: End, name: &[u8], number: u64, value: &[u8], mark: usize) -> usize {
+        let mut place = mark;
+        let mut top = 0;
+        if let End::NoCell(link) = end {
+            top = link;
+        }
+        if let End::NoNode(mut link, mut from) = end {
+            loop {
+                let rest = &name[from..];
+                let len = rest.iter().position(|&b| b == b'.').unwrap_or(rest.len());
+                let part = &rest[..len];
+                self.store(place, len as u64);
+                for k in 1..5 {
+                    self.store(place + k, 0);
+                }
+                for k in 0..len.div_ceil(8) {
+                    self.store(place + 5 + k, word_of(part, k));
+                }
+                self.store(link, place as u64);
+                let node = place;
+                place += 5 + len.div_ceil(8);
+                if from + len == name.len() {
+                    top = node + 4;
+                    break;
+                }
+                from += len + 1;
+                link = node + 3;
+            }
+        }
+        self.store(place, ((value.len() as u64) << 56) + number * 2);
+        for k in 0..12 {
+            self.store(place + 1 + k, word_of(value, k));
+        }
+        self.store(top, place as u64);
+        place + 13
+    }
+}
+
+struct Writer<'a> {
+    area: &'a Area,
+    count: u64,
+    mark: usize,
+}
+
+impl Writer<'_> {
+    fn needs(&self, name: &[u8]) -> usize {
+        match self.area.search(name) {
+            End::Cell(_) => 0,
+            End::NoCell(_) => 13,
+            End::NoNode(_, from) => {
+                13 + name[from..].split(|&b| b == b'.').map(|p| 5 + p.len().div_ceil(8)).sum::<usize>()
+            }
+        }
+    }
+
+    #[inline(never)]
+    fn set(&mut self, name: &[u8], value: &[u8]) {
+        if !is_legal(name) || value.len() > 91 || std::str::from_utf8(value).is_err() {
+            return;
+        }
+        if self.mark + self.needs(name) > self.area.words.len() {
+            return;
+        }
+        let number = self.count + 1;
+        match self.area.search(name) {
+            End::Cell(cell) => self.area.write_cell(cell, number, value),
+            end => self.mark = self.area.add(end, name, number, value, self.mark),
+        }
+        self.area.store(0, number);
+        self.count = number;
+    }
+}
+
+fn top(place: usize) -> &'static str {
+    ["ro", "persist", "sys", "vendor", "init", "debug", "dalvik", "wifi"][place % 8]
+}
+
+fn names_of(count: usize, end: &str) -> Vec<String> {
+    (0..count)
+        .map(|k| {
+            let place = k * 7919 % count;
+            format!("{}.part{}.key{place}{end}", top(place), place / 8 % 50)
+        })
+        .collect()
+}
+
+#[inline(never)]
+fn read(area: &Area, name: &str, out: &mut [u8; 91]) -> Option<bool> {
+    if !is_legal(name.as_bytes()) {
+        return None;
+    }
+    area.read(name.as_bytes(), out)
+}
+
+type Map = RwLock<HashMap<String, ([u8; 91], usize)>>;
+
+#[inline(never)]
+fn look_up(map: &Map, name: &str, out: &mut [u8; 91]) -> Option<bool> {
+    if !is_legal(name.as_bytes()) {
+        return None;
+    }
+    match map.read().unwrap().get(name) {
+        Some((value, _)) => {
+            out.copy_from_slice(value);
+            Some(true)
+        }
+        None => Some(false),
+    }
+}
+
+fn main() {
+    let words: Vec<String> = std::env::args().collect();
+    let kind = words[1].as_str();
+    let count: usize = words[2].parse().unwrap();
+    let calls: usize = words[3].parse().unwrap();
+    let value = b"a value of middling length";
+    let names = names_of(count, "");
+    let asked = if kind.ends_with("absent") { names_of(count, "x") } else { names.clone() };
+    let mut out = [0; 91];
+    let wanted = Some(!kind.ends_with("absent"));
+    if kind.starts_with("map") {
+        let mut kept = [0; 91];
+        kept[..value.len()].copy_from_slice(value);
+        let map: Map = RwLock::new(names.iter().map(|n| (n.clone(), (kept, value.len()))).collect());
+        let whole = (0..calls).filter(|k| look_up(&map, &asked[k % count], &mut out) == wanted).count();
+        println!("{whole}");
+        return;
+    }
+    let area = Area { words: (0..1_048_576).map(|_| AtomicU64::new(0)).collect() };
+    let mut writer = Writer { area: &area, count: 0, mark: 16 };
+    for name in &names {
+        writer.set(name.as_bytes(), value);
+    }
+    if kind == "put" {
+        for k in 0..calls {
+            writer.set(names[k % count].as_bytes(), value);
+        }
+        println!("{}", writer.count - count as u64);
+        return;
+    }
+    let whole = (0..calls).filter(|k| read(&area, &asked[k % count], &mut out) == wanted).count();
+    println!("{whole}");
+}

@@ -1,0 +1,86 @@
+-- The command takes words of a form, and they are UTF-8.
+use Rattle.std.proofs.Common.{◌≡◌, ℕ, Bool, true, false, List, [], ◌∷◌, ◌&&◌, codes, Option, Some, None, refl, sym, subst}
+use Rattle.std.specs.Prelude.{IsSome, ◌==◌, not, if◌then◌else◌}
+use Rattle.std.specs.List.{list_all}
+use Rattle.std.specs.Str.{bytes_eq, is_utf8}
+use Rattle.std.proofs.lemmas.Bool.{and_parts}
+use Rattle.std.proofs.lemmas.Slice.Eq.{bytes_eq-Decides}
+use Rattle.clap.specs.Words.{takes}
+use Rattle.clap.proofs.OnLiterals.{clap_on_literals}
+use Rattle.init_words.specs.Command.{app}
+use Rattle.init_words.specs.Form.{form_of, is_path_word}
+
+some_where : {T : Type 0} (b : Bool) (x : T) → IsSome (if b then Some x else None) → b ≡ true
+some_where true x h = refl
+some_where false x h = h
+
+not_true : (b : Bool) → not b ≡ true → b ≡ false
+not_true true h = sym h
+not_true false h = refl
+
+not_dash : (byte : ℕ) (rest : List ℕ) → is_path_word (byte ∷ rest) ≡ true → (byte == 45) ≡ false
+not_dash byte rest h = not_true (byte == 45) (and_parts (not (byte == 45)) (is_utf8 (byte ∷ rest)) h).0
+
+check_taken : (root : List ℕ) → is_path_word root ≡ true → takes app (codes "check" ∷ root ∷ []) ≡ true
+unfolding clap_on_literals
+check_taken [] h = cc
+check_taken (byte ∷ rest) h =
+    let plain = not_dash byte rest h in
+    simp plain refl
+
+run_taken : (root script : List ℕ) → is_path_word root ≡ true → is_path_word script ≡ true
+    → takes app (codes "run" ∷ root ∷ script ∷ []) ≡ true
+unfolding clap_on_literals
+run_taken [] script h k = cc
+run_taken (byte ∷ rest) [] h k = cc
+run_taken (byte ∷ rest) (other ∷ more) h k =
+    let plain = not_dash byte rest h in
+    let plain2 = not_dash other more k in
+    simp (plain, plain2) refl
+
+-- the command takes words of a form
+pub form_taken : (words : List (List ℕ)) → IsSome (form_of words) → takes app words ≡ true
+form_taken [] h = cc
+form_taken (word ∷ []) h = cc
+form_taken (word ∷ root ∷ []) h =
+    let both = and_parts (bytes_eq word (codes "check")) (is_path_word root) (some_where _ _ h) in
+    let named : word ≡ codes "check" = (bytes_eq-Decides word (codes "check")).0 both.0 in
+    subst (λ w. takes app (w ∷ root ∷ []) ≡ true) (sym named) (check_taken root both.1)
+form_taken (word ∷ root ∷ script ∷ []) h =
+    let all = and_parts (bytes_eq word (codes "run") && is_path_word root) (is_path_word script) (some_where _ _ h) in
+    let both = and_parts (bytes_eq word (codes "run")) (is_path_word root) all.0 in
+    let named : word ≡ codes "run" = (bytes_eq-Decides word (codes "run")).0 both.0 in
+    subst (λ w. takes app (w ∷ root ∷ script ∷ []) ≡ true) (sym named) (run_taken root script both.1 all.1)
+form_taken (word ∷ root ∷ script ∷ more ∷ rest) h = cc
+
+path_utf8 : (word : List ℕ) → is_path_word word ≡ true → is_utf8 word ≡ true
+path_utf8 [] h = cc
+path_utf8 (byte ∷ rest) h = (and_parts (not (byte == 45)) (is_utf8 (byte ∷ rest)) h).1
+
+run_utf8 : is_utf8 (codes "run") ≡ true
+unfolding clap_on_literals is_utf8
+run_utf8 = refl
+
+check_utf8 : is_utf8 (codes "check") ≡ true
+unfolding clap_on_literals is_utf8
+check_utf8 = refl
+
+-- words of a form are UTF-8
+pub form_utf8 : (words : List (List ℕ)) → IsSome (form_of words) → list_all is_utf8 words ≡ true
+form_utf8 [] h = cc
+form_utf8 (word ∷ []) h = cc
+form_utf8 (word ∷ root ∷ []) h =
+    let both = and_parts (bytes_eq word (codes "check")) (is_path_word root) (some_where _ _ h) in
+    let named : word ≡ codes "check" = (bytes_eq-Decides word (codes "check")).0 both.0 in
+    let first : is_utf8 word ≡ true = subst (λ w. is_utf8 w ≡ true) (sym named) check_utf8 in
+    let second : is_utf8 root ≡ true = path_utf8 root both.1 in
+    rw (first, second) refl
+form_utf8 (word ∷ root ∷ script ∷ []) h =
+    let all = and_parts (bytes_eq word (codes "run") && is_path_word root) (is_path_word script) (some_where _ _ h) in
+    let both = and_parts (bytes_eq word (codes "run")) (is_path_word root) all.0 in
+    let named : word ≡ codes "run" = (bytes_eq-Decides word (codes "run")).0 both.0 in
+    let first : is_utf8 word ≡ true = subst (λ w. is_utf8 w ≡ true) (sym named) run_utf8 in
+    let second : is_utf8 root ≡ true = path_utf8 root both.1 in
+    let third : is_utf8 script ≡ true = path_utf8 script all.1 in
+    rw (first, second, third) refl
+form_utf8 (word ∷ root ∷ script ∷ more ∷ rest) h = cc

@@ -1,0 +1,32 @@
+-- The command that the words are read by, as `clap` sees it.
+use Rattle.std.specs.Prelude.{ℕ, true, List, codes, Some}
+use Rattle.clap.specs.Words.{App, Rule, new_app, new_rule, with_rule, with_subcommand}
+use Rattle.clap.specs.declared.builder.ArgAction.TheVariants.{Set}
+
+-- a path that has to be given
+abbrev pub path_rule : List ℕ → Rule
+path_rule id = record (new_rule id) { required = true; action = Some Set }
+
+-- `run ROOT SCRIPT`
+abbrev pub run_app : App
+run_app = with_rule (with_rule (new_app (codes "run")) (path_rule (codes "ROOT"))) (path_rule (codes "SCRIPT"))
+
+-- `check ROOT`
+abbrev pub check_app : App
+check_app = with_rule (new_app (codes "check")) (path_rule (codes "ROOT"))
+
+-- what holds of both: no program's name stands before the words, one of the two is named, and there is neither help nor
+-- version
+abbrev pub bare_of : App → App
+bare_of a = record a {
+  top = record a.top {
+    no_binary_name = true;
+    disable_help_flag = true;
+    disable_help_subcommand = true;
+    disable_version_flag = true;
+    subcommand_required = true;
+  };
+}
+
+abbrev pub app : App
+app = with_subcommand (with_subcommand (bare_of (new_app (codes "initsim"))) run_app.top) check_app.top

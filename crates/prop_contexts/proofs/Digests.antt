@@ -1,0 +1,116 @@
+-- The digests of texts and of the fronts of a text, and which names have a line.
+use Rattle.std.proofs.Common.{◌≡◌, ℕ, ◌+◌, ◌<◌, ◌≤◌, Bool, true, false, ◌||◌, nat_eq, List, [], ◌∷◌, ◌++◌, take, refl, ap, sym, ◌∙◌, Vec, if◌then◌else◌, arith}
+use Rattle.std.proofs.lemmas.Grind.{common_steps}
+use Rattle.std.proofs.lemmas.Bool.{eqb-true, eq-eqb, false_from_ne_true, true≢false}
+use Rattle.std.proofs.lemmas.List.Folds.{list_any-append}
+use Rattle.std.specs.Cmp.Lexicographic.{bytes_decides}
+use Rattle.std.specs.List.{list_any}
+use Rattle.std.specs.Str.{bytes_eq}
+use Rattle.indexmap.specs.IndexMap.{insert_entry}
+use Rattle.indexmap.specs.IndexSet.{insert_key}
+use Rattle.init_machine.specs.Policy.{ContextLine}
+use Rattle.init_machine.specs.declared.policy.Context.{Context}
+use Rattle.prop_contexts.specs.Digests.{digest_of, HaveDigests}
+use Rattle.prop_contexts.specs.NameLines.{has_name}
+use Rattle.prop_contexts.proofs.Entries.{entry_lines}
+
+-- ---- names
+
+same_name : (xs ys : List ℕ) → bytes_eq xs ys ≡ true → xs ≡ ys
+same_name xs ys same = (bytes_decides xs ys).0 same
+
+shuffled : (e k rest : Bool) → (e || (k || rest)) ≡ (k || (e || rest))
+shuffled true true rest = refl
+shuffled true false rest = refl
+shuffled false k rest = refl
+
+twice : (k rest : Bool) → (k || rest) ≡ (k || (k || rest))
+twice true rest = refl
+twice false rest = refl
+
+-- the names that have a line, when a line more is put
+pub names_put : {A : Type 0} (entries : List (Vec ℕ A × Context)) (key : Vec ℕ A) (context : Context) (other : List ℕ)
+    → has_name (entry_lines (insert_entry (λ x y. bytes_eq x.items y.items) entries key context)) other ≡ (bytes_eq other key.items || has_name (entry_lines entries) other)
+names_put [] key context other = refl
+names_put {A} (entry ∷ entries) key context other = by (bytes_eq key.items entry.0.items) refl (names_put entries key context other)
+  where
+    rest : List (Vec ℕ A × Context)
+    rest = insert_entry (λ x y. bytes_eq x.items y.items) entries key context
+
+    by : (v : Bool) → bytes_eq key.items entry.0.items ≡ v → has_name (entry_lines rest) other ≡ (bytes_eq other key.items || has_name (entry_lines entries) other)
+        → has_name (entry_lines (if v then (entry.0, context) ∷ entries else entry ∷ rest)) other ≡ (bytes_eq other key.items || has_name (entry_lines (entry ∷ entries)) other)
+    by true same more =
+        let key_is : bytes_eq other key.items ≡ bytes_eq other entry.0.items = ap (bytes_eq other) (same_name key.items entry.0.items same) in
+        twice (bytes_eq other entry.0.items) (has_name (entry_lines entries) other)
+        ∙ ap (λ b. b || (bytes_eq other entry.0.items || has_name (entry_lines entries) other)) (sym key_is)
+    by false differ more =
+        ap (λ b. bytes_eq other entry.0.items || b) more
+        ∙ shuffled (bytes_eq other entry.0.items) (bytes_eq other key.items) (has_name (entry_lines entries) other)
+
+-- ---- digests
+
+still_there : (digests : List ℕ) (digest other : ℕ) → list_any (nat_eq other) digests ≡ true → list_any (nat_eq other) (insert_key nat_eq digests digest) ≡ true
+still_there digests digest other there =
+    elim (list_any (nat_eq digest) digests) as (λ b. list_any (nat_eq other) (if b then digests else digests ++ digest ∷ []) ≡ true) [
+      | true ↦ there
+      | false ↦ list_any-append (nat_eq other) digests (digest ∷ []) ∙ ap (λ b. b || (nat_eq other digest || false)) there
+    ]
+
+or_true : (b : Bool) → (b || true) ≡ true
+or_true true = refl
+or_true false = refl
+
+now_there : (digests : List ℕ) (digest : ℕ) → list_any (nat_eq digest) (insert_key nat_eq digests digest) ≡ true
+now_there digests digest = by (list_any (nat_eq digest) digests) refl
+  where
+    by : (v : Bool) → list_any (nat_eq digest) digests ≡ v → list_any (nat_eq digest) (if v then digests else digests ++ digest ∷ []) ≡ true
+    by true there = there
+    by false absent =
+        list_any-append (nat_eq digest) digests (digest ∷ [])
+        ∙ ap (λ b. list_any (nat_eq digest) digests || (b || false)) (eq-eqb digest digest refl)
+        ∙ or_true (list_any (nat_eq digest) digests)
+
+-- a digest more does no harm
+pub digest_more : (lines : List ContextLine) (digests more : List ℕ) (digest : ℕ) → more ≡ insert_key nat_eq digests digest → HaveDigests lines digests → HaveDigests lines more
+digest_more lines digests more digest is have name there =
+    ap (list_any (nat_eq (digest_of name))) is ∙ still_there digests digest (digest_of name) (have name there)
+
+-- a line more, whose digest is there
+pub line_more : (lines new : List ContextLine) (digests more : List ℕ) (key : List ℕ) → HaveDigests lines digests → more ≡ insert_key nat_eq digests (digest_of key)
+    → ((other : List ℕ) → has_name new other ≡ (bytes_eq other key || has_name lines other)) → HaveDigests new more
+line_more lines new digests more key have is names name there = by (bytes_eq name key) refl (sym (names name) ∙ there)
+  where
+    by : (v : Bool) → bytes_eq name key ≡ v → (v || has_name lines name) ≡ true → list_any (nat_eq (digest_of name)) more ≡ true
+    by true same h =
+        ap (list_any (nat_eq (digest_of name))) is
+        ∙ ap (λ t. list_any (nat_eq (digest_of t)) (insert_key nat_eq digests (digest_of key))) (same_name name key same)
+        ∙ now_there digests (digest_of key)
+    by false differ h = digest_more lines digests more (digest_of key) is have name h
+
+-- a name whose digest isn't there has no line
+no_line : (lines : List ContextLine) (digests : List ℕ) (name : List ℕ) (digest : ℕ) → HaveDigests lines digests → digest ≡ digest_of name
+    → list_any (nat_eq digest) digests ≡ false → has_name lines name ≡ false
+no_line lines digests name digest have is none = false_from_ne_true (has_name lines name) (λ there.
+    true≢false (sym (have name there) ∙ ap (λ d. list_any (nat_eq d) digests) (sym is) ∙ none))
+
+-- ---- fronts
+
+-- of the fronts of at most so many bytes, none that is longer has a line
+abbrev pub IsLongest : List ContextLine → List ℕ → ℕ → ℕ → Type 0
+IsLongest lines name known i = (n : ℕ) → known < n → n ≤ i → has_name lines (take n name) ≡ false
+
+below_last : (n i : ℕ) → nat_eq n (i + 1) ≡ false → n ≤ i + 1 → n ≤ i
+below_last n i differ less = grind (arith, common_steps)
+
+pub front_more : (lines : List ContextLine) (digests : List ℕ) (name : List ℕ) (i known digest : ℕ) → HaveDigests lines digests → digest ≡ digest_of (take (i + 1) name) → known ≤ i
+    → IsLongest lines name known i → IsLongest lines name (if list_any (nat_eq digest) digests then i + 1 else known) (i + 1)
+front_more lines digests name i known digest have is within longest n = by (list_any (nat_eq digest) digests) refl
+  where
+    last : list_any (nat_eq digest) digests ≡ false → (v : Bool) → nat_eq n (i + 1) ≡ v → known < n → n ≤ i + 1 → has_name lines (take n name) ≡ false
+    last none true same more less =
+        ap (λ k. has_name lines (take k name)) (eqb-true n (i + 1) same) ∙ no_line lines digests (take (i + 1) name) digest have is none
+    last none false differ more less = longest n more (below_last n i differ less)
+
+    by : (v : Bool) → list_any (nat_eq digest) digests ≡ v → (if v then i + 1 else known) < n → n ≤ i + 1 → has_name lines (take n name) ≡ false
+    by true there more less = absurd (omega (arith, more, less))
+    by false none more less = last none (nat_eq n (i + 1)) refl more less

@@ -1,0 +1,16 @@
+use Rattle.std.proofs.Common.{sym, ap, ◌∙◌}
+use Rattle.atomic_table.specs.Seated.{TableId}
+use Rattle.init_machine.specs.Props.{full_for}
+use Rattle.property_area.specs.Seats.{Seated, store_of}
+use Rattle.property_area.proofs.Looking.{room_told}
+use Rattle.property_area.proofs.writer.AreaWriterPropStore.room.Goals as goal
+
+pub returns-clause-full : goal.returns-clause-full
+returns-clause-full c =
+    let v = c.self.inside.seat.me.0 in
+    let name = c.args.name.bytes.now in
+    let own = c.self.invariant in
+    c.check_room.ensures
+    ∙ room_told v name c.need_if_new-need.result c.self.inside.used c.words.result c.self.inside.count c.need_if_new-need.ensures.need own.3
+    (c.words.ensures ∙ sym (own.2.wide ∙ ap (λ (t : TableId). t.words) own.0)) own.4
+    ∙ ap (λ (s : Seated). full_for (store_of s.view) name) c.self.view_is

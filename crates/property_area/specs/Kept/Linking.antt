@@ -1,0 +1,232 @@
+-- The link to a new cell, with which the set is accepted, keeps the rule of the area.
+use Rattle.std.proofs.Common.{◌≡◌, ◌≢◌, ℕ, suc, ◌+◌, ◌<◌, ◌≤◌, ◌^◌, List, [], ◌∷◌, ◌++◌, length, get_or, set, Option, None, sym, refl, ap, ◌∙◌, subst, inr, ⊎_elim, arith, length-append, length-set, get_or-set_other}
+use Rattle.atomic_table.specs.Table.{Me, Allows, keeps, stepped}
+use Rattle.init_machine.specs.Serial.{top_byte, clean_serial, rank}
+use Rattle.init_machine.specs.Sets.{Set}
+use Rattle.serial_value.specs.declared.view.Making.{Making}
+use Rattle.serial_value.specs.Words.{IsValue}
+use Rattle.serial_value.specs.Cell.{sets_of}
+use Rattle.serial_value.specs.World.{Moved, Later}
+use Rattle.serial_value.specs.World.Moved.{stays, accepted as accepts_set}
+use Rattle.serial_value.specs.One.{CellHolds, done_of, new_value}
+use Rattle.serial_value.specs.Kept.Serials.{rank-clean}
+use Rattle.property_trie.specs.Parts.{parts_of}
+use Rattle.property_trie.specs.Tree.{Tree, find, depth, with_cell as tree_with_cell, Extends}
+use Rattle.property_trie.specs.Places.{InCell}
+use Rattle.property_trie.specs.Walk.{EndsAt}
+use Rattle.property_trie.specs.TrieSteps.{tree_of}
+use Rattle.property_trie.specs.Additions.{IsAdding, tree_with, free_place, mark_of, new_cell, new_cell_word, with_added}
+use Rattle.property_trie.specs.Held.{AdditionStands}
+use Rattle.property_trie.proofs.Names.{first_part, same_name}
+use Rattle.property_trie.proofs.Growth.{find-grown, find-with_cell_other, find-with_cell_same}
+use Rattle.property_trie.proofs.Extending.{extends-with_cell}
+use Rattle.property_trie.proofs.Walks.{ends_deep}
+use Rattle.property_trie.proofs.Cells.{ends_in}
+use Rattle.property_trie.proofs.Frames.{InNodes}
+use Rattle.property_trie.proofs.Loads.{seat_extends}
+use Rattle.property_trie.proofs.Placed.{tree_is, in_tree, cell_stored, cell_words}
+use Rattle.property_area.specs.declared.view.AreaView.{AreaView}
+use Rattle.property_area.specs.Area.{tree_now, made_on, word_at, serial_in, CellStands, MayMake, Moment, world_of, WordsHold, ViewHolds, AreaHolds, with_cell, with_trie, Settled}
+use Rattle.property_area.specs.Kept.Making.{same_or_other}
+use Rattle.property_area.specs.Kept.Trees.{word_is, word_else, none_word}
+use Rattle.property_area.specs.Kept.Sets.{others_none, last_longer}
+use Rattle.property_area.specs.Kept.Frame.{Mine, clients_later, After, writes}
+use Rattle.property_area.specs.Kept.CellStores.{own_lies, stands_beside}
+use Rattle.property_area.specs.Kept.Accepting.{new_last, new_later, new_legal}
+use Rattle.property_area.specs.Kept.Walks.{known_more}
+use Rattle.property_area.specs.Kept.Fresh.{adder, added_so_far, tree_before}
+
+module _ (words : List ℕ) (m : Moment) (h : WordsHold words m) (id : ℕ) (v : AreaView) (view : ViewHolds words m id v) (name value : List ℕ) (linked link : ℕ)
+    (adds : IsAdding v.cell v.trie name linked (new_cell (length m.sets + 1) value)) (settled : Settled v) (legal : IsValue value) (few : length m.sets + 1 < 2 ^ 55)
+    (ends : EndsAt (tree_with m.sets name linked) (parts_of name) link) where
+  abbrev fresh : List ℕ
+  fresh = new_cell (length m.sets + 1) value
+
+  abbrev ps : List (List ℕ)
+  ps = parts_of name
+
+  abbrev tree : Tree
+  tree = tree_with m.sets name linked
+
+  abbrev pub free : ℕ
+  free = free_place m.sets name linked
+
+  abbrev pub more : List Set
+  more = m.sets ++ (name, value) ∷ []
+
+  abbrev pub words' : List ℕ
+  words' = set words link free
+
+  abbrev pub m' : Moment
+  m' = record m { sets = more; adding = None }
+
+  pub known : Mine words m id v (sets_of v.cell) None
+  known = adder words m h id v view name linked fresh adds
+
+  so_far : AdditionStands words m.sets name linked fresh
+  so_far = added_so_far words m h id v view name linked fresh adds
+
+  absent : find (tree_of m.sets) ps ≡ 0
+  absent = subst (λ (s : List Set). find (tree_of s) ps ≡ 0) known.sets_are adds.absent
+
+  later_tree : tree_of more ≡ tree_with_cell tree ps free
+  later_tree = tree_is words m.sets name value linked link so_far absent ends
+
+  -- the tree that the link stands in has no cell of the name either
+  grown_absent : find tree ps ≡ 0
+  grown_absent = find-grown linked (tree_of m.sets) ps (mark_of m.sets) ps ∙ absent
+
+  found_other : (q : List ℕ) → q ≢ name → find (tree_of more) (parts_of q) ≡ find (tree_of m.sets) (parts_of q)
+  found_other q other =
+      ap (λ (t : Tree). find t (parts_of q)) later_tree
+      ∙ find-with_cell_other tree ps free (parts_of q) (λ same. other (same_name q name same))
+      ∙ find-grown linked (tree_of m.sets) ps (mark_of m.sets) (parts_of q)
+
+  found_new : find (tree_of more) ps ≡ free
+  found_new =
+      let first = first_part name in
+      let deep : depth tree ps ≡ length ps = ends_deep tree ps link ends in
+      ap (λ (t : Tree). find t ps) later_tree
+      ∙ subst (λ (qs : List (List ℕ)). depth tree qs ≡ length qs → find (tree_with_cell tree qs free) qs ≡ free) (sym first.2) (find-with_cell_same tree first.0 first.1 free) deep
+
+  high : 16 ≤ free
+  high = let low = (in_tree words m.sets name value linked link so_far absent ends).0 in let below = (in_tree words m.sets name value linked link so_far absent ends).1 in omega arith
+
+  link_low : 16 ≤ link
+  link_low = (in_tree words m.sets name value linked link so_far absent ends).0
+
+  -- the link stands in no cell
+  outside : (q : List ℕ) → InCell (find (tree_of m.sets) (parts_of q)) link → ⊥
+  outside q is = (own_lies words m h q link is).2 (subst (λ (t : Tree). InNodes t link) (sym (tree_before words m h id v view name linked fresh adds)) (ends_in tree ps link ends))
+
+  head_else : (j : ℕ) → j < 16 → get_or words' j 0 ≡ get_or words j 0
+  head_else j small = get_or-set_other words link j free 0 (λ e. let l = link_low in omega arith)
+
+  spelt : (k : ℕ) → k < 13 → get_or words' (free + k) 0 ≡ new_cell_word (length m.sets + 1) value k
+  spelt k small = cell_words words m.sets name value linked link so_far absent ends k small
+
+  first_word : get_or words' free 0 ≡ clean_serial (top_byte value) (length m.sets + 1)
+  first_word = let e : free ≡ free + 0 = omega arith in ap (λ (j : ℕ). get_or words' j 0) e ∙ spelt 0 (omega arith)
+
+  own : CellStands words' more m.making name
+  own = record {
+    number = length m.sets + 1;
+    value = value;
+    last = new_last m.sets name value;
+    cell = subst (λ (x : ℕ × Option Making). CellHolds words' x.0 (length m.sets + 1) value (new_value (made_on name x.1)) (done_of (made_on name x.1))) (λ i. (sym found_new i, known.making_is i)) record {
+      clean = λ d. first_word;
+      dirty = λ d. absurd (omega arith);
+      backup = λ k short d. absurd (omega arith);
+      stored = λ k short d. absurd (omega arith);
+      kept = λ k short d. let e : free + 1 + k ≡ free + suc k = omega arith in ap (λ (j : ℕ). get_or words' j 0) e ∙ spelt (suc k) (omega arith);
+    };
+  }
+
+  other_cell : (q : List ℕ) → q ≢ name → find (tree_of m.sets) (parts_of q) ≢ 0 → CellStands words' more m.making q
+  other_cell q other some_q =
+      let old = stands_beside words link free m.sets m.making q some_q (outside q) (λ k small e. let l = link_low in omega arith) (h.cells q some_q) in record {
+        number = old.number;
+        value = old.value;
+        last = last_longer m.sets ((name, value) ∷ []) q old.number old.value old.last (others_none m.sets name value q other);
+        cell = subst (λ (p : ℕ). CellHolds words' p old.number old.value (new_value (made_on q m.making)) (done_of (made_on q m.making))) (sym (found_other q other)) old.cell;
+      }
+
+  count : length more ≡ length m.sets + 1
+  count = length-append m.sets ((name, value) ∷ [])
+
+  head_now : m.head ≡ length m.sets
+  head_now = sym known.head_is ∙ settled ∙ ap (λ (s : List Set). length s) known.sets_are
+
+  holds : WordsHold words' m'
+  holds = record {
+    few = let n = count in omega arith;
+    legal = new_legal m.sets name value h.legal legal;
+    head = head_else 0 (omega arith) ∙ h.head;
+    late = inr (let n = count in let e = head_now in omega arith);
+    empty = (head_else 2 (omega arith) ∙ h.empty.0, head_else 3 (omega arith) ∙ h.empty.1);
+    trie = cell_stored words m.sets name value linked link so_far absent ends;
+    made = subst (λ (o : Option Making). MayMake more o) known.making_is tt;
+    cells = λ q some_q. ⊎_elim
+        (λ (is_name : q ≡ name). subst (λ (x : List ℕ). CellStands words' more m.making x) (sym is_name) own)
+        (λ (other : q ≢ name). other_cell q other (λ e. some_q (found_other q other ∙ e)))
+        (same_or_other q name);
+  }
+
+  ranks : rank (serial_in words m.sets name) < rank (serial_in words' more name)
+  ranks =
+      let old = ap rank (none_word words (find (tree_of m.sets) ps) absent) in
+      let f = high in
+      let is : serial_in words' more name ≡ clean_serial (top_byte value) (length m.sets + 1) = ap (word_at words') found_new ∙ word_is words' free (λ e. omega arith) ∙ first_word in
+      let new = ap rank is ∙ rank-clean (top_byte value) (length m.sets + 1) few in
+      omega arith
+
+  moves : (q : List ℕ) → Moved (world_of words m) (world_of words' m') q
+  moves q = ⊎_elim
+      (λ (is_name : q ≡ name). subst (Moved (world_of words m) (world_of words' m')) (sym is_name) (accepts_set ranks (new_later m.sets name value (length m.sets) (omega arith))))
+      (λ (other : q ≢ name). stays
+      (ap (word_at words') (found_other q other) ∙ word_else words link free (find (tree_of m.sets) (parts_of q)) (outside q))
+      (others_none m.sets name value q other))
+      (same_or_other q name)
+
+  later : Later (world_of words m) (world_of words' m')
+  later = record {
+    more = (name, value) ∷ [];
+    grown = refl;
+    kept = λ q low within e. inr e;
+    moves = moves;
+  }
+
+  extends : Extends (tree_now m.sets m.adding) (tree_of more)
+  extends = subst (λ (x : Tree × Tree). Extends x.0 x.1) (λ i. (sym (tree_before words m h id v view name linked fresh adds) i, sym later_tree i)) (extends-with_cell tree ps free grown_absent)
+
+  pub after : After words m words' m'
+  after = record { wide = length-set words link free; holds = holds; later = later; extends = extends; writer = refl }
+
+  abbrev pub added_view : AreaView
+  added_view = with_added with_cell with_trie v.cell v.trie v name value free
+
+  pub own_view : ViewHolds words' m' id added_view
+  own_view =
+      let stands = seat_extends (tree_now m.sets m.adding) (tree_of more) v.trie extends view.trie in record {
+        width = view.width ∙ sym (length-set words link free);
+        trie = record {
+          known = known_more (tree_of more) v.trie.known name free (λ e. let f = high in omega arith) found_new stands.known;
+          trail = stands.trail;
+        };
+        part = (
+          known.writes,
+          ap (λ (s : List Set). s ++ (name, value) ∷ []) known.sets_are,
+          known.making_is,
+          refl,
+          known.head_is,
+          clients_later (world_of words m) (world_of words' m') later v.clients known.clients,
+        );
+      }
+
+pub area_linked : (key slots id : ℕ) (m : Me (Unit {0}) AreaView) (name value : List ℕ) (linked link : ℕ)
+    → Settled m.0 → IsAdding m.0.cell m.0.trie name linked (new_cell (length (sets_of m.0.cell) + 1) value) → IsValue value → length (sets_of m.0.cell) + 1 < 2 ^ 55
+    → EndsAt (tree_with (sets_of m.0.cell) name linked) (parts_of name) link
+    → Allows AreaHolds slots id m link (λ _. free_place (sets_of m.0.cell) name linked)
+    (λ _ after. after ≡ (with_added with_cell with_trie m.0.cell m.0.trie m.0 name value (free_place (sets_of m.0.cell) name linked), m.1))
+area_linked key slots id m name value linked link settled adds legal few ends s h size here fits =
+    let words = s.words in
+    let mo = h.moment in
+    let v = m.0 in
+    let view = h.each id v here in
+    let same : sets_of v.cell ≡ mo.sets = (adder words mo h.words id v view name linked (new_cell (length (sets_of v.cell) + 1) value) adds).sets_are in
+    let adds' = subst (λ (x : List Set). IsAdding v.cell v.trie name linked (new_cell (length x + 1) value)) same adds in
+    let few' = subst (λ (x : List Set). length x + 1 < 2 ^ 55) same few in
+    let ends' = subst (λ (x : List Set). EndsAt (tree_with x name linked) (parts_of name) link) same ends in
+    let place : ℕ = free_place mo.sets name linked in
+    let w = with_added with_cell with_trie v.cell v.trie v name value (free_place (sets_of v.cell) name linked) in (
+      w,
+      keeps,
+      tt,
+      subst (λ (x : List Set). AreaHolds (stepped s link (free_place x name linked) id m.1 (with_added with_cell with_trie v.cell v.trie v name value (free_place x name linked)) keeps)) (sym same)
+          (writes s h link place id m.1 (m' words mo h.words id v view name value linked link adds' settled legal few' ends')
+          (added_view words mo h.words id v view name value linked link adds' settled legal few' ends')
+          (after words mo h.words id v view name value linked link adds' settled legal few' ends')
+          (known words mo h.words id v view name value linked link adds' settled legal few' ends').writes
+          (own_view words mo h.words id v view name value linked link adds' settled legal few' ends')),
+      refl,
+    )

@@ -1,0 +1,5 @@
+pub mod Area
+pub mod Seats
+pub mod Readers
+pub mod Meaning
+pub mod Kept

@@ -1,0 +1,131 @@
+-- How clients get a reader's seat and give it back, and what a reader is told.
+use Rattle.std.specs.Prelude.{◌≡◌, ◌≢◌, ℕ, ◌≤◌, Bool, true, false, ◌||◌, ◌==◌, max, List, [], ◌∷◌, ◌++◌, length, take, None, if◌then◌else◌}
+use Rattle.init_machine.specs.Sets.{Set}
+use Rattle.init_machine.specs.Orderly.{ListStands, seen_again}
+use Rattle.init_machine.specs.declared.report.Reading.{Reading}
+use Rattle.init_machine.specs.declared.report.Reading.TheVariants.{Found, Absent, Again, Synced, Caught}
+use Rattle.init_machine.specs.declared.client.ClientItem.TheVariants.{Told}
+use Rattle.serial_value.specs.declared.view.CellView.{CellView}
+use Rattle.serial_value.specs.declared.view.CellView.TheVariants.{Writer, Reader}
+use Rattle.serial_value.specs.Words.{IsValue}
+use Rattle.serial_value.specs.History.{FewAgains}
+use Rattle.property_area.specs.declared.view.Client.{Client}
+use Rattle.property_area.specs.declared.view.AreaView.{AreaView}
+use Rattle.property_area.specs.declared.reader.ReadAnswer.{ReadAnswer}
+use Rattle.property_area.specs.declared.reader.ReadAnswer.TheVariants.{Found as AnswerFound, Absent as AnswerAbsent, Again as AnswerAgain}
+use Rattle.property_area.specs.Area.{with_cell, with_trie, noted}
+use Rattle.property_area.specs.Seats.{sets_in}
+
+-- the client, as it gave its seat back last; one that never had a seat begins with these sets and an empty list
+abbrev pub client_in : List Client → ℕ → List Set → Client
+client_in [] who sets = record { who = who; began = sets; list = [] }
+client_in (c ∷ clients) who sets = if c.who == who then c else client_in clients who sets
+
+-- the other clients
+abbrev pub others_in : List Client → ℕ → List Client
+others_in [] who = []
+others_in (c ∷ clients) who = if c.who == who then others_in clients who else c ∷ others_in clients who
+
+-- the client has a seat
+abbrev pub is_out : List ℕ → ℕ → Bool
+is_out [] who = false
+is_out (o ∷ out) who = o == who || is_out out who
+
+abbrev pub IsIn : AreaView → ℕ → Type 0
+IsIn v who = is_out v.out who ≡ false
+
+-- the clients that have a seat, but for this one
+abbrev pub without : List ℕ → ℕ → List ℕ
+without [] who = []
+without (o ∷ out) who = if o == who then without out who else o ∷ without out who
+
+-- the view of the writer once the client has a seat, and the view of that seat
+abbrev pub handing : ℕ → AreaView → AreaView
+handing who v = record v { clients = others_in v.clients who; out = who ∷ v.out }
+
+abbrev pub handed : ℕ → AreaView → AreaView
+handed who v = let client = client_in v.clients who (sets_in v) in record {
+  cell = Reader (length (sets_in v)) None;
+  who = who;
+  began = client.began;
+  list = client.list;
+  trie = record { live = true; known = []; trail = None; adding = None };
+  words = v.words;
+  head = 0;
+  clients = [];
+  out = [];
+}
+
+-- the client of a reader's seat
+abbrev pub client_of : AreaView → Client
+client_of reader = record { who = reader.who; began = reader.began; list = reader.list }
+
+-- the view of the writer once it has taken the seat of a client in, and the view that the seat is left with
+abbrev pub taking : AreaView → AreaView → AreaView
+taking v reader = record v {
+  clients = client_of reader ∷ others_in v.clients reader.who;
+  out = without v.out reader.who;
+}
+
+abbrev pub spent : ℕ → AreaView
+spent words = record {
+  cell = Reader 0 None;
+  who = 0;
+  began = [];
+  list = [];
+  trie = record { live = false; known = []; trail = None; adding = None };
+  words = words;
+  head = 0;
+  clients = [];
+  out = [];
+}
+
+-- the client was told how many sets there are
+abbrev pub synced : ℕ → AreaView → AreaView
+synced who v = let client = client_in v.clients who (sets_in v) in record v {
+  clients = record client { list = client.list ++ Told (Synced (length (sets_in v))) ∷ [] } ∷ others_in v.clients who;
+}
+
+-- how many sets a reader has seen
+abbrev pub seen_by : CellView → ℕ
+seen_by (Writer sets making) = 0
+seen_by (Reader number copying) = number
+
+-- the reader was told this and has seen so many sets, and nothing else has changed but what it knows of the trie
+abbrev pub Hears : AreaView → Reading → ℕ → AreaView → Type 0
+Hears v reading seen after = after ≡ with_trie (noted (with_cell v (Reader seen None)) reading) after.trie
+
+-- what a read answers is the one reading that it adds to the list. The value that is found stands at the front of the buffer,
+-- which else is as before
+abbrev pub Reads : AreaView → List ℕ → ReadAnswer → List ℕ → List ℕ → AreaView → Type 0
+Reads v name (AnswerFound len number) before out after =
+    (value : List ℕ) × IsValue value × (len ≡ length value) × (take len out ≡ value) × (seen_by v.cell ≤ number)
+    × Hears v (Found name number value) number after
+Reads v name (AnswerAbsent number) before out after =
+    (number ≡ seen_by v.cell) × (out ≡ before) × Hears v (Absent name number) number after
+Reads v name (AnswerAgain number first second) before out after =
+    (number ≡ seen_by v.cell) × (first ≢ second) × (out ≡ before)
+    × Hears v (Again name number first second) (seen_again number second) after
+
+-- the reader has loaded word 0
+abbrev pub caught : ℕ → AreaView → AreaView
+caught count v = let seen = max (seen_by v.cell) count in noted (with_cell v (Reader seen None)) (Caught seen)
+
+-- what the client was told stands in these sets, and at most two of its reads of a name met a write for each set of the name
+-- since its list began
+abbrev pub ClientStands : List Set → Client → Type 0
+ClientStands sets client = ListStands sets None client.began client.list × FewAgains sets None client.began client.list
+
+abbrev pub EachClientStands : List Set → List Client → Type 0
+EachClientStands sets [] = Unit {0}
+EachClientStands sets (c ∷ clients) = ClientStands sets c × EachClientStands sets clients
+
+-- how many sets a reader has seen after an answer
+abbrev pub seen_in : ReadAnswer → ℕ
+seen_in (AnswerFound len number) = number
+seen_in (AnswerAbsent number) = number
+seen_in (AnswerAgain number first second) = seen_again number second
+
+-- a reader that has loaded word 0 has seen no fewer sets than before, and as many as it was told
+abbrev pub Catches : AreaView → ℕ → AreaView → Type 0
+Catches v number after = (seen_by v.cell ≤ number) × Hears v (Caught number) number after

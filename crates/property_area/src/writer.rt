@@ -1,0 +1,165 @@
+//! The writer of an area, which is a store of properties.
+
+ghost use Rattle.std.specs.Prelude.{◌≡◌};
+
+use crate::area::{Area, WriterSeat};
+use crate::handing::{clients_stand, join_in, split_off, tell_count};
+use crate::reader::Reader;
+use crate::room::check_room;
+use crate::store::{look_up, need_if_new, set};
+use crate::view::AreaView;
+use atomic_table::Seat;
+use init_base::{ClientId, NoMemory, PropName, PropValue};
+use init_machine::{Full, PropStore};
+use std::alloc::Global;
+use std::marker::{Brand, Model};
+
+/// The writer of an area. Each of its sets is seen by the readers while it is made, and takes no memory.
+#[derive(Drop)]
+pub struct AreaWriter<'a> {
+    area: &'a Area,
+    seat: Seat<(), AreaView>,
+    used: usize,
+    count: u64,
+}
+
+impl<'a> Model for AreaWriter<'a> {
+    ghost use Rattle.std.specs.Prelude.{◌≡◌, [], length};
+    ghost use Rattle.property_trie.specs.Additions.{mark_of};
+    ghost use Rattle.property_area.specs.Seats.{Seated, sets_in, IsWriterView};
+
+    ghost Value = { Seated };
+
+    ghost view = { λ s. record { table = s.seat.table_id; id = s.seat.id; view = s.seat.me.0 } };
+
+    ghost invariant = { λ s. (s.seat.table_id ≡ s.area.now) × (s.seat.me.1 ≡ []) × IsWriterView s.seat.table_id s.seat.me.0
+        × (s.used ≡ mark_of (sets_in s.seat.me.0)) × (s.count ≡ length (sets_in s.seat.me.0)) };
+}
+
+impl<'a> AreaWriter<'a> {
+    /// The writer, with its seat.
+    pub fn new(area: &'a Area, seat: WriterSeat) -> AreaWriter<'a>
+        requires area { seat.table ≡ area.now }
+        ensures { result ≡ seat }
+    {
+        let WriterSeat { seat, used, count } = seat;
+        AreaWriter {
+            area,
+            seat,
+            used,
+            count,
+        }
+    }
+
+    /// The seat, as it is.
+    pub fn into_seat(self) -> WriterSeat
+        ensures { result ≡ self.entry }
+    {
+        let AreaWriter {
+            area: _,
+            seat,
+            used,
+            count,
+        } = self;
+        WriterSeat { seat, used, count }
+    }
+
+    /// The number of words, which is the capacity of the store.
+    pub fn words(&self) -> u64
+        ensures { result ≡ self.now.view.words }
+    {
+        self.area.words() as u64
+    }
+}
+
+impl<'a> AreaWriter<'a> {
+    ghost use Rattle.std.specs.Prelude.{◌≡◌, IsOkAnd, length};
+    ghost use Rattle.property_area.specs.Seats.{sets_in, IsSameSeated};
+    ghost use Rattle.property_area.specs.Readers.{IsIn, handing, handed, taking, synced as with_synced, ClientStands, client_of};
+
+    /// Gives a client a reader's seat. It begins with the sets that there are, and with the list that the client had when its
+    /// last seat was taken in. It always succeeds.
+    pub fn hand_out(&mut self, who: ClientId) -> Result<Reader, NoMemory>
+        requires client { IsIn self.old.view who.0 }
+        ensures reader { IsOkAnd result (λ reader. (reader.table ≡ self.old.table) × (reader.view ≡ handed who.0 self.old.view)) }
+        ensures writer { IsSameSeated self.old self.new × (self.new.view ≡ handing who.0 self.old.view) }
+    {
+        let number = self.count;
+        let seat = split_off::<Brand>(self.area, &mut self.seat, who);
+        Ok(Reader { seat, who, number })
+    }
+
+    /// Takes a client's seat in, and answers which client it is. What the client was told stands in the sets, and at most two
+    /// of its reads of a name met a write for each set of the name since its list began.
+    pub fn take_in(&mut self, reader: Reader) -> ClientId
+        requires area { reader.table ≡ self.old.table }
+        ensures client { result.0 ≡ reader.view.who }
+        ensures writer { IsSameSeated self.old self.new × (self.new.view ≡ taking self.old.view reader.view) }
+        ensures stands { ClientStands (sets_in self.old.view) (client_of reader.view) }
+    {
+        let Reader {
+            seat,
+            who,
+            number: _,
+        } = reader;
+        join_in::<Brand>(self.area, &mut self.seat, seat);
+        clients_stand(self.area, &mut self.seat);
+        who
+    }
+
+    /// Tells a client that has no seat how many sets there are, and answers it.
+    pub fn synced(&mut self, who: ClientId) -> u64
+        requires client { IsIn self.old.view who.0 }
+        ensures count { result ≡ length (sets_in self.old.view) }
+        ensures writer { IsSameSeated self.old self.new × (self.new.view ≡ with_synced who.0 self.old.view) }
+    {
+        tell_count::<Brand>(self.area, &mut self.seat, who);
+        self.count
+    }
+}
+
+impl<'a> PropStore for AreaWriter<'a> {
+    ghost use Rattle.std.specs.Prelude.{◌≡◌, Some};
+    ghost use Rattle.property_area.specs.Seats.{sets_in, store_of, IsSameBeside};
+    ghost use Rattle.property_area.specs.Kept.Stores.{same_itself, same_on};
+
+    ghost meaning = { λ s. store_of s.view };
+
+    ghost told = { λ s. Some (sets_in s.view) };
+
+    ghost spare = { λ _. 1 };
+
+    ghost Beside = { IsSameBeside };
+
+    fn get(&mut self, name: PropName<'_>, out: &mut [u8; 91]) -> Option<(usize, u64)> {
+        look_up(self.area, &mut self.seat, name, out)
+    }
+
+    fn count(&self) -> u64 {
+        self.count
+    }
+
+    fn used(&self) -> u64 {
+        self.used as u64
+    }
+
+    fn room(&mut self, name: PropName<'_>) -> Result<(), Full> {
+        let need = need_if_new(self.area, &mut self.seat, name);
+        check_room(need, self.used, self.area.words(), self.count)
+    }
+
+    fn reserve(&mut self, _: Global) -> Result<(), NoMemory> {
+        Ok(())
+    }
+
+    fn put(&mut self, name: PropName<'_>, value: PropValue<'_>) -> u64 {
+        let number = self.count + 1;
+        self.used = set(self.area, &mut self.seat, name, number, value, self.used);
+        self.count = number;
+        number
+    }
+
+    ghost reflexive = { same_itself };
+
+    ghost transitive = { same_on };
+}
