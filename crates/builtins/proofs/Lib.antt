@@ -1,5 +1,4 @@
 pub mod Digits
-pub mod Doing
 pub mod Effects
 pub mod Expansions
 pub mod Illegal
@@ -7,4 +6,3 @@ pub mod Options
 pub mod Places
 pub mod Savings
 pub mod Seconds
-pub mod Variables

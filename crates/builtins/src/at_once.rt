@@ -1,16 +1,13 @@
 //! Commands that are done at once: sets of properties, events, the environment, and those without effect.
 
 ghost use Rattle.std.specs.Prelude.{◌≡◌, ◌++◌, ◌∷◌, [], IfOk, OnOk, None};
-ghost use Rattle.std.specs.List.{position};
-ghost use Rattle.std.specs.Str.{bytes_eq};
 ghost use Rattle.init_machine.specs.Changes.{change, nothing};
 ghost use Rattle.init_machine.specs.Effect.{by_answer, export as export_lem};
-ghost use Rattle.init_machine.specs.Pairs.{with_variable};
 ghost use Rattle.init_machine.specs.Services.{set_by as set_by_lem};
 ghost use Rattle.machine_parts.specs.Parts.{Does, rules_of, state_of};
 
-use init_base::{List, NoMemory, Text};
-use init_machine::{Cause, Done, Event, Output, Pair, PropStore};
+use init_base::{NoMemory, Text};
+use init_machine::{Cause, Done, Event, Output, PropStore};
 use machine_parts::{Parts, set_by};
 use std::alloc::Global;
 
@@ -41,40 +38,13 @@ pub fn trigger<S: PropStore>(parts: &mut Parts<S>, event: Text) -> Result<Done, 
     Ok(Done::Ok)
 }
 
-/// The place of the first pair of a name.
-fn place_of(pairs: &List<Pair>, name: &Text) -> Option<usize>
-    ensures { result ≡ position (λ p. bytes_eq p.name name.now) pairs.now }
-{
-    pairs
-        .items()
-        .iter()
-        .position(|pair| pair.name.is(name.bytes()))
-}
-
-/// The value of a name is replaced, or the pair joins the end.
-fn set_variable(environment: &mut List<Pair>, name: &Text, value: &Text) -> Result<(), NoMemory>
-    ensures { OnOk result (environment.new ≡ with_variable environment.old name.now value.now) }
-{
-    let pair = Pair {
-        name: name.share()?,
-        value: value.share()?,
-    };
-    match place_of(environment, name) {
-        Some(at) => {
-            environment.set(at, pair);
-            Ok(())
-        }
-        None => environment.push(pair),
-    }
-}
-
 /// Gives a variable of the environment a value.
 pub fn export<S: PropStore>(parts: &mut Parts<S>, name: Text, value: Text) -> Result<Done, NoMemory>
     ensures ending { IfOk result (λ ending. ending ≡ Done.Ok) }
     ensures did { OnOk result (Does S.meaning S.told parts.old parts.new (export_lem name value (state_of S.meaning parts.old))) }
     ensures beside { S.Beside parts.old.store parts.new.store }
 {
-    set_variable(&mut parts.environment, &name, &value)?;
+    parts.environment.set(&name, &value)?;
     parts.outputs.push(Output::Env { name, value })?;
     Ok(Done::Ok)
 }

@@ -18,16 +18,12 @@ use Rattle.machine_parts.specs.Schedule.{ScheduleView, booted}
 use Rattle.machine_parts.specs.declared.parts.Parts.{Parts}
 use Rattle.init_core.specs.Stage.{stage_in}
 use Rattle.init_core.proofs.Boots.{pairs_boot}
-use Rattle.init_core.proofs.Composed.{does_plain, does_both, does_more}
+use Rattle.machine_parts.proofs.Doing.{does_plain, does_both, does_more, unset_sets_none}
 
 no_sets_answered : (refused : Option SetRefusal) (control : Bool) (count : ℕ) → sets_in (answer_line refused control count ∷ []) ≡ []
 no_sets_answered (Some why) control count = refl
 no_sets_answered None true count = refl
 no_sets_answered None false count = refl
-
-no_sets_refused : (name : List ℕ) (refused : Option SetRefusal) → sets_in (unset_lines name refused) ≡ []
-no_sets_refused name None = refl
-no_sets_refused name (Some why) = refl
 
 module _ {S : Type 0} {meaning : S → Props} {told : S → Option (List (List ℕ × List ℕ))} where
   -- a client was answered
@@ -54,7 +50,7 @@ module _ {S : Type 0} {meaning : S → Props} {told : S → Option (List (List �
   pair_set old mid outputs pair refused done refused_is lines =
       let answer = set_by (rules_of old) None pair.name pair.value (state_of meaning old) in
       does_more outputs (unset_lines pair.name answer.refused) done (lines ∙ ap (λ (r : Option SetRefusal). mid.outputs ++ unset_lines pair.name r) refused_is)
-      (no_sets_refused pair.name answer.refused)
+      (unset_sets_none pair.name answer.refused)
 
   -- the events of a boot were queued
   pub boot_queued : (old : Parts S) (store : S) (queue : ScheduleView) (last : List ℕ) → meaning store ≡ meaning old.store → told store ≡ told old.store

@@ -2,6 +2,7 @@
 use Rattle.std.proofs.Common.{◌≡◌, ℕ, true, false, List, Option, Some, None, Result, OnOk, refl, sym, ap, ◌∙◌, subst, append-nil, codes}
 use Rattle.std.specs.List.{slice_get}
 use Rattle.std.specs.Option.{is_some}
+use Rattle.std.proofs.lemmas.Result.{on_ok_weaker}
 use Rattle.init_machine.specs.Changes.{nothing, each}
 use Rattle.init_machine.specs.Effect.{effect}
 use Rattle.init_machine.specs.Props.{Props}
@@ -15,7 +16,7 @@ use Rattle.machine_parts.specs.declared.parts.Parts.{Parts}
 use Rattle.builtins.specs.Asked.{asked_by}
 use Rattle.builtins.specs.declared.asked.Asked.{Asked}
 use Rattle.init_core.specs.Reaped.{onrestart_of}
-use Rattle.init_core.proofs.Composed.{does_plain, does_both, does_then, does_no_more, on_ok}
+use Rattle.machine_parts.proofs.Doing.{does_plain, does_both, does_then, does_no_more}
 
 pub same_some : {T : Type 0} (found : Option T) (a b : T) → Some a ≡ found → found ≡ Some b → a ≡ b
 same_some found a b first second = cc
@@ -58,4 +59,4 @@ module _ {S : Type 0} (meaning : S → Props) (told : S → Option (List (List �
       → OnOk r (Does meaning told p new (effect (rules_of p) command (state_of meaning p)))
   runs_found p new s r asked found command is same tells asks runs =
       let asks_it : asked ≡ asked_by command (meaning s) = asks ∙ ap (λ (c : Command). asked_by c (meaning p.store)) is ∙ ap (asked_by command) (sym same) in
-      on_ok r (λ done. does_both (λ rules now. effect rules command now) (does_read p s same tells) done) (runs command asks_it)
+      on_ok_weaker r (λ done. does_both (λ rules now. effect rules command now) (does_read p s same tells) done) (runs command asks_it)

@@ -25,7 +25,7 @@ use Rattle.machine_parts.specs.declared.parts.Parts.{Parts}
 use Rattle.services.specs.Services.{ServicesView, with_op, move_of, with_exit, exit_is_fatal, is_fatal, counted_exits, exits_after, exits_of, critical_of}
 use Rattle.init_core.specs.Completed.{is_completed}
 use Rattle.init_core.specs.Reaped.{target_of, target_by}
-use Rattle.init_core.proofs.Composed.{does_plain, does_both, does_then, does_no_more}
+use Rattle.machine_parts.proofs.Doing.{does_plain, does_both, does_then, does_no_more}
 
 -- what a service that is critical, or isn't, reboots to
 record IsCritical (service : ServiceDef) (target : List ℕ) : Type 0 where

@@ -8,7 +8,7 @@ use Rattle.init_machine.specs.Step.{set_pair, set_pairs}
 use Rattle.init_machine.specs.declared.config.Pair.{Pair}
 use Rattle.machine_parts.specs.Parts.{Does, state_of, rules_of}
 use Rattle.machine_parts.specs.declared.parts.Parts.{Parts}
-use Rattle.init_core.proofs.Composed.{does_both, does_then, does_no_more}
+use Rattle.machine_parts.proofs.Doing.{does_both, does_then, does_no_more}
 
 -- where the rest is done from now on, all is done from the old parts on
 abbrev pub Left : {S T : Type 0} → (S → Props) → (S → Option (List (List ℕ × List ℕ))) → (Rules → List T → State → Change) → List T → List T → Parts S → Parts S → Type 0

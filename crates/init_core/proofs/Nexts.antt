@@ -18,7 +18,7 @@ use Rattle.action_queue.specs.Queue.{IsNext, without_first}
 use Rattle.machine_parts.specs.Parts.{Does, state_of, rules_of, actions_of}
 use Rattle.machine_parts.specs.Schedule.{ScheduleView, taken_in, schedule_after}
 use Rattle.machine_parts.specs.declared.parts.Parts.{Parts}
-use Rattle.init_core.proofs.Composed.{does_plain, does_both, does_more}
+use Rattle.machine_parts.proofs.Doing.{does_plain, does_both, does_more}
 use Rattle.init_core.proofs.Taken.{none_of_taken}
 
 pub next_at : (place : Option CommandRef) (at : CommandRef) (actions : List Action) (running : List (List Command)) → place ≡ Some at

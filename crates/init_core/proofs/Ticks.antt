@@ -28,7 +28,7 @@ use Rattle.model_kernel.specs.declared.reaped.Reaped.{Reaped}
 use Rattle.model_kernel.specs.declared.refusal.TickRefusal.{TickRefusal}
 use Rattle.model_kernel.specs.declared.refusal.TickRefusal.TheVariants as tick_refusal
 use Rattle.init_core.specs.Reaped.{reap_one}
-use Rattle.init_core.proofs.Composed.{does_plain, does_both}
+use Rattle.machine_parts.proofs.Doing.{does_plain, does_both}
 
 -- the reaped of the kernel are the processes that have ended
 each_reaped : (rules : Rules) (ps : List Process) (s : State) → each (reap_one rules) (map reaped_of ps) s ≡ each (reap_ended rules) ps s

@@ -5,7 +5,7 @@ ghost use Rattle.std.specs.Prelude.{◌≡◌, ◌↔◌, [], true, false, IfOk,
 use crate::step::step;
 use init_base::{List, NoMemory, PropName, Text};
 use init_machine::{Config, Input, Output, Pair, PropStore};
-use machine_parts::{Parts, Saved, Schedule};
+use machine_parts::{Environment, Parts, Saved, Schedule};
 use model_fs::Tree;
 use model_kernel::Kernel;
 use prop_contexts::Policy;
@@ -101,7 +101,7 @@ impl<S: PropStore> Core<S> {
             kernel,
             tree: Tree::new(alloc)?,
             policy,
-            environment: List::new(alloc),
+            environment: Environment::new(alloc),
             saved,
             saving: false,
             waits: None,

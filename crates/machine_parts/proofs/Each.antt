@@ -7,7 +7,7 @@ use Rattle.init_machine.specs.State.{Rules, State}
 use Rattle.init_machine.specs.declared.service.Op.{Op}
 use Rattle.machine_parts.specs.Parts.{Does, rules_of, state_of}
 use Rattle.machine_parts.specs.declared.parts.Parts.{Parts}
-use Rattle.machine_parts.proofs.Doing.{does_both, does_nothing}
+use Rattle.machine_parts.proofs.Doing.{does_behind, does_nothing}
 
 -- an operation on the service at a place
 abbrev pub rule_of : Rules → Op → ℕ → State → Change
@@ -21,13 +21,13 @@ module _ {S : Type 0} (meaning : S → Props) (told : S → Option (List (List �
     pub rest : behind done.lines (each rule left done.state) ≡ each rule all (state_of meaning a)
 
   pub begins : (a : Parts S) (rule : ℕ → State → Change) (all : List ℕ) → SoFar a a rule all all
-  begins a rule all = record { done = nothing (state_of meaning a); does = does_nothing meaning told a; rest = refl }
+  begins a rule all = record { done = nothing (state_of meaning a); does = does_nothing a; rest = refl }
 
   -- one place more
   one_more : (a b c : Parts S) (rule : ℕ → State → Change) (all : List ℕ) (left : List ℕ) (at : ℕ) (so : SoFar a b rule all left) → Does meaning told b c (rule at (state_of meaning b))
       → Does meaning told a c (behind so.done.lines (rule at so.done.state))
   one_more a b c rule all left at so did =
-      does_both meaning told a b c so.done (rule at so.done.state) so.does (subst (λ (s : State). Does meaning told b c (rule at s)) so.does.state did)
+      does_behind so.does (subst (λ (s : State). Does meaning told b c (rule at s)) so.does.state did)
 
   pub goes_on : (a b c : Parts S) (rule : ℕ → State → Change) (all left : List ℕ) (at : ℕ) (rest : List ℕ) → SoFar a b rule all left → left ≡ at ∷ rest
       → Does meaning told b c (rule at (state_of meaning b)) → c.over ≡ None → SoFar a c rule all rest

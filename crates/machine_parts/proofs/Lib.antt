@@ -6,3 +6,4 @@ pub mod Putting
 pub mod SavedPairs
 pub mod Telling
 pub mod Unmarked
+pub mod Variables

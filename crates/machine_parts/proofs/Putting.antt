@@ -1,5 +1,5 @@
 -- A property that is put, from what its parts do.
-use Rattle.std.proofs.Common.{◌≡◌, ◌+◌, ◌++◌, ℕ, Bool, true, false, ◌&&◌, List, [], ◌∷◌, Option, Result, Ok, Err, OnOk, refl, sym, ap, ◌∙◌, append_assoc, if◌then◌else◌}
+use Rattle.std.proofs.Common.{◌≡◌, ◌+◌, ◌++◌, ℕ, Bool, true, false, ◌&&◌, List, [], ◌∷◌, Option, refl, sym, ap, ◌∙◌, append_assoc, if◌then◌else◌}
 use Rattle.init_machine.specs.History.{sets_in}
 use Rattle.init_machine.specs.Pairs.{with_saved}
 use Rattle.init_machine.specs.Props.{Props, more_sets, with_set}
@@ -11,11 +11,6 @@ use Rattle.init_machine.specs.declared.waiting.Waiting.{Waiting}
 use Rattle.machine_parts.specs.Parts.{Does, state_of}
 use Rattle.machine_parts.specs.Schedule.{ScheduleView}
 use Rattle.machine_parts.specs.declared.parts.Parts.{Parts}
-
--- what two clauses of a call give together
-pub on_ok_both : {T E P Q R : Type 0} (r : Result T E) → (P → Q → R) → OnOk r P → OnOk r Q → OnOk r R
-on_ok_both (Ok done) gives p q = gives p q
-on_ok_both (Err why) gives p q = tt
 
 -- what is saved, and its line
 abbrev saved_now : Bool → List Pair → List ℕ → List ℕ → List Pair

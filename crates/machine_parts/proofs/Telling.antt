@@ -25,7 +25,7 @@ use Rattle.services.specs.Services.{ServicesView, move_of, with_op}
 use Rattle.machine_parts.specs.Operations.{with_step}
 use Rattle.machine_parts.specs.Parts.{Does, actions_of, rules_of, state_of}
 use Rattle.machine_parts.specs.declared.parts.Parts.{Parts}
-use Rattle.machine_parts.proofs.Doing.{does_more, does_plain, does_then, unset_sets_none}
+use Rattle.machine_parts.proofs.Doing.{does_both, does_more, does_plain, unset_sets_none}
 
 module _ {S : Type 0} (meaning : S → Props) (told : S → Option (List (List ℕ × List ℕ))) where
   -- the state is told by a set, and a refusal is a line
@@ -37,7 +37,8 @@ module _ {S : Type 0} (meaning : S → Props) (told : S → Option (List (List �
   unfolding tell
   tells a b c service name word given refused outs named same why did is outputs =
       let done = (set_property (rules_of a) (state_of meaning a) None name given).done in
-      let more : Does meaning told a c (change done.state (done.lines ++ unset_lines name refused)) = does_more meaning told a b c done outs (unset_lines name refused) did is outputs (unset_sets_none name refused) in
+      let more : Does meaning told a c (change done.state (done.lines ++ unset_lines name refused)) =
+      subst (λ (p : Parts S). Does meaning told a p (change done.state (done.lines ++ unset_lines name refused))) (sym is) (does_more outs (unset_lines name refused) did outputs (unset_sets_none name refused)) in
       subst (λ (w : List ℕ). Does meaning told a c (told_refusal (state_name service) (set_property (rules_of a) (state_of meaning a) None (state_name service) w))) same
       (subst (λ (n : List ℕ). Does meaning told a c (told_refusal n (set_property (rules_of a) (state_of meaning a) None n given))) named
       (subst (λ (r : Option SetRefusal). Does meaning told a c (change done.state (done.lines ++ unset_lines name r))) why more))
@@ -45,7 +46,7 @@ module _ {S : Type 0} (meaning : S → Props) (told : S → Option (List (List �
   -- what is told after a change
   tells_after : (a b c : Parts S) (first : Change) (name word : List ℕ) → Does meaning told a b first → Does meaning told b c (tell (rules_of b) name word (state_of meaning b))
       → Does meaning told a c (behind first.lines (tell (rules_of a) name word first.state))
-  tells_after a b c first name word = does_then meaning told a b c first (λ rules s. tell rules name word s)
+  tells_after a b c first name word f s = does_both (λ rules t. tell rules name word t) f s
 
   -- parts that differ in the state alone
   pub does_from : (a b c : Parts S) (done : Change) → b.outputs ≡ a.outputs → told b.store ≡ told a.store → rules_of b ≡ rules_of a → actions_of b ≡ actions_of a
@@ -82,7 +83,7 @@ module _ {S : Type 0} (meaning : S → Props) (told : S → Option (List (List �
   kills a b c kernel outs pid name given is named outputs both telling =
       let whole : b ≡ record a { kernel = kernel_killed a.kernel pid; outputs = outs } = both ∙ (λ i. record a { kernel = is i; outputs = outs }) in
       let from : Does meaning told a b (change (record (state_of meaning a) { kernel = (kernel_killed a.kernel pid).kernel }) (output.Kill pid name ∷ [])) =
-      does_plain meaning told a b _ _ (ap (state_of meaning) whole) (ap (λ (p : Parts S). p.outputs) whole ∙ outputs ∙ (λ i. a.outputs ++ output.Kill pid (named i) ∷ []))
+      does_plain (ap (state_of meaning) whole) (ap (λ (p : Parts S). p.outputs) whole ∙ outputs ∙ (λ i. a.outputs ++ output.Kill pid (named i) ∷ []))
       (ap (λ (p : Parts S). told p.store) whole) (ap rules_of whole) (ap actions_of whole) refl in
       tells_after a b c _ name (codes "stopping") from telling
 

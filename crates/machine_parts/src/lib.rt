@@ -5,13 +5,16 @@
 //! parts aren't used again then.
 #![tactic(auto)]
 
+mod environment;
 mod judging;
 mod operations;
 mod parts;
 mod saved;
 mod schedule;
 mod setting;
+mod variable;
 
+pub use environment::Environment;
 pub use operations::{operate, operate_each, set_by, tell};
 pub use parts::Parts;
 pub use saved::Saved;

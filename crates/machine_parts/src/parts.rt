@@ -1,9 +1,10 @@
 //! The parts of the machine's state. `state_of` of `specs/Parts.antt` says what they stand for.
 
+use crate::environment::Environment;
 use crate::saved::Saved;
 use crate::schedule::Schedule;
 use init_base::{List, Text};
-use init_machine::{Output, Pair, PropStore, Waiting};
+use init_machine::{Output, PropStore, Waiting};
 use model_fs::Tree;
 use model_kernel::Kernel;
 use prop_contexts::Policy;
@@ -18,7 +19,7 @@ pub struct Parts<S: PropStore> {
     pub kernel: Kernel,
     pub tree: Tree,
     pub policy: Policy,
-    pub environment: List<Pair>,
+    pub environment: Environment,
     pub saved: Saved,
     /// Whether sets of persistent properties are saved.
     pub saving: bool,

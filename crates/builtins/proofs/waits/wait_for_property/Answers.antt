@@ -3,7 +3,7 @@ use Rattle.std.proofs.lemmas.Bool.{false≢true}
 use Rattle.init_base.specs.Name.{is_legal_name}
 use Rattle.init_machine.specs.Effect.{Ran}
 use Rattle.machine_parts.specs.Parts.{state_of}
-use Rattle.builtins.proofs.Doing.{nothing_done}
+use Rattle.machine_parts.proofs.Doing.{does_nothing}
 use Rattle.builtins.proofs.Illegal.{illegal}
 use Rattle.builtins.proofs.waits.wait_for_property.Goals as goal
 
@@ -14,4 +14,4 @@ returns-in_default-clause-ending g c =
 pub returns-in_default-clause-did : goal.returns-in_default-clause-did
 returns-in_default-clause-did g c =
     rw (illegal c.args.name c.args.value (state_of g.S.PropStore.meaning c.args.parts.now) (λ legal. false≢true (c.in_default.ensures.exact.1 (ap is_legal_name c.bytes.ensures ∙ legal))))
-    (nothing_done g.S.PropStore.meaning g.S.PropStore.told c.args.parts.now)
+    (does_nothing c.args.parts.now)

@@ -1,7 +1,7 @@
 use Rattle.std.proofs.Common.{sym, subst}
 use Rattle.init_machine.specs.Step.{set_pairs}
 use Rattle.machine_parts.specs.Parts.{Does, rules_of, state_of}
-use Rattle.init_core.proofs.Composed.{does_nothing}
+use Rattle.machine_parts.proofs.Doing.{does_nothing}
 use Rattle.init_core.proofs.Fronts.{front_is, none_left_of}
 use Rattle.init_core.proofs.Left.{left_pairs}
 use Rattle.init_core.proofs.boot.set_pairs.Goals as goal

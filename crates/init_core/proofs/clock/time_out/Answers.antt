@@ -1,9 +1,9 @@
 use Rattle.std.proofs.Common.{ℕ, List, ap, subst, ◌∙◌}
+use Rattle.std.proofs.lemmas.Result.{on_ok_weaker}
 use Rattle.init_machine.specs.Services.{operate_each}
 use Rattle.init_machine.specs.declared.service.Op.TheVariants as op
 use Rattle.machine_parts.specs.Parts.{Does, rules_of, state_of}
 use Rattle.services.specs.Services.{places_timed_out}
-use Rattle.init_core.proofs.Composed.{on_ok}
 use Rattle.init_core.proofs.clock.time_out.Goals as goal
 
 pub returns-clause-done : goal.returns-clause-done
@@ -11,6 +11,6 @@ returns-clause-done g c =
     let old = c.args.parts.now in
     let meaning = g.S.PropStore.meaning in
     let places = c.in_ok-places.ensures ∙ ap (λ (now : ℕ). places_timed_out old.services now) c.now.ensures in
-    on_ok c.operate_each.result
+    on_ok_weaker c.operate_each.result
     (subst (λ (at : List ℕ). Does meaning g.S.PropStore.told old c.operate_each.new.parts (operate_each (rules_of old) op.Timeout at (state_of meaning old))) places)
     c.operate_each.ensures.done

@@ -2,7 +2,7 @@ use Rattle.std.proofs.Common.{sym, subst}
 use Rattle.init_machine.specs.Changes.{each}
 use Rattle.machine_parts.specs.Parts.{Does, rules_of, state_of}
 use Rattle.init_core.specs.Reaped.{reap_one}
-use Rattle.init_core.proofs.Composed.{does_nothing}
+use Rattle.machine_parts.proofs.Doing.{does_nothing}
 use Rattle.init_core.proofs.Fronts.{front_is, none_left_of}
 use Rattle.init_core.proofs.Left.{left_on, left_over}
 use Rattle.init_core.proofs.reaping.reap_each.Goals as goal

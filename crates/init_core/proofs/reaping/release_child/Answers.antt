@@ -1,4 +1,4 @@
-use Rattle.init_core.proofs.Composed.{on_ok_both}
+use Rattle.machine_parts.proofs.Doing.{on_ok_both}
 use Rattle.init_core.proofs.Exits.{releases}
 use Rattle.init_core.proofs.reaping.release_child.Goals as goal
 

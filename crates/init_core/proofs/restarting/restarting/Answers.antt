@@ -1,4 +1,4 @@
-use Rattle.init_core.proofs.Composed.{on_ok}
+use Rattle.std.proofs.lemmas.Result.{on_ok_weaker}
 use Rattle.init_core.proofs.Commands.{same_some, not_both, restarts_on, restarts_over}
 use Rattle.init_core.proofs.restarting.restarting.Goals as goal
 
@@ -12,7 +12,7 @@ returns-then-is_some-clause-done g c = λ service found.
 
 pub returns-clause-done : goal.returns-clause-done
 returns-clause-done g c = λ service found.
-    on_ok c.run_onrestart.result
+    on_ok_weaker c.run_onrestart.result
     (restarts_on c.args.parts.now c.tell.new.parts c.run_onrestart.new.parts c.args.at service c.in-Some.service.now c.in_ok-name.name c.in_ok-name.ensures
     (same_some _ _ service c.in-Some.ensures found) found c.in_ok-tell.ensures.done c.if-is_some.ensures)
     c.run_onrestart.ensures.done

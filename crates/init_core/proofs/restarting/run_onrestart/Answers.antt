@@ -5,7 +5,7 @@ use Rattle.init_machine.specs.State.{Rules}
 use Rattle.init_machine.specs.Changes.{each}
 use Rattle.machine_parts.specs.Parts.{Does, rules_of, state_of}
 use Rattle.init_core.specs.Reaped.{onrestart_of}
-use Rattle.init_core.proofs.Composed.{does_nothing}
+use Rattle.machine_parts.proofs.Doing.{does_nothing}
 use Rattle.init_core.proofs.Fronts.{front, none_left}
 use Rattle.init_core.proofs.Left.{left_on, left_over}
 use Rattle.init_core.proofs.restarting.run_onrestart.Goals as goal

@@ -1,6 +1,7 @@
 use Rattle.std.proofs.Common.{sym}
+use Rattle.std.proofs.lemmas.Result.{on_ok_weaker}
 use Rattle.init_machine.specs.Step.{step, settle}
-use Rattle.init_core.proofs.Composed.{does_then, does_no_more, on_ok}
+use Rattle.machine_parts.proofs.Doing.{does_then, does_no_more}
 use Rattle.init_core.proofs.step.step.Goals as goal
 
 pub returns-then-is_some-clause-done : goal.returns-then-is_some-clause-done
@@ -9,4 +10,4 @@ returns-then-is_some-clause-done g c = does_no_more settle c.in_ok-respond.ensur
 
 pub returns-clause-done : goal.returns-clause-done
 unfolding step
-returns-clause-done g c = on_ok c.settle.result (does_then (λ rules now. settle now) c.in_ok-respond.ensures.done (sym c.if-is_some.ensures)) c.settle.ensures.done
+returns-clause-done g c = on_ok_weaker c.settle.result (does_then (λ rules now. settle now) c.in_ok-respond.ensures.done (sym c.if-is_some.ensures)) c.settle.ensures.done

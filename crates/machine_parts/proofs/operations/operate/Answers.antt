@@ -18,7 +18,7 @@ pub returns-in_default-clause-done : goal.returns-in_default-clause-done
 returns-in_default-clause-done g c =
     let is = operates_none (rules_of c.args.parts.now) c.args.at c.args.op (state_of g.S.PropStore.meaning c.args.parts.now) c.in_default.ensures in
     subst (λ (o : Operated). Does g.S.PropStore.meaning g.S.PropStore.told c.args.parts.now c.args.parts.now o.done) (sym is)
-    (does_nothing g.S.PropStore.meaning g.S.PropStore.told c.args.parts.now)
+    (does_nothing c.args.parts.now)
 
 pub apply-requires : goal.apply-requires
 apply-requires g c = slice_get_within c.args.parts.now.services.defs c.args.at c.in-Some.service.now (sym c.in-Some.ensures)

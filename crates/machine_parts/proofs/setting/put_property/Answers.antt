@@ -2,7 +2,8 @@
 use Rattle.std.proofs.Common.{ap, ◌∙◌, ◌++◌, ◌∷◌, [], ◌+◌}
 use Rattle.init_machine.specs.Props.{Props}
 use Rattle.init_machine.specs.declared.output.Output.TheVariants as output
-use Rattle.machine_parts.proofs.Putting.{in_store, in_told, on_ok_both, puts}
+use Rattle.machine_parts.proofs.Doing.{on_ok_both}
+use Rattle.machine_parts.proofs.Putting.{in_store, in_told, puts}
 use Rattle.machine_parts.proofs.setting.put_property.Goals as goal
 
 pub returns-clause-done : goal.returns-clause-done
