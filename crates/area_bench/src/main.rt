@@ -4,7 +4,7 @@
 //! and runs both.
 #![tactic(auto)]
 
-ghost use Rattle.std.specs.Prelude.{◌≡◌, ◌<◌};
+ghost use Rattle.std.specs.Prelude.{◌≡◌, ◌≤◌};
 
 use init_base::{ClientId, PropName, PropValue};
 use init_machine::PropStore;
@@ -34,7 +34,9 @@ fn top(place: usize) -> &'static str {
 
 /// So many names, as device trees have them: a few first parts, some second ones, and many last ones. Those of an end of
 /// their own are in no set.
-fn names_of(alloc: Global, count: usize, end: &str) -> Result<Vec<String>, AllocError> {
+fn names_of(alloc: Global, count: usize, end: &str) -> Result<Vec<String>, AllocError>
+    requires { count ≤ 40000 }
+{
     let mut names = Vec::new(alloc);
     for k in 0..count {
         let place = k * 7919 % count;
@@ -45,9 +47,7 @@ fn names_of(alloc: Global, count: usize, end: &str) -> Result<Vec<String>, Alloc
 }
 
 /// Sets each of the names once.
-fn set_all(writer: &mut AreaWriter<'_>, names: &[String])
-    ensures { writer.new.table ≡ writer.old.table }
-{
+fn set_all(writer: &mut AreaWriter<'_>, names: &[String]) {
     for name in names {
         set(writer, name);
     }
@@ -55,9 +55,7 @@ fn set_all(writer: &mut AreaWriter<'_>, names: &[String])
 
 /// One set.
 #[inline(never)]
-fn set(writer: &mut AreaWriter<'_>, name: &String)
-    ensures { writer.new.table ≡ writer.old.table }
-{
+fn set(writer: &mut AreaWriter<'_>, name: &String) {
     let (Some(name), Ok(value)) = (
         PropName::of(name.as_bytes()),
         PropValue::of(b"a value of middling length"),
