@@ -100,6 +100,7 @@ fn said_of(fault: WordFault) -> &'static str {
 }
 
 /// Bytes that print in q form, so that a word of any bytes stands in one line.
+#[derive(Clone, Copy)]
 struct Quoted<'a> {
     bytes: &'a [u8],
 }
