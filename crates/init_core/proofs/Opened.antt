@@ -1,22 +1,17 @@
 -- A core in its first state.
-use Rattle.std.proofs.Common.{◌≡◌, Bool, true, false, IsTrue, ◌&&◌, nat_lt, List, [], ◌∷◌, length, None, refl}
+use Rattle.std.proofs.Common.{◌≡◌, Bool, true, false, IsTrue, ◌&&◌, nat_lt, List, [], ◌∷◌, length, Result, Ok, IfOk, refl, ap, ◌∙◌, subst}
 use Rattle.std.specs.List.{list_all}
-use Rattle.init_machine.specs.FileTree.{Place, first_tree}
 use Rattle.init_machine.specs.Policy.{PolicyLines}
 use Rattle.init_machine.specs.Props.{Props}
 use Rattle.init_machine.specs.State.{first_state, no_props}
 use Rattle.init_machine.specs.WellFormed.{is_well_formed_action}
 use Rattle.init_machine.specs.declared.action.Action.{Action}
 use Rattle.init_machine.specs.declared.config.Config.{Config}
-use Rattle.init_machine.specs.declared.config.Pair.{Pair}
-use Rattle.init_machine.specs.declared.output.Output.{Output}
 use Rattle.action_queue.specs.Queue.{is_well_formed, has_commands}
-use Rattle.machine_parts.specs.Parts.{state_of}
-use Rattle.machine_parts.specs.Schedule.{ScheduleView, first_schedule}
 use Rattle.machine_parts.specs.declared.parts.Parts.{Parts}
-use Rattle.model_kernel.specs.Kernel.{KernelView, opened as kernel_opened}
-use Rattle.services.specs.Services.{ServicesView, first_services}
-use Rattle.init_core.specs.Core.{CoreView, opened as core_opened, config_of}
+use Rattle.init_core.specs.Core.{CoreView, opened as core_opened, opening_of, without_saved}
+use Rattle.init_core.specs.Opened.{first_parts, opened_by}
+use Rattle.init_core.proofs.Steps.{shown}
 
 both : (a b c : Bool) → IsTrue (a && b && c) → IsTrue a × IsTrue c
 both true true true is = (refl, refl)
@@ -47,63 +42,22 @@ well_formed (a ∷ actions) is =
     let split = first_true _ _ is in
     both_hold _ _ (well_formed_one a split.0) (well_formed actions split.1)
 
-pub opens : {S : Type 0} (meaning : S → Props) (config : Config) (policy : PolicyLines) (store : S) (queue : ScheduleView) (services : ServicesView) (kernel : KernelView) (tree : List Place)
-    (environment saved : List Pair) (outputs : List Output)
-    → (meaning store).held ≡ [] → (meaning store).count ≡ 0 → queue ≡ first_schedule config.actions → services ≡ first_services config.services → kernel ≡ kernel_opened config.plans 100
-    → tree ≡ first_tree → environment ≡ [] → saved ≡ config.saved → outputs ≡ []
-    → (let parts : Parts S = record {
-      store = store;
-      queue = queue;
-      services = services;
-      kernel = kernel;
-      tree = tree;
-      policy = policy;
-      environment = environment;
-      saved = saved;
-      saving = false;
-      waits = None;
-      over = None;
-      outputs = outputs;
-    } in
-    let view : CoreView S = record {
-      config = config_of config.pairs config.domains parts;
-      policy = policy;
-      state = state_of meaning parts;
-      outputs = outputs;
-      store = store;
-      spent = false;
-    } in
-    view ≡ core_opened config policy (meaning store).capacity store)
+-- what is said of a success holds of its value
+pub of_ok : {T E : Type 0} (P : T → Type 0) (r : Result T E) (value : T) → r ≡ Ok value → IfOk r P → P value
+of_ok {T} {E} P r value is holds = subst (λ (answer : Result T E). IfOk answer P) is holds
+
+pub opens : {S : Type 0} (meaning : S → Props) (config : Config) (policy : PolicyLines) (store : S) (parts : Parts S) → (meaning store).held ≡ [] → (meaning store).count ≡ 0
+    → parts ≡ first_parts (opened_by config.actions config.services config.plans) store policy config.saved
+    → shown meaning config.pairs config.domains false parts ≡ core_opened config policy (meaning store).capacity store
 unfolding first_state
-opens meaning config policy store queue services kernel tree environment saved outputs held count queue_is services_is kernel_is tree_is environment_is saved_is outputs_is =
+opens {S} meaning config policy store parts held count is =
     let props : meaning store ≡ no_props (meaning store).capacity = λ i. record { held = held i; count = count i; capacity = (meaning store).capacity } in
-    λ i. record {
-      config = record {
-        actions = (queue_is i).actions;
-        services = (services_is i).defs;
-        pairs = config.pairs;
-        saved = [];
-        plans = (kernel_is i).plans;
-        domains = config.domains;
-      };
+    ap (shown meaning config.pairs config.domains false) is
+    ∙ ap (λ (now : Props). let view : CoreView S = record {
+      config = without_saved config;
       policy = policy;
-      state = record {
-        props = props i;
-        events = (queue_is i).events;
-        running = (queue_is i).running;
-        changes = (queue_is i).changes;
-        had_boot = (queue_is i).had_boot;
-        marks = (services_is i).marks;
-        exits = (services_is i).exits;
-        kernel = (kernel_is i).kernel;
-        tree = tree_is i;
-        environment = environment_is i;
-        saved = saved_is i;
-        saving = false;
-        waits = None;
-        over = None;
-      };
-      outputs = outputs_is i;
+      state = record (first_state (opening_of config policy (meaning store).capacity)) { props = now };
+      outputs = [];
       store = store;
       spent = false;
-    }
+    } in view) props

@@ -2,5 +2,6 @@ pub mod ByName
 pub mod Completed
 pub mod Core
 pub mod Down
+pub mod Opened
 pub mod Reaped
 pub mod Stage

@@ -9,6 +9,7 @@ mod clock;
 mod last_pairs;
 mod machine;
 mod next;
+mod opening;
 mod read;
 mod reaping;
 mod restarting;

@@ -2,19 +2,14 @@
 
 ghost use Rattle.std.specs.Prelude.{◌≡◌, ◌↔◌, [], true, false, IfOk, OnOk};
 
+use crate::opening::{Opened, both};
 use crate::step::step;
 use init_base::{List, NoMemory, PropName, Text};
 use init_machine::{Config, Input, Output, Pair, PropStore};
-use machine_parts::{Environment, Parts, Saved, Schedule};
-use model_fs::Tree;
-use model_kernel::Kernel;
+use machine_parts::{Parts, Saved};
 use prop_contexts::Policy;
-use services::Services;
 use std::alloc::Global;
 use std::marker::Model;
-
-/// The pid of the first process.
-const FIRST_PID: u32 = 100;
 
 /// Why a core took no input.
 #[derive(Clone, Copy, Debug, PartialEq, Eq)]
@@ -90,24 +85,9 @@ impl<S: PropStore> Core<S> {
             plans,
             domains,
         } = config;
-        let queue = Schedule::new(alloc, actions)?;
-        let services = Services::new(alloc, services)?;
-        let kernel = Kernel::new(alloc, FIRST_PID, plans)?;
+        let (policy, opened) = both(policy, Opened::new(alloc, actions, services, plans))?;
         let saved = Saved::of(saved);
-        let parts = Parts {
-            store,
-            queue,
-            services,
-            kernel,
-            tree: Tree::new(alloc)?,
-            policy,
-            environment: Environment::new(alloc),
-            saved,
-            saving: false,
-            waits: None,
-            over: None,
-            outputs: List::new(alloc),
-        };
+        let parts = opened.into_parts(alloc, store, policy, saved);
         Ok(Core {
             alloc,
             pairs,
