@@ -1,5 +1,5 @@
 // The area in plain Rust, for comparison: the same words, loads and stores, sequentially consistent, and the same walk and
-// checks of names. `plain read|absent|put NAMES N`; and `plain map|map_absent NAMES N`, which reads a hash map behind a lock for
+// checks of names. `plain read|absent|put|name NAMES N`, of which `name` checks names alone; and `plain map|map_absent NAMES N`, which reads a hash map behind a lock for
 // reading.
 use std::cmp::Ordering;
 use std::collections::HashMap;
@@ -230,6 +230,11 @@ fn read(area: &Area, name: &str, out: &mut [u8; 91]) -> Option<bool> {
     area.read(name.as_bytes(), out)
 }
 
+#[inline(never)]
+fn is_name(name: &str) -> bool {
+    is_legal(name.as_bytes())
+}
+
 type Map = RwLock<HashMap<String, ([u8; 91], usize)>>;
 
 #[inline(never)]
@@ -262,6 +267,10 @@ fn main() {
         let map: Map = RwLock::new(names.iter().map(|n| (n.clone(), (kept, value.len()))).collect());
         let whole = (0..calls).filter(|k| look_up(&map, &asked[k % count], &mut out) == wanted).count();
         println!("{whole}");
+        return;
+    }
+    if kind == "name" {
+        println!("{}", (0..calls).filter(|k| is_name(&names[k % count])).count());
         return;
     }
     let area = Area { words: (0..1_048_576).map(|_| AtomicU64::new(0)).collect() };

@@ -1,5 +1,6 @@
 """Nanoseconds of processor time for one call, from two counts of calls, proved beside plain in turns; the median of five. Each
-program has to write the number of the calls that answered as they should, which is that of all."""
+program has to write the number of the calls that answered as they should, which is that of all. Each call begins with a check of
+its name, which is timed alone too and taken off: what is left is the work at the area."""
 import os
 import statistics
 import sys
@@ -17,18 +18,17 @@ def nanoseconds(program, kind, names):
 def main():
     proved, plain = sys.argv[1:]
     for names in (1_000, 30_000):
-        for kind, other in (("read", "map"), ("absent", "map_absent"), ("put", None)):
-            rounds = [
-                (
-                    nanoseconds(proved, kind, names),
-                    nanoseconds(plain, kind, names),
-                    nanoseconds(plain, other, names) if other else 0.0,
-                )
-                for _ in range(5)
-            ]
-            a, b, c = (statistics.median(times) for times in zip(*rounds))
-            beside = f", hash map {c:.1f} ns" if other else ""
-            print(f"{kind} of {names} names: proved {a:.1f} ns, plain {b:.1f} ns, ratio {a / b:.2f}{beside}")
+        kinds = ("name", "read", "absent", "put")
+        rounds = [[(nanoseconds(proved, kind, names), nanoseconds(plain, kind, names)) for kind in kinds] for _ in range(5)]
+        maps = [(nanoseconds(plain, "map", names), nanoseconds(plain, "map_absent", names)) for _ in range(5)]
+        times = {kind: [statistics.median(times) for times in zip(*(row[i] for row in rounds))] for i, kind in enumerate(kinds)}
+        checked = times["name"]
+        print(f"{names} names, of which one is checked in {checked[0]:.0f} ns, in plain Rust {checked[1]:.0f} ns")
+        for kind in kinds[1:]:
+            a, b = (whole - check for whole, check in zip(times[kind], checked))
+            print(f"{kind}: proved {a:.0f} ns, plain {b:.0f} ns, ratio {a / b:.2f}")
+        found, absent = (statistics.median(column) - checked[1] for column in zip(*maps))
+        print(f"hash map behind a lock: found {found:.0f} ns, absent {absent:.0f} ns")
 
 
 main()

@@ -1,7 +1,7 @@
 //! A program that is timed from outside: it makes so many reads or sets at an area of so many names, with no other thread.
 //!
-//! `area_bench read NAMES N`, `area_bench absent NAMES N` and `area_bench put NAMES N`; `bench/area` has the same in plain Rust,
-//! and runs both.
+//! `area_bench read|absent|put|name NAMES N`, of which `name` checks names alone; `bench/area` has the same in plain Rust, and runs
+//! both.
 #![tactic(auto)]
 
 ghost use Rattle.std.specs.Prelude.{◌≡◌, ◌≤◌};
@@ -102,6 +102,30 @@ fn reads(area: &Area, reader: &mut Reader, names: &[String], found: bool, count:
     whole
 }
 
+/// One check of a name, which each call begins with.
+#[inline(never)]
+fn is_name(name: &String) -> bool {
+    PropName::of(name.as_bytes()).is_some()
+}
+
+/// So many checks of names, of which it counts those that are legal.
+fn checks(names: &[String], count: u64) -> u64 {
+    let mut legal = 0;
+    let mut at = 0;
+    for _ in 0..count {
+        if at >= names.len() {
+            at = 0;
+        }
+        if at < names.len() {
+            if is_name(&names[at]) {
+                legal += 1;
+            }
+            at += 1;
+        }
+    }
+    legal
+}
+
 /// So many sets of names that are there.
 fn sets(writer: &mut AreaWriter<'_>, names: &[String], count: u64) {
     let mut at = 0;
@@ -135,6 +159,9 @@ fn run(rt: &HostRuntime) -> Option<u64> {
         sets(&mut writer, &names, calls);
         return Some(writer.count().saturating_sub(count as u64));
     }
+    if kind.as_str() == "name" {
+        return Some(checks(&names, calls));
+    }
     if kind.as_str() == "absent" {
         let others = names_of(alloc, count, "x").ok()?;
         return Some(reads(&area, &mut reader, &others, false, calls));
@@ -146,7 +173,7 @@ fn main(rt: HostRuntime) -> ExitCode {
     let made = run(&rt);
     let shown = match made {
         Some(count) => println!(&rt; "{count}"),
-        None => eprintln!(&rt; "area_bench: usage: read|absent|put NAMES N"),
+        None => eprintln!(&rt; "area_bench: usage: read|absent|put|name NAMES N"),
     };
     if made.is_some() && shown.is_ok() {
         ExitCode::SUCCESS

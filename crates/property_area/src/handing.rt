@@ -73,7 +73,7 @@ impl Play<(), AreaView> for Standing {
     ghost then = { λ st m n after. (after ≡ m) × EachClientStands (sets_in m.0) m.0.clients };
 }
 
-/// The client's seat, split off the writer's.
+/// The client's seat, split off the writer's. Which client it is, only the views say.
 pub(crate) fn split_off<Q: Handing>(
     area: &Area,
     seat: &mut Seat<(), AreaView>,
@@ -103,7 +103,7 @@ pub(crate) fn join_in<Q: Handing>(
     area.table.shared.join_seat::<TakenIn<Q>>(seat, reader);
 }
 
-/// The client is told the count.
+/// The client is told the count. Which client it is, only the view says.
 pub(crate) fn tell_count<Q: Handing>(area: &Area, seat: &mut Seat<(), AreaView>, _who: ClientId)
     requires asked { _who.0 ≡ Q.who }
     requires table { seat.old.table_id ≡ area.now }

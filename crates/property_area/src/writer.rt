@@ -119,7 +119,7 @@ impl<'a> AreaWriter<'a> {
 }
 
 impl<'a> PropStore for AreaWriter<'a> {
-    ghost use Rattle.std.specs.Prelude.{◌≡◌, Some};
+    ghost use Rattle.std.specs.Prelude.{◌≡◌, ◌≤◌, Some, IsOk, OnOk};
     ghost use Rattle.property_area.specs.Seats.{sets_in, store_of, IsSameBeside};
     ghost use Rattle.property_area.specs.Kept.Stores.{same_itself, same_on};
 
@@ -148,7 +148,13 @@ impl<'a> PropStore for AreaWriter<'a> {
         check_room(need, self.used, self.area.words(), self.count)
     }
 
-    fn reserve(&mut self, _: Global) -> Result<(), NoMemory> {
+    fn reserve(&mut self, _: Global) -> Result<(), NoMemory>
+        ensures always { IsOk result }
+        ensures spare { OnOk result (1 ≤ 1) }
+        ensures same { store_of self.new.view ≡ store_of self.old.view }
+        ensures told { Some (sets_in self.new.view) ≡ Some (sets_in self.old.view) }
+        ensures beside { IsSameBeside self.old self.new }
+    {
         Ok(())
     }
 
