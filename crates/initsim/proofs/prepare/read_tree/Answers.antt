@@ -1,3 +1,7 @@
+use Rattle.std.proofs.Common.{subst}
+use Rattle.std.specs.Prelude.{IfErr}
+use Rattle.init_base.specs.Faults.{Counted}
+use Rattle.initsim.specs.Stops.{IsOfTree, has_read_fault, is_read_fault}
 use Rattle.initsim.specs.Prepared.{GivesTree}
 use Rattle.initsim.proofs.RcFiles.{world_later}
 use Rattle.initsim.proofs.Says.{err_is, with_policy}
@@ -14,3 +18,13 @@ returns-clause-tree g c = λ world is. record {
   policy = c.in_ok-policy.ensures.policy world is;
   load = c.in_ok-loaded.ensures.load world (world_later _ _ world c.in_ok-policy.ensures.tree is);
 }
+
+pub returns-in_err-loaded-clause-kind : goal.returns-in_err-loaded-clause-kind
+returns-in_err-loaded-clause-kind g c =
+    err_is (λ r. IfErr r IsOfTree) _ _ c.from_residual-in_err-loaded.ensures c.in_err-loaded.ensures.kind
+
+pub returns-in_err-loaded-clause-cause : goal.returns-in_err-loaded-clause-cause
+returns-in_err-loaded-clause-cause g c =
+    let now = g.F.Files.fault_count c.load.new.files in
+    err_is (λ r. Counted (has_read_fault r) (g.F.Files.fault_count c.args.files.now) now) _ _ c.from_residual-in_err-loaded.ensures
+    (subst (λ before. Counted (is_read_fault c.in_err-loaded.field-0.0) before now) c.in_ok-policy.ensures.cause c.in_err-loaded.ensures.cause)
