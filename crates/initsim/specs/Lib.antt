@@ -1,4 +1,5 @@
 pub mod Status
+pub mod Form
 pub mod Counts
 pub mod Script
 pub mod Texts

@@ -1,11 +1,24 @@
 use Rattle.std.proofs.Common.{subst}
 use Rattle.std.specs.Prelude.{IfErr}
 use Rattle.init_base.specs.Faults.{Counted}
-use Rattle.initsim.specs.Stops.{IsOfTree, has_read_fault, is_read_fault}
+use Rattle.initsim.specs.Check.{IsCheckStatus}
+use Rattle.initsim.specs.Stops.{IsOfTree, has_read_fault, is_read_fault, status_of}
+use Rattle.initsim.specs.declared.stop.Stop.{Stop}
+use Rattle.initsim.specs.declared.stop.Stop.TheVariants as stop
 use Rattle.initsim.specs.Prepared.{GivesTree}
 use Rattle.initsim.proofs.RcFiles.{world_later}
 use Rattle.initsim.proofs.Says.{err_is, with_policy}
 use Rattle.initsim.proofs.prepare.read_tree.Goals as goal
+
+-- what a check is refused by is of the tree
+of_tree : (why : Stop) → IsCheckStatus (status_of why) → IsOfTree why
+of_tree stop.ReadFault is = tt
+of_tree stop.NoMemory is = tt
+of_tree (stop.BadScript line) is = is
+of_tree stop.NoInit is = tt
+of_tree (stop.TooLarge limit number) is = is
+of_tree (stop.BadPolicy allow line) is = tt
+of_tree (stop.BadStore line) is = is
 
 pub returns-in_err-loaded-clause-tree : goal.returns-in_err-loaded-clause-tree
 returns-in_err-loaded-clause-tree g c = λ world is.
@@ -21,7 +34,8 @@ returns-clause-tree g c = λ world is. record {
 
 pub returns-in_err-loaded-clause-kind : goal.returns-in_err-loaded-clause-kind
 returns-in_err-loaded-clause-kind g c =
-    err_is (λ r. IfErr r IsOfTree) _ _ c.from_residual-in_err-loaded.ensures c.in_err-loaded.ensures.kind
+    err_is (λ r. IfErr r IsOfTree) _ _ c.from_residual-in_err-loaded.ensures
+    (of_tree c.in_err-loaded.field-0.0 c.in_err-loaded.ensures.kind)
 
 pub returns-in_err-loaded-clause-cause : goal.returns-in_err-loaded-clause-cause
 returns-in_err-loaded-clause-cause g c =

@@ -1,0 +1,17 @@
+-- The forms of the words of the command line.
+use Rattle.std.specs.Prelude.{ℕ, Bool, false, not, ◌&&◌, ◌==◌, if◌then◌else◌, List, [], ◌∷◌, codes, Option, Some, None}
+use Rattle.std.specs.Str.{bytes_eq, is_utf8}
+use Rattle.initsim.specs.declared.words.Form.{Form}
+use Rattle.initsim.specs.declared.words.Form.TheVariants as form
+
+-- a word that names a path: not empty, not begun by `-` (45), and UTF-8
+abbrev pub is_path_word : List ℕ → Bool
+is_path_word [] = false
+is_path_word (byte ∷ rest) = not (byte == 45) && is_utf8 (byte ∷ rest)
+
+-- `run ROOT SCRIPT` and `check ROOT`
+abbrev pub form_of : List (List ℕ) → Option Form
+form_of (word ∷ root ∷ []) = if bytes_eq word (codes "check") && is_path_word root then Some form.Check else None
+form_of (word ∷ root ∷ script ∷ []) =
+    if bytes_eq word (codes "run") && is_path_word root && is_path_word script then Some form.Run else None
+form_of _ = None

@@ -1,0 +1,38 @@
+//! The words of the command line.
+
+ghost use Rattle.std.specs.Prelude.{◌≡◌};
+ghost use Rattle.initsim.specs.Form.{form_of as form_of_lem, is_path_word as is_path_word_lem};
+
+use init_base::{List, Text};
+
+/// What the program is asked to do.
+#[derive(Clone, Copy, Debug, PartialEq, Eq)]
+pub enum Form {
+    /// `run ROOT SCRIPT`: the machine runs, and its report is written.
+    Run,
+    /// `check ROOT`: what is wrong in the build files and the rc files is written.
+    Check,
+}
+
+/// The form of the words.
+pub fn form_of(words: &List<Text>) -> Option<Form>
+    ensures { result ≡ form_of_lem words.now }
+{
+    match words.items() {
+        [word, root] if word.is(b"check") && is_path_word(root) => Some(Form::Check),
+        [word, root, script] if word.is(b"run") && is_path_word(root) && is_path_word(script) => {
+            Some(Form::Run)
+        }
+        _ => None,
+    }
+}
+
+/// Whether a word names a path: it isn't empty, doesn't begin with `-`, and is UTF-8.
+fn is_path_word(word: &Text) -> bool
+    ensures { result ≡ is_path_word_lem word.now }
+{
+    match word.bytes() {
+        [] | [b'-', ..] => false,
+        _ => word.is_utf8(),
+    }
+}
