@@ -1,5 +1,7 @@
+pub mod Ample
 pub mod DistinctSums
 pub mod Entries
+pub mod LegalNames
 pub mod Needs
 pub mod Nodes
 pub mod Numbers

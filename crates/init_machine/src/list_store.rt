@@ -19,7 +19,7 @@ use held::Held;
 use indexmap::{IndexMap, IndexSet};
 use init_base::{NoMemory, PropName, PropValue};
 use name::Name;
-use room::check_room;
+use room::{check_numbers, check_room, has_room_for_any};
 use std::alloc::Global;
 use std::marker::Model;
 
@@ -95,6 +95,9 @@ impl PropStore for ListStore {
     }
 
     fn room(&mut self, name: PropName<'_>) -> Result<(), Full> {
+        if has_room_for_any(self.used, self.capacity) {
+            return check_numbers(self.count);
+        }
         let need = need_if_absent(&self.held, &self.prefixes, name.bytes());
         check_room(need, self.used, self.capacity, self.count)
     }

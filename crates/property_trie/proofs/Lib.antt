@@ -14,7 +14,6 @@ pub mod Tries
 pub mod WordOrder
 pub mod PartsLeft
 pub mod Walking
-pub mod LegalNames
 pub mod Needing
 pub mod Growing
 pub mod Additional

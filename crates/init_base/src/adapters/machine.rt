@@ -13,6 +13,9 @@ use std::io::{Error, ErrorKind, Print, Read};
 /// How often a call is tried again that a signal interrupted.
 const MAX_TRIES: usize = 64;
 
+/// How many bytes of a file are read at once, at most.
+const PIECE: usize = 16384;
+
 /// Why the machine gave nothing.
 pub(crate) enum MachineRefusal {
     /// What the system said, or would say.
@@ -74,18 +77,24 @@ pub(crate) fn print_some<R: Print>(rt: &R, piece: &[u8]) -> Result<usize, Error>
 /// The bytes of a file, if there are at most `limit`.
 pub(crate) fn read_file<F: Read + Drop>(
     alloc: Global,
-    file: F,
+    mut file: F,
     limit: usize,
 ) -> Result<Text, MachineRefusal>
     ensures { IfOk result (λ text. length text ≤ limit) }
 {
     let mut bytes = Vec::new(alloc);
-    let mut start = file.take(limit.saturating_add(1) as u64);
-    start.read_to_end(&mut bytes)?;
-    if bytes.len() > limit {
-        return Err(MachineRefusal::TooLarge);
+    let mut piece = [0; PIECE];
+    loop {
+        let room = (limit - bytes.len()).min(PIECE - 1) + 1;
+        let count = read_some(&mut file, &mut piece[..room])?;
+        if count == 0 {
+            return Ok(Text::from_vec(bytes)?);
+        }
+        if count > limit - bytes.len() {
+            return Err(MachineRefusal::TooLarge);
+        }
+        bytes.extend_from_slice(&piece[..count])?;
     }
-    Ok(Text::from_vec(bytes)?)
 }
 
 /// Opens a file of the machine. A path that isn't UTF-8 names none.

@@ -6,7 +6,7 @@ use Rattle.std.proofs.lemmas.Bool.Decides.{nat_tests}
 use Rattle.init_base.specs.Name.{LegalName, is_name_byte, has_only_lone_dots}
 use Rattle.property_trie.specs.Parts.{parts_of, onto_first}
 use Rattle.property_trie.specs.TrieSteps.{IsShortText}
-use Rattle.property_trie.proofs.LegalNames.{legal_short}
+use Rattle.init_machine.proofs.LegalNames.{legal_short}
 
 abbrev Parts : Type 0
 Parts = List (List ℕ)

@@ -1,5 +1,5 @@
 use Rattle.std.proofs.Common.{refl}
-use Rattle.property_trie.proofs.LegalNames.{legal_short}
+use Rattle.init_machine.proofs.LegalNames.{legal_short}
 use Rattle.property_trie.proofs.walk.find.Goals as goal
 
 pub find_as-requires-clause-name : goal.find_as-requires-clause-name
