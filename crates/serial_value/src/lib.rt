@@ -23,7 +23,7 @@ mod write;
 pub use history::reader_history;
 pub use layout::{parts, serial};
 pub use one::{OneCell, OneSeat, OneTable, OneView, one_cell, one_reader};
-pub use read::{CellAnswer, read_cell};
+pub use read::{CellAnswer, close, copy_words, read_cell, words_place};
 pub use rule::{Asked, CellRule};
 pub use steps::{
     backup_word, clean_serial, copied_word, dirty_serial, first_serial, last_serial, value_word,
