@@ -35,8 +35,9 @@ pub struct Client {
 }
 
 /// The writer's part is in `cell`, `head` (the number that word 0 has), `clients` (those that were there and have no seat
-/// now), `out` (those that have one, each with the number of its seat), `seats` (how many seats there were) and `log`; a reader's in `cell`, `who` (its client), `began` and `list` (the client's). Of each seat `trie` is what it knows of
-/// the trie, and `words` the number of words.
+/// now), `out` (those that have one, each with the number of its seat), `seats` (how many seats there were), `opening` and
+/// `log` (the recorded history); a reader's in `cell`, `who` (its client), `began` and `list` (the client's), and `opening`. Of
+/// each seat `trie` is what it knows of the trie, and `words` the number of words.
 pub struct AreaView {
     pub cell: CellView,
     pub who: u64,
