@@ -15,6 +15,7 @@ mod message;
 mod not_modelled;
 mod note;
 mod page;
+mod quotes;
 mod request;
 mod source;
 mod status;
