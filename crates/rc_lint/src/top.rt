@@ -46,7 +46,7 @@ fn read_tree<F: Files>(alloc: Global, files: &mut Watched<F>) -> Result<Read, Lo
     ensures cause { Counted (is_read_fault result) (F.fault_count files.old.files) (F.fault_count files.new.files) }
 {
     let loaded = load(alloc, files)?;
-    let seen = std::mem::replace(&mut files.seen, SeenFiles::new(alloc));
+    let seen = std::mem::replace(&mut files.seen, SeenFiles::new(alloc, false));
     Ok(Read { loaded, seen })
 }
 

@@ -22,7 +22,12 @@ pub struct Seen {
 }
 
 impl Seen {
-    fn of(alloc: Global, path: &[u8], text: &Text) -> Result<Seen, NoMemory> {
+    fn of(
+        alloc: Global,
+        path: &[u8],
+        text: &Text,
+        looks_at_quotes: bool,
+    ) -> Result<Seen, NoMemory> {
         let bytes = text.bytes();
         let begins_with_mark = bytes.starts_with(BYTE_ORDER_MARK);
         let path = Text::of(alloc, path)?;
@@ -38,7 +43,11 @@ impl Seen {
                 path,
                 text: None,
                 begins_with_mark,
-                spanned_line: spanned_line(bytes),
+                spanned_line: if looks_at_quotes {
+                    spanned_line(bytes)
+                } else {
+                    None
+                },
             }
         })
     }
@@ -47,14 +56,17 @@ impl Seen {
 /// The files that were read, each once and in order.
 #[derive(Drop)]
 pub struct SeenFiles {
+    /// Whether quotes are looked at.
+    looks_at_quotes: bool,
     pub files: List<Seen>,
     /// Their paths, in the same order.
     paths: TextIndex,
 }
 
 impl SeenFiles {
-    pub fn new(alloc: Global) -> SeenFiles {
+    pub fn new(alloc: Global, looks_at_quotes: bool) -> SeenFiles {
         SeenFiles {
+            looks_at_quotes,
             files: List::new(alloc),
             paths: TextIndex::new(alloc),
         }
@@ -70,7 +82,8 @@ impl SeenFiles {
         if self.paths.add(path)? < self.files.len() {
             return Ok(());
         }
-        self.files.push(Seen::of(alloc, path, text)?)
+        let seen = Seen::of(alloc, path, text, self.looks_at_quotes)?;
+        self.files.push(seen)
     }
 }
 
@@ -82,13 +95,13 @@ pub struct Watched<F: Files> {
 }
 
 impl<F: Files> Watched<F> {
-    /// These files, of which none was read.
-    pub fn new(alloc: Global, files: F) -> Watched<F>
+    /// These files, of which none was read. What only a hint tells of is looked at where hints are wanted.
+    pub fn new(alloc: Global, files: F, hints: bool) -> Watched<F>
         ensures { result.files ≡ files }
     {
         Watched {
             files,
-            seen: SeenFiles::new(alloc),
+            seen: SeenFiles::new(alloc, hints),
         }
     }
 }
