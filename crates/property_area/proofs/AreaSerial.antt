@@ -61,6 +61,8 @@ module _ (words : List ℕ) (m : Moment) (h : WordsHold words m) (id : ℕ) (v :
         (λ q. stays (word_else words 0 n (find (tree_of m.sets) (parts_of q)) (outside q)) (λ k value above below e. omega arith));
     extends = extends_self (tree_now m.sets m.adding);
     writer = refl;
+    seats = refl;
+    asked = λ seat v' a. a;
   }
 
   pub own_view : ViewHolds words' m' id (settled_view v)
@@ -74,6 +76,7 @@ module _ (words : List ℕ) (m : Moment) (h : WordsHold words m) (id : ℕ) (v :
       known.adding_is,
       refl,
       clients_later (world_of words m) (world_of words' m') after.later v.clients known.clients,
+      known.requests,
     );
   }
 

@@ -21,7 +21,7 @@ count_zeros zero = refl
 count_zeros (suc n) = ap suc (count_zeros n)
 
 abbrev first_moment : Moment
-first_moment = record { writer = 0; sets = []; making = None; adding = None; head = 0 }
+first_moment = record { writer = 0; sets = []; making = None; adding = None; head = 0; out = []; seats = 1; opening = None; log = [] }
 
 first_words : (n : ℕ) → 64 ≤ n → WordsHold (replicate n zero) first_moment
 first_words n wide = record {
@@ -44,7 +44,7 @@ first_view : (n : ℕ) (seat : ℕ) (v : AreaView) → get_elem? (begins n ∷ [
 first_view n zero v e = subst (λ (x : AreaView). ViewHolds (replicate n zero) first_moment zero x) (some-injective _ _ e) record {
   width = sym (count_zeros n);
   trie = record { known = λ name place is. let small = is.1 in absurd (omega arith); trail = tt };
-  part = (refl, refl, refl, refl, refl, tt);
+  part = (refl, refl, refl, refl, refl, tt, (refl, refl, refl, refl, λ who none. refl));
 }
 first_view n (suc seat) v e = absurd (some-ne-none v (sym e))
 
@@ -64,5 +64,6 @@ area_opens n wide = record {
   moment = first_moment;
   words = first_words n wide;
   there = omega arith;
+  count = refl;
   each = first_view n;
 }

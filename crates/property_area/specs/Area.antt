@@ -1,12 +1,14 @@
 -- The rule of the area: what holds of its words and of all views between any two steps.
-use Rattle.std.specs.Prelude.{◌≡◌, ◌≢◌, ℕ, zero, suc, ◌+◌, ◌<◌, ◌≤◌, ◌^◌, ◌⊎◌, List, [], ◌∷◌, ◌++◌, length, slice_index, Contains, Option, Some, None, if◌then◌else◌, true}
+use Rattle.std.specs.Prelude.{◌≡◌, ◌≢◌, ℕ, zero, suc, ◌+◌, ◌<◌, ◌≤◌, ◌^◌, ◌⊎◌, ◌==◌, IsTrue, List, [], ◌∷◌, ◌++◌, length, slice_index, Contains, Option, Some, None, if◌then◌else◌, true}
 use Rattle.std.specs.Str.{bytes_eq}
 use mathlib.Core.Option.{some}
 use lib.ListN.{get_elem?}
 use Rattle.atomic_table.specs.Table.{State}
 use Rattle.init_machine.specs.Sets.{Set, LastSet}
 use Rattle.init_machine.specs.declared.report.Reading.{Reading}
-use Rattle.init_machine.specs.declared.client.ClientItem.TheVariants.{Told}
+use Rattle.init_machine.specs.declared.client.ClientItem.{ClientItem}
+use Rattle.init_machine.specs.declared.client.ClientItem.TheVariants.{Told, Asked}
+use Rattle.init_machine.specs.declared.client.ClientRequest.{ClientRequest}
 use Rattle.serial_value.specs.declared.view.Making.{Making}
 use Rattle.serial_value.specs.declared.view.CellView.{CellView}
 use Rattle.serial_value.specs.declared.view.CellView.TheVariants.{Writer, Reader}
@@ -21,6 +23,8 @@ use Rattle.property_trie.specs.Additions.{tree_with, mark_of}
 use Rattle.property_trie.specs.Held.{TrieStands, SeatStands, AdditionStands}
 use Rattle.property_trie.specs.declared.view.Adding.{Adding}
 use Rattle.property_trie.specs.declared.view.TrieView.{TrieView}
+use Rattle.property_area.specs.declared.view.LogOpening.{LogOpening}
+use Rattle.property_area.specs.declared.view.LogEntry.{LogEntry}
 use Rattle.property_area.specs.declared.view.Client.{Client}
 use Rattle.property_area.specs.declared.view.AreaView.{AreaView}
 
@@ -61,6 +65,27 @@ MayMake sets None = Unit {0}
 MayMake sets (Some making) =
     (find (tree_of sets) (parts_of making.name) ≡ making.place) × (making.place ≢ 0) × IsValue making.value × (making.done ≤ 25)
 
+-- the requests in a client's list
+abbrev pub requests_in : List ClientItem → List ClientRequest
+requests_in [] = []
+requests_in (Told reading ∷ list) = requests_in list
+requests_in (Asked request ∷ list) = request ∷ requests_in list
+
+-- the requests of a client in the log
+abbrev pub requests_of : ℕ → List LogEntry → List ClientRequest
+requests_of who [] = []
+requests_of who (e ∷ log) = if e.who == who then e.request ∷ requests_of who log else requests_of who log
+
+-- the seat of a client, one more than its number; 0 for none
+abbrev pub out_seat : List (ℕ × ℕ) → ℕ → ℕ
+out_seat [] who = 0
+out_seat (o ∷ out) who = if o.0 == who then suc o.1 else out_seat out who
+
+-- the list that a client gave back last
+abbrev pub list_in : List Client → ℕ → List ClientItem
+list_in [] who = []
+list_in (c ∷ clients) who = if c.who == who then c.list else list_in clients who
+
 -- What the writer knows at one moment: its seat, the accepted sets, the update or the addition that is under way, and the
 -- number that word 0 has.
 pub record Moment : Type 0 where
@@ -69,6 +94,11 @@ pub record Moment : Type 0 where
   pub making : Option Making
   pub adding : Option Adding
   pub head : ℕ
+  -- which clients have a seat, how many seats there were, and the recorded history
+  pub out : List (ℕ × ℕ)
+  pub seats : ℕ
+  pub opening : Option LogOpening
+  pub log : List LogEntry
 
 abbrev pub world_of : List ℕ → Moment → World
 world_of words m = record { sets = m.sets; making = name_of m.making; serial = serial_in words m.sets }
@@ -90,12 +120,25 @@ abbrev pub ClientsHold : World → List Client → Type 0
 ClientsHold w [] = Unit {0}
 ClientsHold w (c ∷ clients) = ListHolds w c.began c.list × ClientsHold w clients
 
+-- the writer's view has the record, and the requests of a client that has no seat are those of the log
+abbrev pub RequestsHold : Moment → AreaView → Type 0
+RequestsHold m v =
+    (v.out ≡ m.out) × (v.seats ≡ m.seats) × (v.opening ≡ m.opening) × (v.log ≡ m.log)
+    × ((who : ℕ) → out_seat m.out who ≡ 0 → requests_in (list_in v.clients who) ≡ requests_of who m.log)
+
+-- a reader's opening is the recorded one, its client has this seat, and its list has the client's requests. The view that a
+-- seat leaves which was taken in is excepted
+abbrev pub AskedHolds : Moment → ℕ → AreaView → Type 0
+AskedHolds m seat v =
+    IsTrue v.trie.live
+    → (v.opening ≡ m.opening) × (out_seat m.out v.who ≡ suc seat) × (requests_in v.list ≡ requests_of v.who m.log)
+
 -- the writer's view is the moment; the view of another seat is a reader's
 abbrev pub PartHolds : World → Moment → ℕ → CellView → AreaView → Type 0
 PartHolds w m seat (Writer sets making) v =
     (seat ≡ m.writer) × (sets ≡ m.sets) × (making ≡ m.making) × (v.trie.adding ≡ m.adding) × (v.head ≡ m.head)
-    × ClientsHold w v.clients
-PartHolds w m seat (Reader number copying) v = (seat ≢ m.writer) × ReaderHolds w number copying v.began v.list
+    × ClientsHold w v.clients × RequestsHold m v
+PartHolds w m seat (Reader number copying) v = (seat ≢ m.writer) × ReaderHolds w number copying v.began v.list × AskedHolds m seat v
 
 pub record ViewHolds (words : List ℕ) (m : Moment) (seat : ℕ) (v : AreaView) : Type 0 where
   pub width : v.words ≡ length words
@@ -107,6 +150,7 @@ pub record AreaHolds (s : State (Unit {0}) AreaView) : Type 0 where
   pub words : WordsHold s.words moment
   -- the writer's seat is there
   pub there : moment.writer < length s.views
+  pub count : moment.seats ≡ length s.views
   pub each : (seat : ℕ) (v : AreaView) → get_elem? s.views seat ≡ some v → ViewHolds s.words moment seat v
 
 abbrev pub with_cell : AreaView → CellView → AreaView
@@ -138,4 +182,7 @@ begins words = record {
   head = 0;
   clients = [];
   out = [];
+  seats = 1;
+  opening = None;
+  log = [];
 }

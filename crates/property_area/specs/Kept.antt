@@ -2,6 +2,7 @@
 pub mod Making
 pub mod Trees
 pub mod Sets
+pub mod Requests
 pub mod Frame
 pub mod CellStores
 pub mod CellSteps

@@ -68,6 +68,7 @@ store_of v = props_of v.words (sets_in v)
 abbrev pub IsSameBeside : Seated → Seated → Type 0
 IsSameBeside s t =
     (s.table ≡ t.table) × (s.id ≡ t.id) × (s.view.words ≡ t.view.words) × (s.view.clients ≡ t.view.clients) × (s.view.out ≡ t.view.out)
+    × (s.view.seats ≡ t.view.seats) × (s.view.opening ≡ t.view.opening) × (s.view.log ≡ t.view.log)
 
 -- a reader, while no read of it is under way
 abbrev pub IsResting : AreaView → Type 0

@@ -1,14 +1,19 @@
-//! The writer gives a client a reader's seat, takes one in, and tells a client that has none how many sets there are.
+//! The writer gives a client a reader's seat, takes one in, tells a client that has none how many sets there are, and records the
+//! history that it serves.
 
-ghost use Rattle.std.specs.Prelude.{◌≡◌, ℕ, []};
+ghost use Rattle.std.specs.Prelude.{◌≡◌, ℕ, [], IsTrue};
+ghost use Rattle.init_machine.specs.declared.input.Input.TheVariants.{Boot};
+ghost use Rattle.init_machine.specs.declared.report.Entry.{Entry};
 ghost use Rattle.serial_value.specs.Steps.{IsSameSeat};
+ghost use Rattle.property_area.specs.declared.view.LogOpening.{LogOpening};
 ghost use Rattle.property_area.specs.Seats.{sets_in, IsUnmaking, IsResting};
-ghost use Rattle.property_area.specs.Readers.{handing, handed, taking, synced, EachClientStands};
+ghost use Rattle.property_area.specs.Readers.{IsIn, handing, handed, taking, synced, recording, opening_of, opening_with, ComesNext, EachClientStands};
 
 use crate::area::Area;
 use crate::view::AreaView;
 use atomic_table::{Join, Play, Seat, Split};
 use init_base::ClientId;
+use init_machine::{Config, Entry, PolicyView};
 use std::marker::{Brand, PhantomData};
 
 /// What such a step is about, for proofs alone: the client, and how many words the area has.
@@ -81,7 +86,7 @@ pub(crate) fn split_off<Q: Handing>(
 ) -> Seat<(), AreaView>
     requires asked { _who.0 ≡ Q.who }
     requires table { seat.old.table_id ≡ area.now }
-    requires writer { IsUnmaking seat.old.me.0 }
+    requires writer { IsUnmaking seat.old.me.0 × IsIn seat.old.me.0 Q.who }
     ensures writer { IsSameSeat seat.old seat.new × (seat.new.me ≡ (handing Q.who seat.old.me.0, seat.old.me.1)) }
     ensures reader { (result.table_id ≡ area.now) × (result.me ≡ (handed Q.who seat.old.me.0, [])) }
 {
@@ -96,7 +101,7 @@ pub(crate) fn join_in<Q: Handing>(
 )
     requires table { (seat.old.table_id ≡ area.now) × (reader.table_id ≡ area.now) × (reader.me.1 ≡ []) }
     requires writer { IsUnmaking seat.old.me.0 × (seat.old.me.0.words ≡ Q.words) }
-    requires reader { IsResting reader.me.0 }
+    requires reader { IsResting reader.me.0 × IsTrue reader.me.0.trie.live }
     ensures seat { IsSameSeat seat.old seat.new }
     ensures view { seat.new.me ≡ (taking seat.old.me.0 reader.me.0, seat.old.me.1) }
 {
@@ -107,7 +112,7 @@ pub(crate) fn join_in<Q: Handing>(
 pub(crate) fn tell_count<Q: Handing>(area: &Area, seat: &mut Seat<(), AreaView>, _who: ClientId)
     requires asked { _who.0 ≡ Q.who }
     requires table { seat.old.table_id ≡ area.now }
-    requires writer { IsUnmaking seat.old.me.0 }
+    requires writer { IsUnmaking seat.old.me.0 × IsIn seat.old.me.0 Q.who }
     ensures seat { IsSameSeat seat.old seat.new }
     ensures view { seat.new.me ≡ (synced Q.who seat.old.me.0, seat.old.me.1) }
 {
@@ -122,4 +127,75 @@ pub(crate) fn clients_stand(area: &Area, seat: &mut Seat<(), AreaView>)
     ensures stand { EachClientStands (sets_in seat.old.me.0) seat.old.me.0.clients }
 {
     area.table.shared.load::<Standing>(seat, 0);
+}
+
+/// What such a record is about, for proofs alone.
+pub(crate) trait Recording {
+    ghost entry: { Entry };
+}
+
+impl Recording for Brand {
+    ghost entry = { record { input = Boot; outputs = [] } };
+}
+
+/// What a history is opened with, for proofs alone.
+pub(crate) trait Opens {
+    ghost opening: { LogOpening };
+}
+
+impl Opens for Brand {
+    ghost use Rattle.property_area.specs.Readers.{no_opening};
+
+    ghost opening = { no_opening };
+}
+
+/// A load with which an entry is recorded.
+struct Noted<Q> {
+    marker: PhantomData<Q>,
+}
+
+impl<Q: Recording> Play<(), AreaView> for Noted<Q> {
+    ghost use Rattle.std.specs.Prelude.{◌≡◌};
+    ghost use Rattle.property_area.specs.Readers.{recording};
+
+    ghost then = { λ st m n after. after ≡ (recording m.0 Q.entry, m.1) };
+}
+
+/// A load with which a history is opened.
+struct Opened<Q> {
+    marker: PhantomData<Q>,
+}
+
+impl<Q: Opens> Play<(), AreaView> for Opened<Q> {
+    ghost use Rattle.std.specs.Prelude.{◌≡◌};
+    ghost use Rattle.property_area.specs.Readers.{opening_with};
+
+    ghost then = { λ st m n after. after ≡ (opening_with Q.opening m.0, m.1) };
+}
+
+/// The entry is recorded. What it is, only the view says.
+pub(crate) fn record_entry<Q: Recording>(area: &Area, seat: &mut Seat<(), AreaView>, _entry: &Entry)
+    requires asked { _entry.now ≡ Q.entry }
+    requires table { seat.old.table_id ≡ area.now }
+    requires writer { IsUnmaking seat.old.me.0 × ComesNext seat.old.me.0 Q.entry }
+    ensures seat { IsSameSeat seat.old seat.new }
+    ensures view { seat.new.me ≡ (recording seat.old.me.0 Q.entry, seat.old.me.1) }
+{
+    area.table.shared.load::<Noted<Q>>(seat, 0);
+}
+
+/// A history is opened. With what, only the view says.
+pub(crate) fn open_log<P: PolicyView, Q: Opens>(
+    area: &Area,
+    seat: &mut Seat<(), AreaView>,
+    _config: &Config,
+    _policy: &P,
+)
+    requires asked { Q.opening ≡ opening_of _config.now (P.lines _policy.now) seat.old.me.0.words }
+    requires table { seat.old.table_id ≡ area.now }
+    requires writer { IsUnmaking seat.old.me.0 × (seat.old.me.0.out ≡ []) }
+    ensures seat { IsSameSeat seat.old seat.new }
+    ensures view { seat.new.me ≡ (opening_with Q.opening seat.old.me.0, seat.old.me.1) }
+{
+    area.table.shared.load::<Opened<Q>>(seat, 0);
 }

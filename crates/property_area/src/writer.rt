@@ -3,14 +3,14 @@
 ghost use Rattle.std.specs.Prelude.{◌≡◌};
 
 use crate::area::{Area, WriterSeat};
-use crate::handing::{clients_stand, join_in, split_off, tell_count};
+use crate::handing::{clients_stand, join_in, open_log, record_entry, split_off, tell_count};
 use crate::reader::Reader;
 use crate::room::check_room;
 use crate::store::{look_up, need_if_new, set};
 use crate::view::AreaView;
 use atomic_table::Seat;
 use init_base::{ClientId, NoMemory, PropName, PropValue};
-use init_machine::{Full, PropStore};
+use init_machine::{Config, Entry, Full, PolicyView, PropStore};
 use std::alloc::Global;
 use std::marker::{Brand, Model};
 
@@ -73,9 +73,9 @@ impl<'a> AreaWriter<'a> {
 }
 
 impl<'a> AreaWriter<'a> {
-    ghost use Rattle.std.specs.Prelude.{◌≡◌, IsOkAnd, length};
+    ghost use Rattle.std.specs.Prelude.{◌≡◌, [], IsOkAnd, length};
     ghost use Rattle.property_area.specs.Seats.{sets_in, IsSameSeated};
-    ghost use Rattle.property_area.specs.Readers.{IsIn, handing, handed, taking, synced as with_synced, ClientStands, client_of};
+    ghost use Rattle.property_area.specs.Readers.{IsIn, handing, handed, taking, synced as with_synced, recording, opening_of, opening_with, ComesNext, IsAnswered, ClientStands, client_of};
 
     /// Gives a client a reader's seat. It begins with the sets that there are, and with the list that the client had when its
     /// last seat was taken in. It always succeeds.
@@ -105,6 +105,24 @@ impl<'a> AreaWriter<'a> {
         join_in::<Brand>(self.area, &mut self.seat, seat);
         clients_stand(self.area, &mut self.seat);
         who
+    }
+
+    /// Opens the recorded history, while it is empty and no client has a seat.
+    pub fn begin<P: PolicyView>(&mut self, config: &Config, policy: &P)
+        requires empty { (self.old.view.log ≡ []) × (self.old.view.out ≡ []) }
+        ensures writer { IsSameSeated self.old self.new
+            × (self.new.view ≡ opening_with (opening_of config.now (P.lines policy.now) self.old.view.words) self.old.view) }
+    {
+        open_log::<P, Brand>(self.area, &mut self.seat, config, policy);
+    }
+
+    /// Records an entry: the log gets it, and the list of its client gets it as a request, with its answer, its place, and the
+    /// counts of sets before and after it.
+    pub fn note(&mut self, entry: &Entry)
+        requires next { ComesNext self.old.view entry.now × IsAnswered entry.now }
+        ensures writer { IsSameSeated self.old self.new × (self.new.view ≡ recording self.old.view entry.now) }
+    {
+        record_entry::<Brand>(self.area, &mut self.seat, entry);
     }
 
     /// Tells a client that has no seat how many sets there are, and answers it.

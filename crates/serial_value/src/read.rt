@@ -26,7 +26,7 @@ pub enum CellAnswer {
 }
 
 /// The first of the twelve words that a read copies which loaded this first serial.
-pub(crate) fn words_place(at: usize, first: u64) -> usize
+pub fn words_place(at: usize, first: u64) -> usize
     requires { at < 2 ^ 32 }
     ensures { result ≡ place_of_words at first }
 {
@@ -34,7 +34,7 @@ pub(crate) fn words_place(at: usize, first: u64) -> usize
 }
 
 /// Copies the twelve words of a read that has begun.
-pub(crate) fn copy_words<V, K, R: CellRule<V, K>, Q: Asked>(
+pub fn copy_words<V, K, R: CellRule<V, K>, Q: Asked>(
     table: &Table<(), V, K, R, Global>,
     seat: &mut Seat<(), V>,
     base: usize,
@@ -56,7 +56,7 @@ pub(crate) fn copy_words<V, K, R: CellRule<V, K>, Q: Asked>(
 }
 
 /// What the serials say: the value, which is whole, or that a write came between.
-pub(crate) fn close(first: u64, last: u64, words: &[u64; 12], out: &mut [u8; 91]) -> CellAnswer
+pub fn close(first: u64, last: u64, words: &[u64; 12], out: &mut [u8; 91]) -> CellAnswer
     ensures { Closes first last words.now result out.old out.new }
 {
     if first != last {

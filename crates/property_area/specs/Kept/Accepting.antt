@@ -170,7 +170,7 @@ module _ (words : List ℕ) (m : Moment) (h : WordsHold words m) (id : ℕ) (v :
   extends = subst (Extends (tree_now m.sets m.adding)) (sym (tree_same m.sets more m.adding same)) (extends_self (tree_now m.sets m.adding))
 
   pub after : After words m words' m'
-  after = record { wide = length-set words at word; holds = holds; later = later; extends = extends; writer = refl }
+  after = record { wide = length-set words at word; holds = holds; later = later; extends = extends; writer = refl; seats = refl; asked = λ seat v' a. a }
 
   pub own_view : ViewHolds words' m' id (with_cell v (accepted v.cell name value))
   own_view = record {
@@ -183,6 +183,7 @@ module _ (words : List ℕ) (m : Moment) (h : WordsHold words m) (id : ℕ) (v :
       known_now.adding_is,
       known_now.head_is,
       clients_later (world_of words m) (world_of words' m') later v.clients known_now.clients,
+      known_now.requests,
     );
   }
 

@@ -20,6 +20,7 @@ use Rattle.property_area.specs.declared.view.AreaView.{AreaView}
 use Rattle.property_area.specs.Area.{made_on, word_at, serial_in, CellStands, Moment, world_of, WordsHold, PartHolds, ViewHolds, AreaHolds, with_cell, noted, Linked}
 use Rattle.property_area.specs.Kept.Trees.{find_now, word_is}
 use Rattle.property_area.specs.Kept.Frame.{reads}
+use Rattle.property_area.specs.Kept.Requests.{asked_told}
 use Rattle.property_area.specs.Kept.Present.{c, number_small, legal_last, area_present, value_is, present_word}
 
 -- the cell's part of a view holds beside the same other parts
@@ -63,7 +64,7 @@ module _ (words : List ℕ) (m : Moment) (h : WordsHold words m) (id : ℕ) (v :
   begun (Writer sets (Some making)) place part = (Writer sets (Some making), part, refl)
   begun (Reader number copying) place part = let first : ℕ = word_at words at in (
     Reader number (Some (record { name = name; place = place; first = first; words = [] })),
-    (part.0, reader_begins (world_of words m) number v.began v.list copying name place (area_present words m h name there) part.1),
+    (part.0, reader_begins (world_of words m) number v.began v.list copying name place (area_present words m h name there) part.1, part.2),
     (λ i. Reader number (Some (record { name = name; place = place; first = loaded i; words = [] }))),
   )
 
@@ -100,6 +101,7 @@ module _ (words : List ℕ) (m : Moment) (h : WordsHold words m) (id : ℕ) (v :
           part.0,
           reader_copies (world_of words m) number v.began v.list copying part.1 word
               (λ same value on. right_word copying i lies.0 (omega arith) is same value on),
+          part.2,
         ),
         refl,
       )
@@ -124,7 +126,7 @@ module _ (words : List ℕ) (m : Moment) (h : WordsHold words m) (id : ℕ) (v :
       let e = reader_ends (world_of words m) number v.began v.list copying part.1 (subst (IsPresent (world_of words m)) is (area_present words m h name there)) with_cell noted v whole.2 in
       let u = noted (with_cell v (Reader e.0 None)) e.1 in (
         u,
-        record { width = view.width; trie = view.trie; part = (part.0, e.2) },
+        record { width = view.width; trie = view.trie; part = (part.0, e.2, asked_told m id v e.1 part.2) },
         subst (λ (x : List ℕ × ℕ). Ends with_cell noted (Reader number (Some copying)) v x.0 x.1 u) (λ j. (whole.0 j, (ap (serial_in words m.sets) (sym is) ∙ loaded) j)) e.3,
       )
 

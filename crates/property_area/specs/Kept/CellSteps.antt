@@ -105,13 +105,23 @@ module _ (words : List ℕ) (m : Moment) (h : WordsHold words m) (id : ℕ) (v :
       later = goes_on words words' m next m.adding m.head kept (updates_later words m h name i n touch next none none' kept moved);
       extends = extends_self (tree_now m.sets m.adding);
       writer = refl;
+      seats = refl;
+      asked = λ seat v' a. a;
     }
 
     pub own_view : After words m words' m' → ViewHolds words' m' id (with_cell v (updating (sets_of v.cell) name value place done'))
     own_view a = record {
       width = view.width ∙ sym (length-set words i n);
       trie = view.trie;
-      part = (known.writes, known.sets_are, refl, known.adding_is, known.head_is, clients_later (world_of words m) (world_of words' m') a.later v.clients known.clients);
+      part = (
+        known.writes,
+        known.sets_are,
+        refl,
+        known.adding_is,
+        known.head_is,
+        clients_later (world_of words m) (world_of words' m') a.later v.clients known.clients,
+        known.requests,
+      );
     }
 
 -- a word of the backup

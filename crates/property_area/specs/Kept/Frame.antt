@@ -18,7 +18,7 @@ use Rattle.property_trie.specs.declared.view.Adding.{Adding}
 use Rattle.property_trie.proofs.Loads.{seat_extends}
 use Rattle.property_area.specs.declared.view.Client.{Client}
 use Rattle.property_area.specs.declared.view.AreaView.{AreaView}
-use Rattle.property_area.specs.Area.{tree_now, Moment, world_of, WordsHold, ClientsHold, PartHolds, ViewHolds, AreaHolds}
+use Rattle.property_area.specs.Area.{tree_now, Moment, world_of, WordsHold, ClientsHold, RequestsHold, AskedHolds, PartHolds, ViewHolds, AreaHolds}
 
 abbrev pub St : Type 0
 St = State (Unit {0}) AreaView
@@ -34,6 +34,7 @@ pub record Mine (words : List ℕ) (m : Moment) (id : ℕ) (v : AreaView) (sets 
   pub adding_is : v.trie.adding ≡ m.adding
   pub head_is : v.head ≡ m.head
   pub clients : ClientsHold (world_of words m) v.clients
+  pub requests : RequestsHold m v
 
 pub mine : (words : List ℕ) (m : Moment) (id : ℕ) (v : AreaView) (sets : List Set) (making : Option Making) → ViewHolds words m id v → v.cell ≡ Writer sets making
     → Mine words m id v sets making
@@ -45,6 +46,7 @@ mine words m id v sets making h is =
       adding_is = known.3;
       head_is = known.4;
       clients = known.5;
+      requests = known.6;
     }
 
 -- the lists of the clients that have no seat, at a later moment
@@ -60,6 +62,7 @@ reads s h i id cs w mine =
       moment = h.moment;
       words = h.words;
       there = let l = length-set s.views id w in let t = h.there in omega arith;
+      count = h.count ∙ sym (length-set s.views id w);
       each = λ seat v e. ⊎_elim
           (λ (t : (seat ≡ id) × (w ≡ v)). subst (λ (x : ℕ × AreaView). ViewHolds s.words h.moment x.0 x.1) (λ j. (sym t.0 j, t.1 j)) mine)
           (λ (t : (seat ≢ id) × (get_elem? s.views seat ≡ some v)). h.each seat v t.1)
@@ -73,13 +76,16 @@ pub record After (words : List ℕ) (m : Moment) (words' : List ℕ) (m' : Momen
   pub later : Later (world_of words m) (world_of words' m')
   pub extends : Extends (tree_now m.sets m.adding) (tree_now m'.sets m'.adding)
   pub writer : m'.writer ≡ m.writer
+  pub seats : m'.seats ≡ m.seats
+  -- what was asked of readers still holds
+  pub asked : (seat : ℕ) (v : AreaView) → AskedHolds m seat v → AskedHolds m' seat v
 
 module _ (words : List ℕ) (m : Moment) (words' : List ℕ) (m' : Moment) (a : After words m words' m') where
   -- another seat's view at the later moment
   other_part : (seat : ℕ) (cell : CellView) (v : AreaView) → seat ≢ m.writer → PartHolds (world_of words m) m seat cell v → PartHolds (world_of words' m') m' seat cell v
   other_part seat (Writer sets making) v other h = absurd (other h.0)
   other_part seat (Reader number copying) v other h =
-      ((λ is. other (is ∙ a.writer)), reader_later (world_of words m) (world_of words' m') a.later number copying v.began v.list h.1)
+      ((λ is. other (is ∙ a.writer)), reader_later (world_of words m) (world_of words' m') a.later number copying v.began v.list h.1, a.asked seat v h.2)
 
   pub other_view : (seat : ℕ) (v : AreaView) → seat ≢ m.writer → ViewHolds words m seat v → ViewHolds words' m' seat v
   other_view seat v other h = record {
@@ -95,6 +101,7 @@ writes s h i n id cs m' w a is own = record {
   moment = m';
   words = a.holds;
   there = let l = length-set s.views id w in let t = h.there in let e = a.writer in omega arith;
+  count = a.seats ∙ h.count ∙ sym (length-set s.views id w);
   each = λ seat v e. ⊎_elim
       (λ (t : (seat ≡ id) × (w ≡ v)). subst (λ (x : ℕ × AreaView). ViewHolds (set s.words i n) m' x.0 x.1) (λ j. (sym t.0 j, t.1 j)) own)
       (λ (t : (seat ≢ id) × (get_elem? s.views seat ≡ some v)).

@@ -51,7 +51,7 @@ module _ (words : List ℕ) (m : Moment) (h : WordsHold words m) (i n : ℕ) (ad
       (λ q. stays (word_else words i n (find (tree_of m.sets) (parts_of q)) (outside q)) (λ k value above below e. omega arith))
 
   pub trie_after : AddingStands (set words i n) m.sets adding' → Extends (tree_now m.sets m.adding) (tree_now m.sets adding') → After words m (set words i n) m'
-  trie_after trie more = record { wide = length-set words i n; holds = trie_stored trie; later = trie_later; extends = more; writer = refl }
+  trie_after trie more = record { wide = length-set words i n; holds = trie_stored trie; later = trie_later; extends = more; writer = refl; seats = refl; asked = λ seat v' a. a }
 
 -- what is known where the writer adds a name
 module _ (words : List ℕ) (m : Moment) (h : WordsHold words m) (id : ℕ) (v : AreaView) (view : ViewHolds words m id v) (name : List ℕ) (linked : ℕ) (fresh : List ℕ)
@@ -90,6 +90,7 @@ module _ (words : List ℕ) (m : Moment) (h : WordsHold words m) (id : ℕ) (v :
             refl,
             adder.head_is,
             clients_later (world_of words m) w' a.later v.clients adder.clients,
+            adder.requests,
           );
         }
 

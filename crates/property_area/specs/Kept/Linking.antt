@@ -180,7 +180,7 @@ module _ (words : List ℕ) (m : Moment) (h : WordsHold words m) (id : ℕ) (v :
   extends = subst (λ (x : Tree × Tree). Extends x.0 x.1) (λ i. (sym (tree_before words m h id v view name linked fresh adds) i, sym later_tree i)) (extends-with_cell tree ps free grown_absent)
 
   pub after : After words m words' m'
-  after = record { wide = length-set words link free; holds = holds; later = later; extends = extends; writer = refl }
+  after = record { wide = length-set words link free; holds = holds; later = later; extends = extends; writer = refl; seats = refl; asked = λ seat v' a. a }
 
   abbrev pub added_view : AreaView
   added_view = with_added with_cell with_trie v.cell v.trie v name value free
@@ -200,6 +200,7 @@ module _ (words : List ℕ) (m : Moment) (h : WordsHold words m) (id : ℕ) (v :
           refl,
           known.head_is,
           clients_later (world_of words m) (world_of words' m') later v.clients known.clients,
+          known.requests,
         );
       }
 

@@ -29,11 +29,12 @@ use Rattle.property_area.specs.Area.{tree_now, Moment, world_of, WordsHold, Part
 use Rattle.property_area.specs.Kept.Trees.{Parts, mark_now, now_stands, find_now}
 use Rattle.property_area.specs.Kept.Sets.{no_value}
 use Rattle.property_area.specs.Kept.Frame.{reads}
+use Rattle.property_area.specs.Kept.Requests.{asked_told}
 
 -- a view with another trie part, of the same addition
-pub part_trie : (w : World) (m : Moment) (id : ℕ) (v : AreaView) (t : TrieView) → t.adding ≡ v.trie.adding → (cell : CellView) → PartHolds w m id cell v → PartHolds w m id cell (with_trie v t)
-part_trie w m id v t same (Writer sets making) part = (part.0, part.1, part.2, same ∙ part.3, part.4, part.5)
-part_trie w m id v t same (Reader number copying) part = part
+pub part_trie : (w : World) (m : Moment) (id : ℕ) (v : AreaView) (t : TrieView) → t.adding ≡ v.trie.adding → t.live ≡ v.trie.live → (cell : CellView) → PartHolds w m id cell v → PartHolds w m id cell (with_trie v t)
+part_trie w m id v t same live (Writer sets making) part = (part.0, part.1, part.2, same ∙ part.3, part.4, part.5, part.6)
+part_trie w m id v t same live (Reader number copying) part = (part.0, part.1, λ l. part.2 (subst IsTrue live l))
 
 -- one more reading that is no Again, in a reader's list
 met_still : (list : List ClientItem) (name q : List ℕ) (number high : ℕ) → MetUpTo list q high → MetUpTo (list ++ Told (Absent name number) ∷ []) q high
@@ -108,7 +109,7 @@ module _ (words : List ℕ) (m : Moment) (h : WordsHold words m) (id : ℕ) (v :
     record {
       width = view.width;
       trie = record { known = view.trie.known; trail = tt };
-      part = part_trie w m id v (rested v.trie) refl v.cell view.part;
+      part = part_trie w m id v (rested v.trie) refl refl v.cell view.part;
     },
     (subst (λ (s : List Set). find (tree_of s) ps ≡ 0) (sym part.1) none, refl),
   )
@@ -118,7 +119,7 @@ module _ (words : List ℕ) (m : Moment) (h : WordsHold words m) (id : ℕ) (v :
       width = view.width;
       trie = record { known = view.trie.known; trail = tt };
       part = subst (λ (c : CellView). PartHolds w m id c u) (sym is)
-          (part.0, reader_misses w number copying v.began v.list name part.1 (no_value m.sets name number part.1.early none));
+          (part.0, reader_misses w number copying v.began v.list name part.1 (no_value m.sets name number part.1.early none), asked_told m id v (Absent name number) part.2);
     },
     refl,
   )
@@ -162,7 +163,7 @@ module _ (words : List ℕ) (m : Moment) (h : WordsHold words m) (id : ℕ) (v :
         record {
           width = view.width;
           trie = record { known = view.trie.known; trail = found.3 };
-          part = part_trie w m id v t refl v.cell view.part;
+          part = part_trie w m id v t refl refl v.cell view.part;
         },
         record {
           none = λ is. absurd (some_link is);
@@ -191,7 +192,7 @@ module _ (words : List ℕ) (m : Moment) (h : WordsHold words m) (id : ℕ) (v :
         record {
           width = view.width;
           trie = record { known = known_more tree v.trie.known name place some_link (sym at) view.trie.known; trail = tt };
-          part = part_trie w m id v t refl v.cell view.part;
+          part = part_trie w m id v t refl refl v.cell view.part;
         },
         record {
           none = λ is. absurd (some_link is);
