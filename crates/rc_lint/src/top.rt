@@ -23,6 +23,7 @@ use crate::watched::{SeenFiles, Watched};
 use init_base::{Files, IoRefusal, List, Sink};
 use rc_import::{LoadRefusal, Loaded};
 use std::alloc::Global;
+use std::mem::forget;
 
 /// What is told of a tree.
 #[derive(Drop)]
@@ -141,7 +142,12 @@ pub fn lint<F: Files, K: Sink>(
     ensures unwritten { IsUnwritten (K.taken out.old) (K.taken out.new) result }
 {
     match report_of(alloc, request, files) {
-        Ok(report) => write_report(alloc, request, &report, out),
+        Ok(report) => {
+            let status = write_report(alloc, request, &report, out);
+            // The program ends behind this, and the system takes its memory at once.
+            forget(report);
+            status
+        }
         Err(refusal) => Status::Refused(refusal),
     }
 }

@@ -19,4 +19,4 @@ returns-clause-told g c = λ told is.
       | then-request+in_ok-add_notes w ↦ ap errors_of w.findings-is ∙ w.in_ok-add_notes.ensures
       | else-request w ↦ ap errors_of w.findings-is
     ] in
-    same ∙ c.in_ok-findings.ensures.told told is ∙ ap (errors_among c.args.request.now.allowed told) c.items.ensures
+    same ∙ c.in_ok-findings.ensures.told told is ∙ ap (errors_among c.args.request.now.allowed told) c.items-diagnostics.ensures
