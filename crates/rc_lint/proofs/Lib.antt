@@ -9,3 +9,4 @@ pub mod Pages
 pub mod Digits
 pub mod Placed
 pub mod Said
+pub mod Words

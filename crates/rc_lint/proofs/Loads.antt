@@ -1,5 +1,5 @@
 -- Reading the build files and the rc files.
-use Rattle.std.proofs.Common.{◌≡◌, ℕ, ◌+◌, ◌<◌, ◌≤◌, ◌⊎◌, Bool, true, false, List, [], ◌++◌, length, Option, Some, None, Result, Ok, Err, refl, sym, subst, ap, inl, inr, ◌∙◌, arith}
+use Rattle.std.proofs.Common.{◌≡◌, ℕ, ◌<◌, ◌≤◌, List, ◌++◌, length, Option, Result, Ok, Err, subst, ap, inl, inr, ◌∙◌, arith}
 use Rattle.std.specs.Prelude.{if◌then◌else◌, nat_lt}
 use Rattle.std.proofs.lemmas.Bool.Decides.{nat_tests}
 use Rattle.init_machine.specs.declared.config.Pair.{Pair}
@@ -13,8 +13,8 @@ use Rattle.rc_import.specs.World.{IsWorld, World}
 use Rattle.rc_import.specs.declared.loaded.Loaded.{Loaded}
 use Rattle.rc_import.specs.declared.loaded.LoadRefusal.{LoadRefusal}
 use Rattle.rc_import.specs.declared.loaded.LoadRefusal.TheVariants as why
-use Rattle.rc_lint.specs.Code.Steps.{AreBuildFiles, GivesBuildFile, GivesBuildFiles, GivesText, IsTooLong, RefusesText, RefusesVendor}
-use Rattle.rc_lint.specs.Loads.{IsWorldOf, Tree, behind_build_file, build_text, bytes_or_none, faults_of, loaded, pairs_of, system_path, vendor_path, with_build_files}
+use Rattle.rc_lint.specs.Code.Steps.{AreBuildFiles, GivesBuildFile, GivesBuildFiles, GivesText, RefusesText}
+use Rattle.rc_lint.specs.Loads.{IsWorldOf, Tree, behind_build_file, build_text, faults_of, loaded, pairs_of, system_path, vendor_path, with_build_files}
 
 -- ---- build files
 

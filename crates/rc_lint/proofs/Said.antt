@@ -1,6 +1,5 @@
 -- What the statuses say.
-use Rattle.std.proofs.Common.{◌≡◌, ℕ, ◌≢◌, ◌==◌, Bool, true, false, List, [], ◌∷◌, length, Option, Result, Ok, Err, refl, sym, subst, ap, ◌∙◌, inl, inr, arith}
-use Rattle.std.specs.Prelude.{if◌then◌else◌}
+use Rattle.std.proofs.Common.{◌≡◌, ℕ, ◌≢◌, List, [], ◌∷◌, length, Option, Result, Err, refl, sym, subst, ap, ◌∙◌, inl, arith}
 use Rattle.std.specs.Io.KnownBytes.{append_known}
 use Rattle.init_machine.specs.declared.diagnostic.Diagnostic.{Diagnostic}
 use Rattle.init_trace.specs.Written.{TakesFront}
@@ -9,12 +8,12 @@ use Rattle.rc_import.specs.Answers.{IsAnswer, is_read_fault}
 use Rattle.rc_import.specs.declared.loaded.Loaded.{Loaded}
 use Rattle.rc_import.specs.declared.loaded.LoadRefusal.{LoadRefusal}
 use Rattle.rc_import.specs.declared.loaded.LoadRefusal.TheVariants as why
-use Rattle.rc_lint.specs.Code.Reported.{Finds, FindsErrors, status_of}
+use Rattle.rc_lint.specs.Code.Reported.{FindsErrors, status_of}
 use Rattle.rc_lint.specs.Code.Sources.{IsLater}
 use Rattle.rc_lint.specs.Findings.{errors_of}
 use Rattle.rc_lint.specs.Loads.{loaded}
 use Rattle.rc_lint.specs.Report.{report_text}
-use Rattle.rc_lint.specs.Says.{IsReport, IsUnwritten, LintSays, Reports, ReportsErrors, ReportsFront}
+use Rattle.rc_lint.specs.Says.{IsReport, IsUnwritten, LintSays, ReportsFront}
 use Rattle.rc_lint.specs.Status.{AreCounted, Counts}
 use Rattle.rc_lint.specs.Told.{Told}
 use Rattle.rc_lint.specs.declared.request.Request.{Request}
@@ -24,51 +23,51 @@ use Rattle.rc_lint.specs.declared.top.Report.{Report}
 
 -- ---- a report that is written
 
-is_report : (request : Request) (told : Told) (report : Report) (errors : List Diagnostic) (text : List ℕ)
-    → FindsErrors request told report → errors_of report.findings ≡ errors → text ≡ report_text request.root report.findings report.files
+is_report : (request : Request) (told : Told) (report : Report) (files : ℕ) (errors : List Diagnostic) (text : List ℕ)
+    → FindsErrors request told report → errors_of report.findings ≡ errors → text ≡ report_text request.root report.findings files
     → IsReport request told errors text
-is_report request told report errors text finds are printed = record {
+is_report request told report files errors text finds are printed = record {
   load = finds.load;
   loads = finds.loads;
   findings = report.findings;
-  files = report.files;
+  files = files;
   errors_are = are;
   errors_told = sym are ∙ finds.errors;
   printed = printed;
 }
 
-said_by : (request : Request) (told : Told) (report : Report) (errors : List Diagnostic) (text : List ℕ) (old new : Option (List ℕ))
-    → FindsErrors request told report → errors_of report.findings ≡ errors → text ≡ report_text request.root report.findings report.files
+said_by : (request : Request) (told : Told) (report : Report) (files : ℕ) (errors : List Diagnostic) (text : List ℕ) (old new : Option (List ℕ))
+    → FindsErrors request told report → errors_of report.findings ≡ errors → text ≡ report_text request.root report.findings files
     → new ≡ append_known old text → LintSays request told old new (status_of errors)
-said_by request told report [] text old new finds are printed written = record {
+said_by request told report files [] text old new finds are printed written = record {
   text = text;
-  is_report = is_report request told report [] text finds are printed;
+  is_report = is_report request told report files [] text finds are printed;
   written = written;
 }
-said_by request told report (error ∷ errors) text old new finds are printed written = record {
+said_by request told report files (error ∷ errors) text old new finds are printed written = record {
   errors = error ∷ errors;
   some = λ none. cc;
   reports = record {
     text = text;
-    is_report = is_report request told report (error ∷ errors) text finds are printed;
+    is_report = is_report request told report files (error ∷ errors) text finds are printed;
     written = written;
   };
 }
 
-pub whole_said : (request : Request) (told : Told) (report : Report) (text : List ℕ) (old new : Option (List ℕ)) (result : Status)
-    → FindsErrors request told report → text ≡ report_text request.root report.findings report.files
+pub whole_said : (request : Request) (told : Told) (report : Report) (files : ℕ) (text : List ℕ) (old new : Option (List ℕ)) (result : Status)
+    → FindsErrors request told report → text ≡ report_text request.root report.findings files
     → new ≡ append_known old text → result ≡ status_of (errors_of report.findings) → LintSays request told old new result
-whole_said request told report text old new result finds printed written is =
+whole_said request told report files text old new result finds printed written is =
     subst (λ (s : Status). LintSays request told old new s) (sym is)
-    (said_by request told report (errors_of report.findings) text old new finds refl printed written)
+    (said_by request told report files (errors_of report.findings) text old new finds refl printed written)
 
-pub front_said : (request : Request) (told : Told) (report : Report) (text : List ℕ) (old new : Option (List ℕ))
-    → FindsErrors request told report → text ≡ report_text request.root report.findings report.files
+pub front_said : (request : Request) (told : Told) (report : Report) (files : ℕ) (text : List ℕ) (old new : Option (List ℕ))
+    → FindsErrors request told report → text ≡ report_text request.root report.findings files
     → TakesFront old new text → ReportsFront request told old new
-front_said request told report text old new finds printed front = record {
+front_said request told report files text old new finds printed front = record {
   errors = errors_of report.findings;
   text = text;
-  is_report = is_report request told report (errors_of report.findings) text finds refl printed;
+  is_report = is_report request told report files (errors_of report.findings) text finds refl printed;
   written = front;
 }
 

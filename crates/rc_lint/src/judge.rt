@@ -51,6 +51,13 @@ fn tell(
     })
 }
 
+/// What is told of the diagnostics of a tree, and the files that have them.
+#[derive(Drop)]
+pub struct Judged {
+    pub findings: List<Finding>,
+    pub sources: List<Source>,
+}
+
 /// Tells of the diagnostics of a tree, in order.
 pub fn tell_all<F: Files>(
     alloc: Global,
@@ -58,8 +65,8 @@ pub fn tell_all<F: Files>(
     request: &Request,
     teller: &mut Teller<'_>,
     diagnostics: &[Diagnostic],
-) -> Result<List<Finding>, LoadRefusal>
-    ensures told { (told : Told) → IsTold (F.tree files.old) told → IfOk result (λ findings. errors_of findings ≡ errors_among request.now.allowed told diagnostics.now) }
+) -> Result<Judged, LoadRefusal>
+    ensures told { (told : Told) → IsTold (F.tree files.old) told → IfOk result (λ judged. errors_of judged.findings ≡ errors_among request.now.allowed told diagnostics.now) }
     ensures kind { IfErr result IsLater }
     ensures tree { F.tree files.new ≡ F.tree files.old }
     ensures cause { Counted (is_read_fault result) (F.fault_count files.old) (F.fault_count files.new) }
@@ -71,5 +78,8 @@ pub fn tell_all<F: Files>(
         let source = &sources.sources.items()[place];
         tell(&mut findings, request, teller, source, diagnostic)?;
     }
-    Ok(findings)
+    Ok(Judged {
+        findings,
+        sources: sources.sources,
+    })
 }

@@ -2,10 +2,22 @@
 
 ghost use Rattle.std.specs.Prelude.{◌≡◌};
 ghost use Rattle.std.specs.List.{position_or_len};
+ghost use Rattle.std.specs.Str.{bytes_eq};
 ghost use Rattle.rc_parse.specs.Lines.{arguments as arguments_lem, first_word as first_word_lem, is_header as is_header_lem, is_import as is_import_lem, is_on as is_on_lem, is_service as is_service_lem, lines_before_header};
 
 use init_base::Text;
 use rc_tokens::{Line, LineSlice};
+
+/// Whether a word is a known one. Most words differ from it in length, which is looked at first.
+#[tactic(auto, using(crate::proofs::Words::other_length))]
+pub fn is_word(word: &[u8], known: &[u8]) -> bool
+    ensures { result ≡ bytes_eq word.now known.now }
+{
+    if word.len() != known.len() {
+        return false;
+    }
+    word == known
+}
 
 /// The first of some words, or the empty word.
 pub fn first_word(words: &[Text]) -> &[u8]
@@ -31,21 +43,21 @@ pub fn arguments(words: &[Text]) -> &[Text]
 pub fn is_on(line: &Line<'_>) -> bool
     ensures { result ≡ is_on_lem line.now }
 {
-    first_word(line.words()) == b"on".as_slice()
+    is_word(first_word(line.words()), b"on")
 }
 
 /// Whether a line begins a service.
 pub fn is_service(line: &Line<'_>) -> bool
     ensures { result ≡ is_service_lem line.now }
 {
-    first_word(line.words()) == b"service".as_slice()
+    is_word(first_word(line.words()), b"service")
 }
 
 /// Whether a line is an import.
 pub fn is_import(line: &Line<'_>) -> bool
     ensures { result ≡ is_import_lem line.now }
 {
-    first_word(line.words()) == b"import".as_slice()
+    is_word(first_word(line.words()), b"import")
 }
 
 /// Whether a line begins a section.

@@ -15,6 +15,7 @@ mod message;
 mod not_modelled;
 mod note;
 mod page;
+mod quotes;
 mod request;
 mod source;
 mod status;
@@ -51,7 +52,7 @@ fn fault_behind<'a>(
 /// Writes the report that is asked for.
 fn report(rt: &HostRuntime, request: &Request, root: &Text) -> Result<u8, NoMemory> {
     let alloc = rt.alloc();
-    let mut files = Watched::new(alloc, StdFiles::at(rt, alloc, root)?);
+    let mut files = Watched::new(alloc, StdFiles::at(rt, alloc, root)?, request.warns);
     let mut out = StdSink::stdout(rt);
     let status = lint(alloc, request, &mut files, &mut out);
     let fault = fault_behind(&status, &files.files, &out);

@@ -8,11 +8,10 @@ mod text;
 mod trigger;
 mod word;
 
-use crate::excuse::Part;
 use crate::lines::{arguments, first_word};
 use crate::source::Source;
-use crate::watched::Seen;
-use init_base::{List, NoMemory, Text};
+use crate::watched::SeenFiles;
+use init_base::{NoMemory, Text};
 use init_machine::{Config, DiagKind, Diagnostic, ListStore, ServiceDef};
 use prop_rules::boot_view;
 use std::alloc::Global;
@@ -25,9 +24,9 @@ pub struct Teller<'a> {
     alloc: Global,
     root: &'a Text,
     services: &'a [ServiceDef],
-    /// The names of the services, in the same order.
-    names: TextIndex,
-    seen: &'a [Seen],
+    /// The names of the services, in the same order, once they were asked for.
+    names: Option<TextIndex>,
+    seen: &'a SeenFiles,
     /// Where the last line of a build file was found that was told of.
     found: BuildLine,
     /// What the paths of imports are expanded in.
@@ -39,27 +38,31 @@ impl<'a> Teller<'a> {
         alloc: Global,
         root: &'a Text,
         config: &'a Config,
-        seen: &'a List<Seen>,
+        seen: &'a SeenFiles,
     ) -> Result<Teller<'a>, NoMemory> {
-        let services = config.services.items();
-        let mut names = TextIndex::new(alloc);
-        for service in services {
-            names.add(service.name.bytes())?;
-        }
         Ok(Teller {
             alloc,
             root,
-            services,
-            names,
-            seen: seen.items(),
+            services: config.services.items(),
+            names: None,
+            seen,
             found: BuildLine::FIRST,
             view: boot_view(alloc, &config.pairs)?,
         })
     }
 
     /// The service of a name that stays.
-    fn declared(&self, name: &[u8]) -> Option<&ServiceDef> {
-        self.services.get(self.names.place(name)?)
+    fn declared(&mut self, name: &[u8]) -> Result<Option<&'a ServiceDef>, NoMemory> {
+        let names = match self.names.take() {
+            Some(names) => names,
+            None => names_of(self.alloc, self.services)?,
+        };
+        let place = names.place(name);
+        self.names = Some(names);
+        Ok(match place {
+            Some(place) => self.services.get(place),
+            None => None,
+        })
     }
 
     /// The message of a diagnostic that is excused.
@@ -68,7 +71,7 @@ impl<'a> Teller<'a> {
         source: &Source,
         diagnostic: &Diagnostic,
     ) -> Result<Text, NoMemory> {
-        let (words, part) = words_at(source, diagnostic.line);
+        let (words, part) = source.words_at(diagnostic.line);
         match diagnostic.kind {
             DiagKind::BadTrigger => trigger::not_equal(self.alloc),
             _ => word::not_modelled(self.alloc, part, words),
@@ -78,7 +81,7 @@ impl<'a> Teller<'a> {
     /// The message of a diagnostic that is an error.
     pub fn error(&mut self, source: &Source, diagnostic: &Diagnostic) -> Result<Text, NoMemory> {
         let alloc = self.alloc;
-        let (words, part) = words_at(source, diagnostic.line);
+        let (words, part) = source.words_at(diagnostic.line);
         let behind = arguments(words);
         match diagnostic.kind {
             DiagKind::Cut => cut(alloc),
@@ -92,7 +95,7 @@ impl<'a> Teller<'a> {
             DiagKind::BadService => service::bad_service(alloc, behind),
             DiagKind::ServiceAgain => {
                 let name = first_word(behind);
-                service::service_again(alloc, self.root, name, self.declared(name))
+                service::service_again(alloc, self.root, name, self.declared(name)?)
             }
             DiagKind::BadImport => import::bad_import(alloc, behind),
             DiagKind::BadProp => self.bad_prop(diagnostic),
@@ -125,7 +128,7 @@ impl<'a> Teller<'a> {
     /// was told of.
     fn line_of_build_file(&mut self, diagnostic: &Diagnostic) -> &'a [u8] {
         let file = diagnostic.file.bytes();
-        let Some(place) = self.seen.iter().position(|seen| seen.path.is(file)) else {
+        let Some(place) = self.seen.place(file) else {
             return &[];
         };
         if self.found.place != place || self.found.number > diagnostic.line {
@@ -140,10 +143,13 @@ impl<'a> Teller<'a> {
     /// Goes to a line of the build file, and answers it without the blanks round it.
     fn go_to(&mut self, number: u32) -> &'a [u8] {
         let found = &mut self.found;
-        let Some(seen) = self.seen.get(found.place) else {
+        let Some(seen) = self.seen.files.at(found.place) else {
             return &[];
         };
-        let behind = seen.text.bytes().get(found.start..).unwrap_or_default();
+        let Some(text) = &seen.text else {
+            return &[];
+        };
+        let behind = text.bytes().get(found.start..).unwrap_or_default();
         for line in behind.split(|byte| *byte == b'\n') {
             if found.number == number {
                 return line.trim_ascii();
@@ -153,6 +159,15 @@ impl<'a> Teller<'a> {
         }
         &[]
     }
+}
+
+/// The names of the services, in the same order.
+fn names_of(alloc: Global, services: &[ServiceDef]) -> Result<TextIndex, NoMemory> {
+    let mut names = TextIndex::new(alloc);
+    for service in services {
+        names.add(service.name.bytes())?;
+    }
+    Ok(names)
 }
 
 /// A physical line of a build file.
@@ -180,24 +195,4 @@ fn cut(alloc: Global) -> Result<Text, NoMemory> {
         b"the file ends inside quotes or behind a backslash, in the line that begins here",
     )?
     .end()
-}
-
-/// The words of a line, and what it stands in.
-fn words_at(source: &Source, line: u32) -> (&[Text], Option<Part>) {
-    let Ok(place) = source
-        .parts
-        .items()
-        .binary_search_by_key(&line, |part| part.line)
-    else {
-        return (&[], None);
-    };
-    let words = match source.tokens.lines().at(place) {
-        Some(line) => line.words(),
-        None => &[],
-    };
-    let part = match source.parts.at(place) {
-        Some(part) => part.part,
-        None => None,
-    };
-    (words, part)
 }

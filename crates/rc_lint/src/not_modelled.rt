@@ -5,6 +5,8 @@ ghost use Rattle.std.specs.List.{list_any};
 ghost use Rattle.std.specs.Str.{bytes_eq};
 ghost use Rattle.rc_lint.specs.NotModelled.{is_command_not_modelled as is_command_not_modelled_lem, is_option_not_modelled as is_option_not_modelled_lem};
 
+use crate::lines::is_word;
+
 /// Commands (AOSP, `GetBuiltinFunctionMap` in init's builtins.cpp, Android 10 to 15).
 pub const COMMANDS: [&[u8]; 19] = [
     b"class_reset_post_data",
@@ -48,13 +50,20 @@ pub const OPTIONS: [&[u8]; 13] = [
 fn is_among(words: &[&[u8]], word: &[u8]) -> bool
     ensures { result ≡ list_any (λ known. bytes_eq known.now word.now) words.now }
 {
-    words.iter().any(|known| *known == word)
+    words.iter().any(|known| is_word(known, word))
 }
 
-/// Whether AOSP's init has a command that this machine doesn't model.
+/// The bytes of the shortest of these commands.
+const LEAST_BYTES: usize = 7;
+
+/// Whether AOSP's init has a command that this machine doesn't model. Most words are too short for one.
+#[tactic(auto, using(crate::proofs::Words::short_is_none))]
 pub fn is_command_not_modelled(word: &[u8]) -> bool
     ensures { result ≡ is_command_not_modelled_lem word.now }
 {
+    if word.len() < LEAST_BYTES {
+        return false;
+    }
     is_among(&COMMANDS, word)
 }
 

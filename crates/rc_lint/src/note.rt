@@ -8,11 +8,14 @@ ghost use Rattle.std.specs.Prelude.{◌≡◌, [], OnOk};
 ghost use Rattle.rc_lint.specs.Findings.{errors_at, errors_of};
 
 use crate::finding::{About, Finding, HintKind, WarningKind};
-use crate::watched::Seen;
+use crate::source::Source;
+use crate::top::Read;
+use crate::watched::SeenFiles;
+use event::Sent;
 use init_base::{List, NoMemory, Text};
-use init_machine::Config;
+use init_machine::{Command, Config};
+use reference::Names;
 use std::alloc::Global;
-use text_index::TextIndex;
 
 /// What is told beside the diagnostics.
 #[derive(Clone, Copy, Debug, PartialEq, Eq)]
@@ -45,23 +48,19 @@ pub struct Note {
 
 /// The notes on a tree.
 #[derive(Drop)]
-pub struct Notes {
+pub struct Notes<'a> {
     pub alloc: Global,
-    files: TextIndex,
+    seen: &'a SeenFiles,
     notes: Vec<Note>,
 }
 
-impl Notes {
-    fn new(alloc: Global, seen: &[Seen]) -> Result<Notes, NoMemory> {
-        let mut files = TextIndex::new(alloc);
-        for file in seen {
-            files.add(file.path.bytes())?;
-        }
-        Ok(Notes {
+impl<'a> Notes<'a> {
+    fn new(alloc: Global, seen: &'a SeenFiles) -> Notes<'a> {
+        Notes {
             alloc,
-            files,
+            seen,
             notes: Vec::new(alloc),
-        })
+        }
     }
 
     /// Adds a note.
@@ -72,7 +71,7 @@ impl Notes {
         kind: NoteKind,
         message: Text,
     ) -> Result<(), NoMemory> {
-        let place = self.files.place(file.bytes()).unwrap_or(usize::MAX);
+        let place = self.seen.place(file.bytes()).unwrap_or(usize::MAX);
         self.notes.push(Note {
             place,
             file: file.share()?,
@@ -91,12 +90,38 @@ impl Notes {
     }
 }
 
+/// Adds the warnings of commands, and what they trigger.
+fn add_commands<'a>(
+    notes: &mut Notes<'_>,
+    names: &Names,
+    sent: &mut Sent<'a>,
+    commands: &'a [Command],
+) -> Result<(), NoMemory> {
+    for command in commands {
+        reference::add(notes, names, command)?;
+        sent.add(command)?;
+    }
+    Ok(())
+}
+
+/// Adds the warnings of a tree.
+fn add_warnings(notes: &mut Notes<'_>, config: &Config) -> Result<(), NoMemory> {
+    let names = Names::of(notes.alloc, config)?;
+    let mut sent = Sent::by_init(notes.alloc)?;
+    for action in config.actions.items() {
+        add_commands(notes, &names, &mut sent, action.commands.items())?;
+    }
+    for service in config.services.items() {
+        add_commands(notes, &names, &mut sent, service.onrestart.items())?;
+    }
+    event::add(notes, sent, config)
+}
+
 /// The notes on a tree.
-fn notes_of(alloc: Global, config: &Config, seen: &List<Seen>) -> Result<Vec<Note>, NoMemory> {
-    let mut notes = Notes::new(alloc, seen.items())?;
-    reference::add(&mut notes, config)?;
-    event::add(&mut notes, config)?;
-    hint::add(&mut notes, seen.items())?;
+fn notes_of(alloc: Global, tree: &Read, sources: &List<Source>) -> Result<Vec<Note>, NoMemory> {
+    let mut notes = Notes::new(alloc, &tree.seen);
+    add_warnings(&mut notes, &tree.loaded.config)?;
+    hint::add(&mut notes, tree.seen.files.items(), sources.items())?;
     notes.in_order()
 }
 
@@ -115,12 +140,12 @@ fn add_note(findings: &mut List<Finding>, note: Note) -> Result<(), NoMemory>
 pub fn add_notes(
     alloc: Global,
     findings: &mut List<Finding>,
-    config: &Config,
-    seen: &List<Seen>,
+    tree: &Read,
+    sources: &List<Source>,
 ) -> Result<(), NoMemory>
     ensures { OnOk result (errors_of findings.new ≡ errors_of findings.old) }
 {
-    for note in notes_of(alloc, config, seen)? {
+    for note in notes_of(alloc, tree, sources)? {
         add_note(findings, note)?;
     }
     Ok(())

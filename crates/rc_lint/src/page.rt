@@ -15,6 +15,9 @@ use init_base::{IoRefusal, List, NoMemory, Sink, Text};
 use init_machine::DiagKind;
 use std::alloc::Global;
 
+/// About how many bytes a finding's line has.
+const BYTES_OF_LINE: usize = 128;
+
 /// Adds bytes as they are.
 fn put(page: &mut Vec<u8>, bytes: &[u8]) -> Result<(), NoMemory>
     ensures { OnOk result (page.new.items ≡ page.old.items ++ bytes.now) }
@@ -210,7 +213,7 @@ pub fn page_of(
     ensures { IfOk result (λ page. page.items ≡ report_text root.now findings.now files) }
 {
     let findings = findings.items();
-    let mut page = Vec::new(alloc);
+    let mut page = Vec::with_capacity(alloc, findings.len().saturating_mul(BYTES_OF_LINE))?;
     put_findings(&mut page, root, findings)?;
     put_last(
         &mut page,

@@ -22,9 +22,9 @@ use text_index::TextIndex;
 /// The most bytes of a file.
 const MOST_BYTES: usize = 1_048_576;
 
-/// What a line stands in. None where it is in no section, or in an import.
+/// A header of a file, and what the lines below it stand in: none where it is an import.
 #[derive(Clone, Copy)]
-pub struct LinePart {
+pub struct Header {
     pub line: u32,
     pub part: Option<Part>,
 }
@@ -34,10 +34,42 @@ pub struct LinePart {
 pub struct Source {
     pub file: Text,
     pub tokens: Tokens,
-    /// What each line stands in, in order.
-    pub parts: List<LinePart>,
+    /// Its headers, in order.
+    pub headers: List<Header>,
     /// The numbers of the lines that another init takes.
     pub taken: HashSet<u32>,
+}
+
+impl Source {
+    /// The words of the line with this number, and what it stands in: none where it is in no section, or in an import.
+    pub fn words_at(&self, number: u32) -> (&[Text], Option<Part>) {
+        let lines = self.tokens.lines();
+        match lines.at(place_of_line(&lines, number)) {
+            Some(line) if line.number() == number => (line.words(), self.part_at(number)),
+            _ => (&[], None),
+        }
+    }
+
+    /// What a line stands in.
+    fn part_at(&self, number: u32) -> Option<Part> {
+        let headers = self.headers.items();
+        let behind = headers.partition_point(|header| header.line <= number);
+        headers[..behind].last()?.part
+    }
+}
+
+/// The place of the first line with this number or a greater one.
+fn place_of_line(lines: &LineSlice<'_>, number: u32) -> usize {
+    let mut least = 0;
+    let mut most = lines.len();
+    while least < most {
+        let middle = least + (most - least) / 2;
+        match lines.at(middle) {
+            Some(line) if line.number() < number => least = middle + 1,
+            _ => most = middle,
+        }
+    }
+    least
 }
 
 /// Whether a diagnostic of this kind can be excused.
@@ -82,18 +114,18 @@ fn read_tokens<F: Files>(alloc: Global, files: &mut F, path: &Text) -> Result<To
     }
 }
 
-/// What each of these lines stands in.
-fn parts_of(alloc: Global, mut lines: LineSlice<'_>) -> Result<List<LinePart>, NoMemory> {
-    let mut parts = List::with_capacity(alloc, lines.len())?;
-    let mut part = None;
+/// The headers among these lines.
+fn headers_of(alloc: Global, mut lines: LineSlice<'_>) -> Result<List<Header>, NoMemory> {
+    let mut headers = List::new(alloc);
     while let Some(line) = lines.pop() {
         if is_header(&line) {
-            part = part_below(&line);
+            headers.push(Header {
+                line: line.number(),
+                part: part_below(&line),
+            })?;
         }
-        let line = line.number();
-        parts.push(LinePart { line, part })?;
     }
-    Ok(parts)
+    Ok(headers)
 }
 
 /// What the lines below a header stand in.
@@ -121,11 +153,11 @@ fn read_source<F: Files>(
 {
     let tokens = read_tokens(alloc, files, file)?;
     let taken = taken_elsewhere(alloc, allowed, &tokens.lines())?;
-    let parts = parts_of(alloc, tokens.lines())?;
+    let headers = headers_of(alloc, tokens.lines())?;
     Ok(Source {
         file: file.share()?,
         tokens,
-        parts,
+        headers,
         taken,
     })
 }

@@ -1,39 +1,43 @@
 //! The top call: all that the program does for a request.
 
-ghost use Rattle.std.specs.Prelude.{◌≡◌, ℕ};
+ghost use Rattle.std.specs.Prelude.{◌≡◌, ℕ, IfErr, IfOk};
 ghost use Rattle.init_base.specs.Faults.{Counted};
 ghost use Rattle.rc_import.specs.Answers.{is_read_fault};
 ghost use Rattle.rc_lint.specs.Code.Reported.{Finds, FindsErrors, IsRead, status_of as status_of_lem};
+ghost use Rattle.rc_lint.specs.Code.Sources.{IsLater};
+ghost use Rattle.rc_lint.specs.Excused.{errors_among};
 ghost use Rattle.rc_lint.specs.Findings.{errors_of};
 ghost use Rattle.rc_lint.specs.Says.{IsUnwritten, LintSays};
 ghost use Rattle.rc_lint.specs.Status.{AreCounted};
 ghost use Rattle.rc_lint.specs.Told.{IsTold, Told};
 
 use crate::finding::Finding;
-use crate::judge::tell_all;
+use crate::judge::{Judged, tell_all};
 use crate::loading::load;
 use crate::message::Teller;
 use crate::note::add_notes;
 use crate::page::{count_errors, page_of, send};
 use crate::request::Request;
 use crate::status::Status;
-use crate::watched::{Seen, Watched};
+use crate::watched::{SeenFiles, Watched};
 use init_base::{Files, IoRefusal, List, Sink};
 use rc_import::{LoadRefusal, Loaded};
 use std::alloc::Global;
+use std::mem::forget;
 
-/// What is told of a tree, and how many files were read.
-#[derive(Debug, Drop)]
+/// What is told of a tree.
+#[derive(Drop)]
 pub struct Report {
     pub findings: List<Finding>,
-    pub files: usize,
+    /// The tree. It is let go behind the writing: before it the allocator would put together what is let go.
+    pub tree: Read,
 }
 
 /// A tree that was loaded, and the files that were read.
-#[derive(Debug, Drop)]
+#[derive(Drop)]
 pub struct Read {
     pub loaded: Loaded,
-    pub seen: List<Seen>,
+    pub seen: SeenFiles,
 }
 
 /// Loads the tree, and takes the texts that were read.
@@ -43,8 +47,31 @@ fn read_tree<F: Files>(alloc: Global, files: &mut Watched<F>) -> Result<Read, Lo
     ensures cause { Counted (is_read_fault result) (F.fault_count files.old.files) (F.fault_count files.new.files) }
 {
     let loaded = load(alloc, files)?;
-    let seen = std::mem::replace(&mut files.seen, List::new(alloc));
+    let seen = std::mem::replace(&mut files.seen, SeenFiles::new(alloc, false));
     Ok(Read { loaded, seen })
+}
+
+/// Tells what is wrong in a tree that was read.
+fn findings_of<F: Files>(
+    alloc: Global,
+    request: &Request,
+    files: &mut F,
+    tree: &Read,
+) -> Result<List<Finding>, LoadRefusal>
+    ensures told { (told : Told) → IsTold (F.tree files.old) told → IfOk result (λ findings. errors_of findings ≡ errors_among request.now.allowed told tree.now.loaded.diagnostics) }
+    ensures kind { IfErr result IsLater }
+    ensures cause { Counted (is_read_fault result) (F.fault_count files.old) (F.fault_count files.new) }
+{
+    let mut teller = Teller::new(alloc, &request.root, &tree.loaded.config, &tree.seen)?;
+    let diagnostics = tree.loaded.diagnostics.items();
+    let Judged {
+        mut findings,
+        sources,
+    } = tell_all(alloc, files, request, &mut teller, diagnostics)?;
+    if request.warns {
+        add_notes(alloc, &mut findings, tree, &sources)?;
+    }
+    Ok(findings)
 }
 
 /// Reads the tree, and tells what is wrong in it.
@@ -56,22 +83,9 @@ fn report_of<F: Files>(
     ensures found { (told : Told) → IsTold (F.tree files.old.files) told → Finds request.now told result }
     ensures cause { Counted (is_read_fault result) (F.fault_count files.old.files) (F.fault_count files.new.files) }
 {
-    let Read { loaded, seen } = read_tree(alloc, files)?;
-    let mut teller = Teller::new(alloc, &request.root, &loaded.config, &seen)?;
-    let mut findings = tell_all(
-        alloc,
-        &mut files.files,
-        request,
-        &mut teller,
-        loaded.diagnostics.items(),
-    )?;
-    if request.warns {
-        add_notes(alloc, &mut findings, &loaded.config, &seen)?;
-    }
-    Ok(Report {
-        findings,
-        files: seen.len(),
-    })
+    let tree = read_tree(alloc, files)?;
+    let findings = findings_of(alloc, request, &mut files.files, &tree)?;
+    Ok(Report { findings, tree })
 }
 
 /// The status of a report that is written.
@@ -92,7 +106,8 @@ fn write_report<K: Sink>(alloc: Global, request: &Request, report: &Report, out:
         (record { files = files; out = K.fault_count out.old }) (record { files = files; out = K.fault_count out.new }) }
     ensures unwritten { IsUnwritten (K.taken out.old) (K.taken out.new) result }
 {
-    let page = match page_of(alloc, &request.root, &report.findings, report.files) {
+    let files = report.tree.seen.files.len();
+    let page = match page_of(alloc, &request.root, &report.findings, files) {
         Ok(page) => page,
         Err(_) => return Status::Refused(LoadRefusal::NoMemory),
     };
@@ -127,7 +142,12 @@ pub fn lint<F: Files, K: Sink>(
     ensures unwritten { IsUnwritten (K.taken out.old) (K.taken out.new) result }
 {
     match report_of(alloc, request, files) {
-        Ok(report) => write_report(alloc, request, &report, out),
+        Ok(report) => {
+            let status = write_report(alloc, request, &report, out);
+            // The program ends behind this, and the system takes its memory at once.
+            forget(report);
+            status
+        }
         Err(refusal) => Status::Refused(refusal),
     }
 }

@@ -1,52 +1,108 @@
-//! Files of which each text that is read is kept beside.
+//! Files of which something is kept of each one that is read.
 
 ghost use Rattle.std.specs.Prelude.{◌≡◌, ℕ, List as Items, Option as Maybe};
 
+use crate::loading::{SYSTEM_PATH, VENDOR_PATH};
+use crate::quotes::spanned_line;
 use init_base::{Files, List, NoMemory, ReadRefusal, Text};
 use std::alloc::Global;
 use text_index::TextIndex;
 
-/// A file that was read.
+const BYTE_ORDER_MARK: &[u8] = b"\xef\xbb\xbf";
+
+/// What is kept of a file that was read.
 #[derive(Debug, Drop)]
 pub struct Seen {
     pub path: Text,
-    pub text: Text,
+    /// The text of a build file.
+    pub text: Option<Text>,
+    pub begins_with_mark: bool,
+    /// The line of an rc file on which the first quotes begin that go over the end of a line.
+    pub spanned_line: Option<u32>,
 }
 
-/// Files, and each file of them that was read, once and in order.
+impl Seen {
+    fn of(
+        alloc: Global,
+        path: &[u8],
+        text: &Text,
+        looks_at_quotes: bool,
+    ) -> Result<Seen, NoMemory> {
+        let bytes = text.bytes();
+        let begins_with_mark = bytes.starts_with(BYTE_ORDER_MARK);
+        let path = Text::of(alloc, path)?;
+        Ok(if path.is(SYSTEM_PATH) || path.is(VENDOR_PATH) {
+            Seen {
+                path,
+                text: Some(text.share()?),
+                begins_with_mark,
+                spanned_line: None,
+            }
+        } else {
+            Seen {
+                path,
+                text: None,
+                begins_with_mark,
+                spanned_line: if looks_at_quotes {
+                    spanned_line(bytes)
+                } else {
+                    None
+                },
+            }
+        })
+    }
+}
+
+/// The files that were read, each once and in order.
 #[derive(Drop)]
-pub struct Watched<F: Files> {
-    pub files: F,
-    pub seen: List<Seen>,
-    /// The paths of what was read.
+pub struct SeenFiles {
+    /// Whether quotes are looked at.
+    looks_at_quotes: bool,
+    pub files: List<Seen>,
+    /// Their paths, in the same order.
     paths: TextIndex,
 }
 
-impl<F: Files> Watched<F> {
-    /// These files, of which none was read.
-    pub fn new(alloc: Global, files: F) -> Watched<F>
-        ensures { result.files ≡ files }
-    {
-        Watched {
-            files,
-            seen: List::new(alloc),
+impl SeenFiles {
+    pub fn new(alloc: Global, looks_at_quotes: bool) -> SeenFiles {
+        SeenFiles {
+            looks_at_quotes,
+            files: List::new(alloc),
             paths: TextIndex::new(alloc),
         }
     }
 
-    /// Keeps a text that was read.
-    fn keep(&mut self, alloc: Global, path: &[u8], text: &Text) -> Result<(), NoMemory>
-        ensures tree { F.tree self.new.files ≡ F.tree self.old.files }
-        ensures count { F.fault_count self.new.files ≡ F.fault_count self.old.files }
-    {
-        if self.paths.place(path).is_some() {
+    /// The place of the file with this path.
+    pub fn place(&self, path: &[u8]) -> Option<usize> {
+        self.paths.place(path)
+    }
+
+    /// Keeps what is told of a text that was read.
+    fn keep(&mut self, alloc: Global, path: &[u8], text: &Text) -> Result<(), NoMemory> {
+        if self.paths.add(path)? < self.files.len() {
             return Ok(());
         }
-        self.paths.add(path)?;
-        self.seen.push(Seen {
-            path: Text::of(alloc, path)?,
-            text: text.share()?,
-        })
+        let seen = Seen::of(alloc, path, text, self.looks_at_quotes)?;
+        self.files.push(seen)
+    }
+}
+
+/// Files, and each file of them that was read.
+#[derive(Drop)]
+pub struct Watched<F: Files> {
+    pub files: F,
+    pub seen: SeenFiles,
+}
+
+impl<F: Files> Watched<F> {
+    /// These files, of which none was read. What only a hint tells of is looked at where hints are wanted.
+    pub fn new(alloc: Global, files: F, hints: bool) -> Watched<F>
+        ensures { result.files ≡ files }
+    {
+        Watched {
+            files,
+            seen: SeenFiles::new(alloc, hints),
+        }
     }
 }
 
@@ -71,7 +127,7 @@ impl<F: Files> Files for Watched<F> {
     ) -> Result<Option<Text>, ReadRefusal> {
         let found = self.files.read(alloc, path, limit)?;
         if let Some(text) = &found {
-            self.keep(alloc, path, text)?;
+            self.seen.keep(alloc, path, text)?;
         }
         Ok(found)
     }

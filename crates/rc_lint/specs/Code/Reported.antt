@@ -1,10 +1,9 @@
 -- What the steps of the top call give.
-use Rattle.std.specs.Prelude.{◌≡◌, ⊤, List, [], ◌∷◌, Result, Ok, Err}
+use Rattle.std.specs.Prelude.{◌≡◌, List, [], ◌∷◌, Result, Ok, Err}
 use Rattle.init_machine.specs.declared.diagnostic.Diagnostic.{Diagnostic}
 use Rattle.rc_import.specs.Answers.{IsAnswer}
 use Rattle.rc_import.specs.declared.loaded.Loaded.{Loaded}
 use Rattle.rc_import.specs.declared.loaded.LoadRefusal.{LoadRefusal}
-use Rattle.rc_import.specs.declared.loaded.LoadRefusal.TheVariants as why
 use Rattle.rc_lint.specs.Excused.{errors_among}
 use Rattle.rc_lint.specs.Findings.{errors_of}
 use Rattle.rc_lint.specs.Loads.{loaded}

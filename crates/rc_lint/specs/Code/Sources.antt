@@ -1,5 +1,5 @@
 -- The lines of files that the code has read.
-use Rattle.std.specs.Prelude.{◌≡◌, ℕ, ◌<◌, ⊤, All, List, length, slice_get, Option, Some}
+use Rattle.std.specs.Prelude.{◌≡◌, ℕ, ◌<◌, ⊤, All, List, length, slice_get, Some}
 use Rattle.rc_import.specs.declared.loaded.LoadRefusal.{LoadRefusal}
 use Rattle.rc_import.specs.declared.loaded.LoadRefusal.TheVariants as why
 use Rattle.rc_lint.specs.Code.Steps.{HasNumbers}

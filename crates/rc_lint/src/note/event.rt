@@ -23,19 +23,22 @@ const OWN_EVENTS: [&[u8]; 11] = [
     b"userspace-reboot-resume",
 ];
 
-/// The events of a tree.
-#[derive(Drop)]
-struct Events {
-    awaited: TextIndex,
-    sent: TextIndex,
-    begun: Begun,
+/// A command that triggers an event.
+#[derive(Clone, Copy)]
+struct Trigger<'a> {
+    command: &'a Command,
+    event: &'a Text,
+    /// The place of the event.
+    place: usize,
 }
 
-/// What is triggered, as it is found.
+/// What is triggered.
 #[derive(Drop)]
-struct Sending {
+pub struct Sent<'a> {
     alloc: Global,
-    sent: TextIndex,
+    /// The events that init itself or a command triggers.
+    events: TextIndex,
+    triggers: Vec<Trigger<'a>>,
     /// What stands before the first `$` of the events that are expanded when they are triggered.
     begun: Vec<Vec<u8>>,
 }
@@ -88,67 +91,86 @@ impl Begun {
     }
 }
 
-/// Adds a warning for each event that goes astray.
-pub fn add(notes: &mut Notes, config: &Config) -> Result<(), NoMemory> {
-    let events = events_of(notes, config)?;
-    for action in config.actions.items() {
-        add_action(notes, &events, action)?;
-        add_triggers(notes, &events, action.commands.items())?;
-    }
-    for service in config.services.items() {
-        add_triggers(notes, &events, service.onrestart.items())?;
-    }
-    Ok(())
-}
-
-fn events_of(notes: &Notes, config: &Config) -> Result<Events, NoMemory> {
-    let mut sending = Sending {
-        alloc: notes.alloc,
-        sent: TextIndex::new(notes.alloc),
-        begun: Vec::new(notes.alloc),
-    };
-    let mut awaited = TextIndex::new(notes.alloc);
-    for event in OWN_EVENTS {
-        sending.sent.add(event)?;
-    }
+/// Adds a warning for each event that goes astray, where all that is sent is known.
+pub fn add(notes: &mut Notes<'_>, sent: Sent<'_>, config: &Config) -> Result<(), NoMemory> {
+    let Sent {
+        alloc,
+        events,
+        triggers,
+        begun,
+    } = sent;
+    let begun = Begun::of(alloc, begun)?;
+    let mut heard = vec![in alloc; false; events.len()]?;
     for action in config.actions.items() {
         if let Some(event) = &action.event {
-            awaited.add(event.bytes())?;
+            match events.place(event.bytes()) {
+                Some(place) => mark(&mut heard, place),
+                None => add_unsent(notes, &begun, action, event)?,
+            }
         }
-        add_sent(&mut sending, action.commands.items())?;
     }
-    for service in config.services.items() {
-        add_sent(&mut sending, service.onrestart.items())?;
-    }
-    Ok(Events {
-        awaited,
-        sent: sending.sent,
-        begun: Begun::of(notes.alloc, sending.begun)?,
-    })
-}
-
-/// Adds the events that some commands trigger.
-fn add_sent(sending: &mut Sending, commands: &[Command]) -> Result<(), NoMemory> {
-    for command in commands {
-        if let Some(event) = triggered(command) {
-            add_event(sending, event)?;
+    for trigger in triggers {
+        if !is_marked(&heard, trigger.place) {
+            add_unheard(notes, trigger)?;
         }
     }
     Ok(())
 }
 
-fn add_event(sending: &mut Sending, event: &Text) -> Result<(), NoMemory> {
-    let event = event.bytes();
-    match event.iter().position(|byte| *byte == b'$') {
-        Some(at) => {
-            let alloc = sending.alloc;
-            sending.begun.push(Vec::from_slice(alloc, &event[..at])?)?;
+fn mark(heard: &mut Vec<bool>, place: usize) {
+    if let Some(is_heard) = heard.get_mut(place) {
+        *is_heard = true;
+    }
+}
+
+fn is_marked(heard: &Vec<bool>, place: usize) -> bool {
+    match heard.get(place) {
+        Some(is_heard) => *is_heard,
+        None => false,
+    }
+}
+
+impl<'a> Sent<'a> {
+    /// What init itself triggers.
+    pub fn by_init(alloc: Global) -> Result<Sent<'a>, NoMemory> {
+        let mut events = TextIndex::new(alloc);
+        for event in OWN_EVENTS {
+            events.add(event)?;
         }
-        None => {
-            sending.sent.add(event)?;
+        Ok(Sent {
+            alloc,
+            events,
+            triggers: Vec::new(alloc),
+            begun: Vec::new(alloc),
+        })
+    }
+
+    /// Adds the event that a command triggers, where it does.
+    pub fn add(&mut self, command: &'a Command) -> Result<(), NoMemory> {
+        match triggered(command) {
+            Some(event) => self.add_event(command, event),
+            None => Ok(()),
         }
     }
-    Ok(())
+
+    fn add_event(&mut self, command: &'a Command, event: &'a Text) -> Result<(), NoMemory> {
+        let bytes = event.bytes();
+        match bytes.iter().position(|byte| *byte == b'$') {
+            Some(at) => {
+                let alloc = self.alloc;
+                self.begun.push(Vec::from_slice(alloc, &bytes[..at])?)?;
+            }
+            None => {
+                let place = self.events.add(bytes)?;
+                self.triggers.push(Trigger {
+                    command,
+                    event,
+                    place,
+                })?;
+            }
+        }
+        Ok(())
+    }
 }
 
 /// The event that a command triggers.
@@ -159,16 +181,14 @@ fn triggered(command: &Command) -> Option<&Text> {
     }
 }
 
-/// Whether something triggers an event, or may.
-fn is_sent(events: &Events, event: &[u8]) -> bool {
-    events.sent.place(event).is_some() || events.begun.begins(event)
-}
-
-fn add_action(notes: &mut Notes, events: &Events, action: &Action) -> Result<(), NoMemory> {
-    let Some(event) = &action.event else {
-        return Ok(());
-    };
-    if is_sent(events, event.bytes()) {
+/// Adds a warning of an action on an event that no command names whole, unless one may be expanded to it.
+fn add_unsent(
+    notes: &mut Notes<'_>,
+    begun: &Begun,
+    action: &Action,
+    event: &Text,
+) -> Result<(), NoMemory> {
+    if begun.begins(event.bytes()) {
         return Ok(());
     }
     let message = Message::of(notes.alloc, b"nothing triggers the event ")?
@@ -178,24 +198,11 @@ fn add_action(notes: &mut Notes, events: &Events, action: &Action) -> Result<(),
     notes.add(&action.file, action.line, kind, message)
 }
 
-fn add_triggers(notes: &mut Notes, events: &Events, commands: &[Command]) -> Result<(), NoMemory> {
-    for command in commands {
-        add_trigger(notes, events, command)?;
-    }
-    Ok(())
-}
-
-fn add_trigger(notes: &mut Notes, events: &Events, command: &Command) -> Result<(), NoMemory> {
-    let Some(event) = triggered(command) else {
-        return Ok(());
-    };
-    let is_known = event.bytes().contains(&b'$') || events.awaited.place(event.bytes()).is_some();
-    if is_known {
-        return Ok(());
-    }
+fn add_unheard(notes: &mut Notes<'_>, trigger: Trigger<'_>) -> Result<(), NoMemory> {
     let message = Message::of(notes.alloc, b"no action waits for the event ")?
-        .quote(event.bytes())?
+        .quote(trigger.event.bytes())?
         .end()?;
     let kind = NoteKind::Warning(WarningKind::UnheardEvent);
+    let command = trigger.command;
     notes.add(&command.file, command.line, kind, message)
 }

@@ -5,11 +5,12 @@ use crate::finding::WarningKind;
 use crate::message::Message;
 use init_base::{NoMemory, Text};
 use init_machine::{Command, Config, Word};
+use std::alloc::Global;
 use text_index::TextIndex;
 
 /// The names of the services and classes of a tree.
 #[derive(Drop)]
-struct Names {
+pub struct Names {
     services: TextIndex,
     classes: TextIndex,
 }
@@ -21,57 +22,46 @@ enum Named<'a> {
     Class(&'a Text),
 }
 
-/// Adds a warning for each command that names what no file declares.
-pub fn add(notes: &mut Notes, config: &Config) -> Result<(), NoMemory> {
-    let names = names_of(notes, config)?;
-    for action in config.actions.items() {
-        add_commands(notes, &names, action.commands.items())?;
-    }
-    for service in config.services.items() {
-        add_commands(notes, &names, service.onrestart.items())?;
-    }
-    Ok(())
-}
-
-fn names_of(notes: &Notes, config: &Config) -> Result<Names, NoMemory> {
-    let mut names = Names {
-        services: TextIndex::new(notes.alloc),
-        classes: TextIndex::new(notes.alloc),
-    };
-    for service in config.services.items() {
-        names.services.add(service.name.bytes())?;
-        for class in service.classes.items() {
-            names.classes.add(class.bytes())?;
+impl Names {
+    pub fn of(alloc: Global, config: &Config) -> Result<Names, NoMemory> {
+        let mut names = Names {
+            services: TextIndex::new(alloc),
+            classes: TextIndex::new(alloc),
+        };
+        for service in config.services.items() {
+            names.services.add(service.name.bytes())?;
+            for class in service.classes.items() {
+                names.classes.add(class.bytes())?;
+            }
         }
+        Ok(names)
     }
-    Ok(names)
-}
-
-fn add_commands(notes: &mut Notes, names: &Names, commands: &[Command]) -> Result<(), NoMemory> {
-    for command in commands {
-        add_command(notes, names, command)?;
-    }
-    Ok(())
 }
 
 /// The service or class that a command names. An option may stand before it. What is expanded isn't known here.
 fn name_in(command: &Command) -> Option<Named<'_>> {
-    let name = command.args.items().last()?;
-    if name.bytes().contains(&b'$') {
-        return None;
-    }
     match command.word {
         Word::Start | Word::Stop | Word::Restart | Word::Enable | Word::ExecStart => {
-            Some(Named::Service(name))
+            Some(Named::Service(known_name(command)?))
         }
         Word::ClassStart | Word::ClassStop | Word::ClassReset | Word::ClassRestart => {
-            Some(Named::Class(name))
+            Some(Named::Class(known_name(command)?))
         }
         _ => None,
     }
 }
 
-fn add_command(notes: &mut Notes, names: &Names, command: &Command) -> Result<(), NoMemory> {
+/// The last argument of a command, unless it is expanded.
+fn known_name(command: &Command) -> Option<&Text> {
+    let name = command.args.items().last()?;
+    if name.bytes().contains(&b'$') {
+        return None;
+    }
+    Some(name)
+}
+
+/// Adds a warning where a command names what no file declares.
+pub fn add(notes: &mut Notes<'_>, names: &Names, command: &Command) -> Result<(), NoMemory> {
     let (kind, name, what): (WarningKind, &Text, &[u8]) = match name_in(command) {
         Some(Named::Service(name)) if names.services.place(name.bytes()).is_none() => {
             (WarningKind::NoService, name, b" names the service ")

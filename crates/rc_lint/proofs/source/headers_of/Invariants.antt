@@ -1,6 +1,6 @@
 use Rattle.std.proofs.Common.{length}
 use Rattle.std.specs.Prelude.{⊤}
-use Rattle.rc_lint.proofs.source.parts_of.Given as goal
+use Rattle.rc_lint.proofs.source.headers_of.Given as goal
 
 abbrev pub invariant-loop-line : goal.invariant-loop-line
 invariant-loop-line l = ⊤

@@ -1,0 +1,43 @@
+-- Words of different lengths differ.
+use Rattle.std.proofs.Common.{◌≡◌, ℕ, ◌<◌, ◌≤◌, ◌&&◌, Bool, true, false, List, [], ◌∷◌, length, refl, sym, ap, arith}
+use Rattle.std.specs.Prelude.{◌≢◌, ◌||◌, nat_le}
+use Rattle.std.specs.List.{list_all, list_any}
+use Rattle.std.specs.Str.{bytes_eq}
+use Rattle.std.proofs.lemmas.Bool.Decides.{nat_tests}
+use Rattle.std.proofs.lemmas.Slice.Eq.{bytes_eq-Decides}
+use Rattle.rc_lint.specs.NotModelled.{is_command_not_modelled}
+use Rattle.rc_lint.specs.declared.not_modelled.TheConstants.{COMMANDS}
+
+not_same : (word known : List ℕ) (same : Bool) → (same ≡ true → word ≡ known) → length word ≢ length known → false ≡ same
+not_same word known true says differ = absurd (differ (ap length (says refl)))
+not_same word known false says differ = refl
+
+pub other_length : (word known : List ℕ) → length word ≢ length known → false ≡ bytes_eq word known
+other_length word known differ = not_same word known (bytes_eq word known) (bytes_eq-Decides word known).0 differ
+
+-- ---- the shortest command has 7 bytes
+
+both : (one other : Bool) → (one && other) ≡ true → (one ≡ true) × (other ≡ true)
+both true true are = (refl, refl)
+both true false are = cc
+both false other are = cc
+
+neither : (one other : Bool) → one ≡ false → other ≡ false → (one || other) ≡ false
+neither false false first second = refl
+neither false true first second = cc
+neither true other first second = cc
+
+longer : (word known : List ℕ) → length word < 7 → nat_le 7 (length known) ≡ true → bytes_eq known word ≡ false
+longer word known short long =
+    sym (other_length known word (λ same. let least : 7 ≤ length known = grind (arith, nat_tests) in absurd (omega (arith, same, short, least))))
+
+none_of_longer : {A : Type 0} (text : A → List ℕ) (word : List ℕ) (known : List A) → length word < 7
+    → list_all (λ k. nat_le 7 (length (text k))) known ≡ true → list_any (λ k. bytes_eq (text k) word) known ≡ false
+none_of_longer text word [] short long = refl
+none_of_longer text word (k ∷ known) short long =
+    let parts = both (nat_le 7 (length (text k))) (list_all (λ k. nat_le 7 (length (text k))) known) long in
+    neither (bytes_eq (text k) word) (list_any (λ k. bytes_eq (text k) word) known)
+    (longer word (text k) short parts.0) (none_of_longer text word known short parts.1)
+
+pub short_is_none : (word : List ℕ) → length word < 7 → false ≡ is_command_not_modelled word
+short_is_none word short = sym (none_of_longer (λ known. known.now) word COMMANDS short refl)
