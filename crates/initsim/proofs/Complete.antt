@@ -28,8 +28,8 @@ use Rattle.initsim.specs.Top.{CanBeDone}
 use Rattle.initsim.specs.Tree.{HasNoRoot, IsBadPolicyFor, IsFitFor, IsPolicyTooLargeFor, IsTreeTooLarge, TreeSays}
 use Rattle.initsim.specs.declared.status.Status.{Status}
 use Rattle.initsim.specs.declared.status.Status.TheVariants as status
-use Rattle.initsim.specs.declared.words.Form.{Form}
-use Rattle.initsim.specs.declared.words.Form.TheVariants.{Run, Check}
+use Rattle.init_words.specs.declared.form.Form.{Form}
+use Rattle.init_words.specs.declared.form.Form.TheVariants.{Run, Check}
 
 -- ---- the tree
 

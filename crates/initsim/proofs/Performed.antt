@@ -19,7 +19,7 @@ use Rattle.initsim.specs.declared.status.Status.{Status}
 use Rattle.initsim.specs.declared.status.Status.TheVariants as status
 use Rattle.initsim.specs.declared.stop.Stop.{Stop}
 use Rattle.initsim.specs.declared.stop.Stop.TheVariants as stop
-use Rattle.initsim.specs.declared.words.Form.TheVariants.{Run}
+use Rattle.init_words.specs.declared.form.Form.TheVariants.{Run}
 
 -- ---- what it says
 

@@ -13,7 +13,7 @@ use Rattle.initsim.specs.declared.prepare.Job.{Job}
 use Rattle.initsim.specs.declared.prepare.TreeParts.{TreeParts}
 use Rattle.initsim.specs.declared.stop.Stop.{Stop}
 use Rattle.initsim.specs.declared.stop.Stop.TheVariants as stop
-use Rattle.initsim.specs.declared.words.Form.TheVariants.{Run}
+use Rattle.init_words.specs.declared.form.Form.TheVariants.{Run}
 
 pub tree_fits : (world : World) (parts : TreeParts) → IsTree world parts → IsFitFor Run world
 tree_fits world parts tree = ((parts.policy, tree.policy), (tree.load.short, (tree.load.loaded, tree.load.rc_files)))

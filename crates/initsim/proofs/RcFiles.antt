@@ -20,7 +20,7 @@ use Rattle.initsim.specs.Check.{IsCheckStatus, IsTreeLimit}
 use Rattle.initsim.specs.Stops.{AreBuildFiles, GivesLoad, load_stop, status_of}
 use Rattle.initsim.specs.Texts.{Tree, pairs_of}
 use Rattle.initsim.specs.Tree.{AreBuildFilesShort, AreRcFilesTooLarge, IsLoadOf, IsTreeTooLarge, IsWorldOf, PassesLimit, TreeLimitSays, limit_of}
-use Rattle.initsim.specs.declared.words.Form.TheVariants.{Check}
+use Rattle.init_words.specs.declared.form.Form.TheVariants.{Check}
 
 -- ---- the world
 

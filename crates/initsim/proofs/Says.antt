@@ -12,8 +12,8 @@ use Rattle.initsim.specs.Store.{StoreLimitSays, StoreSays}
 use Rattle.initsim.specs.Tree.{AreRcFilesTooLarge, HasNoRoot, IsFitFor, IsTreeTooLarge, TreeLimitSays, TreeSays}
 use Rattle.initsim.specs.declared.stop.Stop.{Stop}
 use Rattle.initsim.specs.declared.stop.Stop.TheVariants as stop
-use Rattle.initsim.specs.declared.words.Form.{Form}
-use Rattle.initsim.specs.declared.words.Form.TheVariants.{Run, Check}
+use Rattle.init_words.specs.declared.form.Form.{Form}
+use Rattle.init_words.specs.declared.form.Form.TheVariants.{Run, Check}
 
 -- ---- what is told
 

@@ -20,7 +20,7 @@ use Rattle.initsim.specs.Texts.{Tree, allow_text, build_text, bytes_or, contexts
 use Rattle.initsim.specs.Tree.{IsTreeTooLarge, TreeLimitSays}
 use Rattle.initsim.specs.declared.stop.Stop.{Stop}
 use Rattle.initsim.specs.declared.stop.Stop.TheVariants as stop
-use Rattle.initsim.specs.declared.words.Form.TheVariants.{Run}
+use Rattle.init_words.specs.declared.form.Form.TheVariants.{Run}
 
 -- ---- one text
 

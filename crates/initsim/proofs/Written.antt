@@ -9,7 +9,7 @@ use Rattle.initsim.specs.Prepared.{WritesDiagnostics}
 use Rattle.initsim.specs.Tree.{IsFitFor, IsLoadOf, TreeSays}
 use Rattle.initsim.specs.declared.status.Status.{Status}
 use Rattle.initsim.specs.declared.status.Status.TheVariants as status
-use Rattle.initsim.specs.declared.words.Form.TheVariants.{Check}
+use Rattle.init_words.specs.declared.form.Form.TheVariants.{Check}
 
 -- ---- a check
 

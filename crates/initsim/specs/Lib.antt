@@ -1,5 +1,4 @@
 pub mod Status
-pub mod Form
 pub mod Counts
 pub mod Script
 pub mod Texts

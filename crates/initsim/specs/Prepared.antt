@@ -25,7 +25,7 @@ use Rattle.initsim.specs.declared.prepare.TreeParts.{TreeParts}
 use Rattle.initsim.specs.declared.status.Status.{Status}
 use Rattle.initsim.specs.declared.status.Status.TheVariants as status
 use Rattle.initsim.specs.declared.stop.Stop.{Stop}
-use Rattle.initsim.specs.declared.words.Form.TheVariants.{Run}
+use Rattle.init_words.specs.declared.form.Form.TheVariants.{Run}
 
 -- a tree's policy, and what its build files and rc files give
 pub record IsTree (world : World) (parts : TreeParts) : Type 0 where

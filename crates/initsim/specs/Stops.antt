@@ -30,7 +30,7 @@ use Rattle.initsim.specs.declared.status.Status.{Status}
 use Rattle.initsim.specs.declared.status.Status.TheVariants as status
 use Rattle.initsim.specs.declared.stop.Stop.{Stop}
 use Rattle.initsim.specs.declared.stop.Stop.TheVariants as stop
-use Rattle.initsim.specs.declared.words.Form.TheVariants.{Run, Check}
+use Rattle.init_words.specs.declared.form.Form.TheVariants.{Run, Check}
 
 abbrev pub status_of : Stop → Status
 status_of stop.ReadFault = status.ReadFault

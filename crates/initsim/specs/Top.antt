@@ -7,8 +7,8 @@ use Rattle.rc_import.specs.World.{World}
 use Rattle.initsim.specs.Tree.{IsFitFor}
 use Rattle.initsim.specs.declared.status.Status.{Status}
 use Rattle.initsim.specs.declared.status.Status.TheVariants as status
-use Rattle.initsim.specs.declared.words.Form.{Form}
-use Rattle.initsim.specs.declared.words.Form.TheVariants as form
+use Rattle.init_words.specs.declared.form.Form.{Form}
+use Rattle.init_words.specs.declared.form.Form.TheVariants as form
 
 -- Where a refusal before the run is answered, something is as before. Of a fault it is so too, unless the keeper's count rose.
 abbrev pub IsAsBefore : {A : Type 0} → A → A → Status → ℕ → ℕ → Type 0

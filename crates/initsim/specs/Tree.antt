@@ -16,8 +16,8 @@ use Rattle.initsim.specs.Policy.{HasPolicy, IsBadPolicyAt, IsPolicyTooLarge}
 use Rattle.initsim.specs.Texts.{AreShort, IsOneLong, Tree, build_text, faults_of, pairs_of, system_path, vendor_path}
 use Rattle.initsim.specs.declared.status.Status.{Status}
 use Rattle.initsim.specs.declared.status.Status.TheVariants as status
-use Rattle.initsim.specs.declared.words.Form.{Form}
-use Rattle.initsim.specs.declared.words.Form.TheVariants as form
+use Rattle.init_words.specs.declared.form.Form.{Form}
+use Rattle.init_words.specs.declared.form.Form.TheVariants as form
 
 -- A world that files tell: their tree, and what the bytes of rc files mean. The paths of imports are expanded in the view of
 -- the pairs of the build files.

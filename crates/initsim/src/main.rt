@@ -13,7 +13,6 @@ mod stop;
 mod telling;
 mod texts;
 mod top;
-mod words;
 
 use command_line::words_of;
 use init_base::{
@@ -22,7 +21,7 @@ use init_base::{
 use status::Status;
 use std::alloc::Global;
 use std::process::ExitCode;
-use telling::tell;
+use telling::{tell, tell_misuse};
 use top::initsim;
 
 /// Where the persistent store stands below the root.
@@ -62,6 +61,9 @@ fn run(rt: &HostRuntime) -> Result<Status, NoMemory> {
     );
     let fault = fault_behind(status, &script, &files, &keeper, &out);
     let _ = tell(rt, status, fault);
+    if status == Status::Usage {
+        let _ = tell_misuse(rt, &words);
+    }
     Ok(status)
 }
 

@@ -1,7 +1,9 @@
 //! What is printed to standard error.
 
 use crate::status::Status;
-use init_base::Fault;
+use init_base::{Fault, List, Text};
+use init_words::{Form, Misuse, Place, WordFault, misuse_of};
+use std::fmt;
 
 /// Prints the line of the status, and behind it which path was meant and what the system said, where it said anything and there
 /// is memory for it.
@@ -42,4 +44,78 @@ fn tell_fault(rt: &HostRuntime, fault: &Fault) -> std::io::Result<()> {
     let line = line.as_str();
     let said = line.strip_suffix(number.as_str()).unwrap_or(line);
     eprintln!(rt; "initsim: {said}")
+}
+
+/// Prints what is wrong with words that have no form.
+pub fn tell_misuse(rt: &HostRuntime, words: &List<Text>) -> std::io::Result<()> {
+    match misuse_of(words) {
+        Some(Misuse::NoForm) => eprintln!(rt; "initsim: no word is given"),
+        Some(Misuse::UnknownForm) => tell_unknown(rt, words),
+        Some(Misuse::WrongCount { form, given }) => tell_count(rt, form, given),
+        Some(Misuse::BadWord { place, fault }) => {
+            eprintln!(rt; "initsim: {} {}", name_of(place), said_of(fault))
+        }
+        None => Ok(()),
+    }
+}
+
+fn tell_unknown(rt: &HostRuntime, words: &List<Text>) -> std::io::Result<()> {
+    match words.at(0) {
+        Some(word) => {
+            let quoted = Quoted {
+                bytes: word.bytes(),
+            };
+            eprintln!(rt; "initsim: no form is named {quoted}")
+        }
+        None => Ok(()),
+    }
+}
+
+fn tell_count(rt: &HostRuntime, form: Form, given: usize) -> std::io::Result<()> {
+    let taken = match form {
+        Form::Run => "run takes 2 words",
+        Form::Check => "check takes 1 word",
+    };
+    match given {
+        0 => eprintln!(rt; "initsim: {taken}, and none is given"),
+        1 => eprintln!(rt; "initsim: {taken}, and 1 is given"),
+        _ => eprintln!(rt; "initsim: {taken}, and {given} are given"),
+    }
+}
+
+/// The place's name in the usage line.
+fn name_of(place: Place) -> &'static str {
+    match place {
+        Place::Root => "ROOT",
+        Place::Script => "SCRIPT",
+    }
+}
+
+fn said_of(fault: WordFault) -> &'static str {
+    match fault {
+        WordFault::Empty => "is empty",
+        WordFault::Dash => "begins with -",
+        WordFault::NotUtf8 => "isn't UTF-8",
+    }
+}
+
+/// Bytes that print in q form, so that a word of any bytes stands in one line.
+#[derive(Clone, Copy)]
+struct Quoted<'a> {
+    bytes: &'a [u8],
+}
+
+impl fmt::Display for Quoted<'_> {
+    fn fmt<W: fmt::Write>(&self, f: &mut fmt::Formatter<W>) -> fmt::Result {
+        if self.bytes.is_empty() {
+            return f.write_str("%");
+        }
+        for byte in self.bytes {
+            match *byte {
+                b'%' | 0..=0x20 | 0x7f..=0xff => write!(f, "%{:02X}", *byte)?,
+                plain => f.write_char(plain as char)?,
+            }
+        }
+        Ok(())
+    }
 }

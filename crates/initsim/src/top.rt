@@ -3,24 +3,24 @@
 ghost use Rattle.std.specs.Prelude.{◌≡◌, ◌↔◌, ℕ, IfSome, None, Some};
 ghost use Rattle.initsim.specs.Check.{CheckWrites, IsCheckStatus};
 ghost use Rattle.initsim.specs.Counts.{AreCounted, IsDoneUnlessRisen};
-ghost use Rattle.initsim.specs.Form.{form_of as form_of_lem};
 ghost use Rattle.initsim.specs.Prepared.{IsFit, IsRunStatus, Performs, WritesDiagnostics, course_of};
 ghost use Rattle.initsim.specs.Run.{RunLeaves};
 ghost use Rattle.initsim.specs.Script.{ScriptSays};
 ghost use Rattle.initsim.specs.Store.{StoreSays};
 ghost use Rattle.initsim.specs.Top.{CanBeDone, IsAsBefore};
 ghost use Rattle.initsim.specs.Tree.{IsWorldOf, TreeSays};
-ghost use Rattle.initsim.specs.declared.words.Form.TheVariants as Form;
+ghost use Rattle.init_words.specs.Form.{form_of as form_of_lem};
+ghost use Rattle.init_words.specs.declared.form.Form.TheVariants as Form;
 ghost use Rattle.rc_import.specs.World.{World};
 
 use crate::loading::load;
 use crate::prepare::{Job, prepare};
 use crate::status::Status;
-use crate::words::{Form, form_of};
 use init_base::{Files, IoRefusal, Keeper, List, Sink, Source, Text};
 use init_driver::{DriveRefusal, run};
 use init_machine::Diagnostic;
 use init_trace::print_diagnostics;
+use init_words::{Form, WordsRefusal, read_words};
 use std::alloc::Global;
 
 /// Runs a job: the machine takes the script's inputs, and the text of the report is written.
@@ -95,7 +95,8 @@ fn check<F: Files, K: Sink>(alloc: Global, files: &mut F, out: &mut K) -> Status
     }
 }
 
-/// Does all that the program does. `words` are those of the command line, without the program's own name.
+/// Does all that the program does. `words` are those of the command line, without the program's own name; the status is
+/// `Usage` exactly where they have no form.
 ///
 /// `run ROOT SCRIPT` reads the script, the tree's policy, build files and rc files, and the persistent store, in this order;
 /// the first refusal ends it. Then it runs the documented machine, and writes the text of the report entry by entry: the
@@ -147,9 +148,10 @@ pub fn initsim<F: Files, S: Source, P: Keeper, K: Sink>(
         (record { files = F.fault_count files.old; script = S.fault_count script.old; keeper = P.fault_count keeper.old; out = K.fault_count out.old })
         (record { files = F.fault_count files.new; script = S.fault_count script.new; keeper = P.fault_count keeper.new; out = K.fault_count out.new }) }
 {
-    match form_of(words) {
-        Some(Form::Run) => run_script(alloc, files, script, keeper, out),
-        Some(Form::Check) => check(alloc, files, out),
-        None => Status::Usage,
+    match read_words(alloc, words) {
+        Ok(Form::Run) => run_script(alloc, files, script, keeper, out),
+        Ok(Form::Check) => check(alloc, files, out),
+        Err(WordsRefusal::Usage) => Status::Usage,
+        Err(WordsRefusal::NoMemory) => Status::NoMemory,
     }
 }

@@ -40,7 +40,7 @@ const RESTART: &[u8] = b"ctl.restart";
 fn state_name(alloc: Global, service: &Text) -> Result<Text, NoMemory>
     ensures { IfOk result (λ name. name ≡ state_name_lem service.now) }
 {
-    let mut name = Vec::new(alloc);
+    let mut name = Vec::with_capacity(alloc, STATE.len().saturating_add(service.len()))?;
     name.extend_from_slice(STATE)?;
     name.extend_from_slice(service.bytes())?;
     Text::from_vec(name)

@@ -55,10 +55,15 @@ fn is_comment(line: &[u8]) -> bool
     begins_with_hash(Words::of(line)) && has_only_permitted(line)
 }
 
+/// Whether all bytes are permitted. It goes on behind one that isn't, so that many bytes are judged at a time.
 fn has_only_permitted(line: &[u8]) -> bool
     ensures { result ≡ list_all is_permitted_lem line.now }
 {
-    line.iter().all(|byte| is_permitted(*byte))
+    let mut permitted = true;
+    for byte in line {
+        permitted = permitted & is_permitted(*byte);
+    }
+    permitted
 }
 
 /// Whether the first word begins with `#`.

@@ -1,5 +1,5 @@
 use Rattle.initsim.specs.Prepared.{ArePrepared, GivesSaved, GivesSetup, ScriptOfJob}
-use Rattle.initsim.specs.declared.words.Form.TheVariants.{Run}
+use Rattle.init_words.specs.declared.form.Form.TheVariants.{Run}
 use Rattle.initsim.proofs.Prepared.{setup_of_job, store_stop_counts, tree_fits}
 use Rattle.initsim.proofs.Says.{err_is, if_told, store_stop_script, store_stop_tree, told}
 use Rattle.initsim.proofs.WellFormed.{job_is_fit}
