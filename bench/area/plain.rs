@@ -1,9 +1,10 @@
 // The area in plain Rust, for comparison: the same words, loads and stores, sequentially consistent, and the same walk and
-// checks of names. `plain read|absent|put|name NAMES N`, of which `name` checks names alone; and `plain map|map_absent NAMES N`, which reads a hash map behind a lock for
-// reading.
+// checks of names. `plain read|absent|put|name NAMES N`, of which `name` checks names alone; and `plain map|map_absent NAMES N`,
+// which reads a hash map behind a lock for reading. Where one of these kinds of reads ends with `_beside`, another thread sets
+// the names in turn until the reads are made.
 use std::cmp::Ordering;
 use std::collections::HashMap;
-use std::sync::atomic::{AtomicU64, Ordering::SeqCst};
+use std::sync::atomic::{AtomicBool, AtomicU64, Ordering::SeqCst};
 use std::sync::RwLock;
 
 const BACKUP: usize = 4;
@@ -251,6 +252,34 @@ fn look_up(map: &Map, name: &str, out: &mut [u8; 91]) -> Option<bool> {
     }
 }
 
+#[inline(never)]
+fn replace(map: &Map, name: &str, value: &[u8]) {
+    if !is_legal(name.as_bytes()) || value.len() > 91 || std::str::from_utf8(value).is_err() {
+        return;
+    }
+    if let Some((bytes, len)) = map.write().unwrap().get_mut(name) {
+        bytes[..value.len()].copy_from_slice(value);
+        *len = value.len();
+    }
+}
+
+// So many reads on this thread; where there is a writer, another makes sets until the reads are made.
+fn reads(asked: &[String], calls: usize, mut read: impl FnMut(&str) -> bool, set: Option<impl FnMut() + Send>) -> usize {
+    let stop = &AtomicBool::new(false);
+    std::thread::scope(|threads| {
+        if let Some(mut set) = set {
+            threads.spawn(move || {
+                while !stop.load(SeqCst) {
+                    set();
+                }
+            });
+        }
+        let right = asked.iter().cycle().take(calls).filter(|name| read(name)).count();
+        stop.store(true, SeqCst);
+        right
+    })
+}
+
 fn main() {
     let words: Vec<String> = std::env::args().collect();
     let kind = words[1].as_str();
@@ -258,19 +287,21 @@ fn main() {
     let calls: usize = words[3].parse().unwrap();
     let value = b"a value of middling length";
     let names = names_of(count, "");
-    let asked = if kind.ends_with("absent") { names_of(count, "x") } else { names.clone() };
+    let mut in_turn = names.iter().cycle();
+    let beside = kind.ends_with("_beside");
+    let found = !kind.contains("absent");
+    let asked = names_of(count, if found { "" } else { "x" });
     let mut out = [0; 91];
-    let wanted = Some(!kind.ends_with("absent"));
+    if kind == "name" {
+        println!("{}", in_turn.take(calls).filter(|name| is_name(name)).count());
+        return;
+    }
     if kind.starts_with("map") {
         let mut kept = [0; 91];
         kept[..value.len()].copy_from_slice(value);
         let map: Map = RwLock::new(names.iter().map(|n| (n.clone(), (kept, value.len()))).collect());
-        let whole = (0..calls).filter(|k| look_up(&map, &asked[k % count], &mut out) == wanted).count();
-        println!("{whole}");
-        return;
-    }
-    if kind == "name" {
-        println!("{}", (0..calls).filter(|k| is_name(&names[k % count])).count());
+        let set = beside.then_some(|| replace(&map, in_turn.next().unwrap(), value));
+        println!("{}", reads(&asked, calls, |name| look_up(&map, name, &mut out) == Some(found), set));
         return;
     }
     let area = Area { words: (0..1_048_576).map(|_| AtomicU64::new(0)).collect() };
@@ -279,12 +310,12 @@ fn main() {
         writer.set(name.as_bytes(), value);
     }
     if kind == "put" {
-        for k in 0..calls {
-            writer.set(names[k % count].as_bytes(), value);
-        }
+        in_turn.take(calls).for_each(|name| writer.set(name.as_bytes(), value));
         println!("{}", writer.count - count as u64);
         return;
     }
-    let whole = (0..calls).filter(|k| read(&area, &asked[k % count], &mut out) == wanted).count();
-    println!("{whole}");
+    let set = beside.then_some(|| writer.set(in_turn.next().unwrap().as_bytes(), value));
+    // A read that met a write is right only where there is a writer.
+    let is_right = |name: &str| read(&area, name, &mut out).map_or(beside, |there| there == found);
+    println!("{}", reads(&asked, calls, is_right, set));
 }

@@ -1,22 +1,28 @@
-//! A program that is timed from outside: it makes so many reads or sets at an area of so many names, with no other thread.
+//! A program that is timed from outside: it makes so many reads or sets at an area of so many names.
 //!
-//! `area_bench read|absent|put|name NAMES N`, of which `name` checks names alone; `bench/area` has the same in plain Rust, and runs
-//! both.
+//! `area_bench read|absent|put|name|read_beside|absent_beside NAMES N`, of which `name` checks names alone. Where the kind ends
+//! with `_beside`, another thread sets the names in turn until the reads are made; else there is no other thread. `bench/area` has the same in
+//! plain Rust, and runs both.
 #![tactic(auto)]
 
-ghost use Rattle.std.specs.Prelude.{◌≡◌, ◌≤◌};
+ghost use Rattle.std.specs.Prelude.{◌≡◌, ◌≤◌, IfSome};
 
 use init_base::{ClientId, PropName, PropValue};
 use init_machine::PropStore;
 use property_area::{Area, AreaWriter, ReadAnswer, Reader};
 use std::alloc::{AllocError, Global};
 use std::process::ExitCode;
+use std::sync::atomic::{AtomicBool, Ordering};
+use std::thread::{Threads, join};
 
 /// How many words the area has.
 const WORDS: u64 = 1_048_576;
 
 /// More names than any run asks for.
 const MOST_NAMES: usize = 40_000;
+
+/// More sets than a run has time for.
+const MOST_SETS: u64 = 1 << 40;
 
 /// The first part of a name.
 fn top(place: usize) -> &'static str {
@@ -81,10 +87,27 @@ fn read(area: &Area, reader: &mut Reader, name: &String, out: &mut [u8; 91]) -> 
     }
 }
 
-/// So many reads, of which it counts those that found the name, or those that did not.
-fn reads(area: &Area, reader: &mut Reader, names: &[String], found: bool, count: u64) -> u64
+/// What is read: the names, whether they are in a set, and whether a writer may be met.
+#[derive(Clone, Copy)]
+struct Looks<'a> {
+    names: &'a [String],
+    found: bool,
+    beside: bool,
+}
+
+/// Whether a read answers as it should.
+fn is_right(looks: &Looks<'_>, answer: Option<bool>) -> bool {
+    match answer {
+        Some(found) => found == looks.found,
+        None => looks.beside,
+    }
+}
+
+/// So many reads, of which it counts those that answered as they should.
+fn reads(area: &Area, reader: &mut Reader, looks: &Looks<'_>, count: u64) -> u64
     requires { reader.old.table ≡ area.now }
 {
+    let names = looks.names;
     let mut whole = 0;
     let mut out = [0; 91];
     let mut at = 0;
@@ -93,7 +116,7 @@ fn reads(area: &Area, reader: &mut Reader, names: &[String], found: bool, count:
             at = 0;
         }
         if at < names.len() {
-            if read(area, reader, &names[at], &mut out) == Some(found) {
+            if is_right(looks, read(area, reader, &names[at], &mut out)) {
                 whole += 1;
             }
             at += 1;
@@ -126,54 +149,141 @@ fn checks(names: &[String], count: u64) -> u64 {
     legal
 }
 
+/// Sets the name at this place, or the first one where there is none, and answers the place behind it.
+fn set_next(writer: &mut AreaWriter<'_>, names: &[String], at: usize) -> usize {
+    let here = if at < names.len() { at } else { 0 };
+    if here < names.len() {
+        set(writer, &names[here]);
+    }
+    here + 1
+}
+
 /// So many sets of names that are there.
 fn sets(writer: &mut AreaWriter<'_>, names: &[String], count: u64) {
     let mut at = 0;
     for _ in 0..count {
-        if at >= names.len() {
-            at = 0;
-        }
-        if at < names.len() {
-            set(writer, &names[at]);
-            at += 1;
-        }
+        at = set_next(writer, names, at);
     }
 }
 
-/// None where the words are no run, or memory is short.
-fn run(rt: &HostRuntime) -> Option<u64> {
-    let alloc = rt.alloc();
+/// Sets of names that are there, until it is told to stop.
+fn sets_until(writer: &mut AreaWriter<'_>, names: &[String], stop: &AtomicBool) {
+    let mut at = 0;
+    for _ in 0..MOST_SETS {
+        if stop.load(Ordering::SeqCst) {
+            return;
+        }
+        at = set_next(writer, names, at);
+    }
+}
+
+/// So many reads, and then the writer is told to stop.
+fn reads_then_stop(
+    area: &Area,
+    reader: &mut Reader,
+    looks: &Looks<'_>,
+    count: u64,
+    stop: &AtomicBool,
+) -> u64
+    requires { reader.old.table ≡ area.now }
+{
+    let whole = reads(area, reader, looks, count);
+    stop.store(true, Ordering::SeqCst);
+    whole
+}
+
+/// So many reads on this thread, and on another sets of the names, until the reads are made.
+fn reads_beside<R: Threads + Sync>(
+    rt: &R,
+    area: &Area,
+    writer: &mut AreaWriter<'_>,
+    names: &[String],
+    reader: &mut Reader,
+    looks: &Looks<'_>,
+    count: u64,
+) -> u64
+    requires { reader.old.table ≡ area.now }
+{
+    let stop = AtomicBool::new(false);
+    let ((), whole) = join(
+        rt,
+        || sets_until(writer, names, &stop),
+        || reads_then_stop(area, reader, looks, count, &stop),
+    );
+    whole
+}
+
+/// What the words ask for.
+#[derive(Drop)]
+struct Run {
+    kind: String,
+    names: usize,
+    calls: u64,
+}
+
+/// None where the words are no run.
+fn run_of(rt: &HostRuntime) -> Option<Run>
+    ensures { IfSome result (λ run. (1 ≤ run.names) × (run.names ≤ 40000)) }
+{
     let mut words = std::env::args(rt).ok()?.skip(1);
     let kind = words.next()?;
-    let count: usize = words.next()?.as_str().parse().ok()?;
+    let names: usize = words.next()?.as_str().parse().ok()?;
     let calls: u64 = words.next()?.as_str().parse().ok()?;
-    if count == 0 || count > MOST_NAMES {
+    if names == 0 || names > MOST_NAMES {
         return None;
     }
-    let names = names_of(alloc, count, "").ok()?;
+    Some(Run { kind, names, calls })
+}
+
+/// How many calls answered as they should. None where memory is short.
+fn answers<R: Threads + Sync>(rt: &R, alloc: Global, run: &Run) -> Option<u64>
+    requires { (1 ≤ run.now.names) × (run.now.names ≤ 40000) }
+{
+    let kind = run.kind.as_str();
+    let names = names_of(alloc, run.names, "").ok()?;
     let (area, seat) = Area::new(alloc, WORDS).ok()?;
     let mut writer = AreaWriter::new(&area, seat);
     let mut reader = writer.hand_out(ClientId(1)).ok()?;
     set_all(&mut writer, &names);
-    if kind.as_str() == "put" {
-        sets(&mut writer, &names, calls);
-        return Some(writer.count().saturating_sub(count as u64));
+    if kind == "put" {
+        sets(&mut writer, &names, run.calls);
+        return Some(writer.count().saturating_sub(run.names as u64));
     }
-    if kind.as_str() == "name" {
-        return Some(checks(&names, calls));
+    if kind == "name" {
+        return Some(checks(&names, run.calls));
     }
-    if kind.as_str() == "absent" {
-        let others = names_of(alloc, count, "x").ok()?;
-        return Some(reads(&area, &mut reader, &others, false, calls));
+    let found = !kind.starts_with("absent");
+    let beside = kind.ends_with("_beside");
+    let asked = names_of(alloc, run.names, if found { "" } else { "x" }).ok()?;
+    let looks = Looks {
+        names: &asked,
+        found,
+        beside,
+    };
+    if beside {
+        return Some(reads_beside(
+            rt,
+            &area,
+            &mut writer,
+            &names,
+            &mut reader,
+            &looks,
+            run.calls,
+        ));
     }
-    Some(reads(&area, &mut reader, &names, true, calls))
+    Some(reads(&area, &mut reader, &looks, run.calls))
 }
 
 fn main(rt: HostRuntime) -> ExitCode {
-    let made = run(&rt);
+    let made = match run_of(&rt) {
+        Some(run) => answers(&rt, rt.alloc(), &run),
+        None => None,
+    };
     let shown = match made {
         Some(count) => println!(&rt; "{count}"),
-        None => eprintln!(&rt; "area_bench: usage: read|absent|put|name NAMES N"),
+        None => eprintln!(&rt;
+            "area_bench: usage: read|absent|put|name|read_beside|absent_beside NAMES N"
+        ),
     };
     if made.is_some() && shown.is_ok() {
         ExitCode::SUCCESS
