@@ -25,6 +25,19 @@ pub word_from : (value bytes : List ℕ) (k : ℕ) → ((i : ℕ) → i < 8 → 
 unfolding text_word
 word_from value bytes k same = word_of_eight bytes (drop (8 * k) value) (λ i small. same i small ∙ sym (get_or-drop (8 * k) value i 0))
 
+-- the eight bytes of a word that is inside
+pub word_whole : (text : List ℕ) (k : ℕ) → from_le_bytes w64 (get_or text (8 * k) 0 ∷ get_or text (8 * k + 1) 0 ∷ get_or text (8 * k + 2) 0 ∷ get_or text (8 * k + 3) 0 ∷ get_or text (8 * k + 4) 0 ∷ get_or text (8 * k + 5) 0 ∷ get_or text (8 * k + 6) 0 ∷ get_or text (8 * k + 7) 0 ∷ []) ≡ text_word text k
+unfolding text_word
+word_whole text k =
+    let bs = drop (8 * k) text in
+    let none_more : 8 * k + 0 ≡ 8 * k = omega arith in
+    let e0 : get_or bs 0 0 ≡ get_or text (8 * k) 0 = get_or-drop (8 * k) text 0 0 ∙ ap (λ (n : ℕ). get_or text n 0) none_more in
+    let e1 = get_or-drop (8 * k) text 1 0 in let e2 = get_or-drop (8 * k) text 2 0 in let e3 = get_or-drop (8 * k) text 3 0 in
+    let e4 = get_or-drop (8 * k) text 4 0 in let e5 = get_or-drop (8 * k) text 5 0 in let e6 = get_or-drop (8 * k) text 6 0 in
+    let e7 = get_or-drop (8 * k) text 7 0 in
+    let eights : eight bs ≡ get_or text (8 * k) 0 ∷ get_or text (8 * k + 1) 0 ∷ get_or text (8 * k + 2) 0 ∷ get_or text (8 * k + 3) 0 ∷ get_or text (8 * k + 4) 0 ∷ get_or text (8 * k + 5) 0 ∷ get_or text (8 * k + 6) 0 ∷ get_or text (8 * k + 7) 0 ∷ [] = cc in
+    ap (from_le_bytes w64) (sym eights) ∙ sym (eight_same bs)
+
 eight_at : (bs : List ℕ) (j : ℕ) → j < 8 → get_or (eight bs) j 0 ≡ get_or bs j 0
 eight_at bs zero small = refl
 eight_at bs (suc zero) small = refl

@@ -33,6 +33,27 @@ pub fn words_place(at: usize, first: u64) -> usize
     if first % 2 == 1 { BACKUP } else { at + 1 }
 }
 
+/// Loads the twelve words of a read that has begun into an array of the caller's, which isn't moved then.
+pub(crate) fn load_words<V, K, R: CellRule<V, K>, Q: Asked>(
+    table: &Table<(), V, K, R, Global>,
+    seat: &mut Seat<(), V>,
+    base: usize,
+    words: &mut [u64; 12],
+)
+    requires table { seat.old.table_id ≡ table.now.shared.table_id }
+    requires place { (base + 12 ≤ table.now.shared.table_id.words) × (base < 2 ^ 33) }
+    requires linked { R.Linked seat.old.me.0 Q.name Q.place }
+    requires reads { ReadsFrom (R.cell seat.old.me.0) Q.name Q.place base }
+    ensures seat { IsSameSeat seat.old seat.new }
+    ensures view { seat.new.me ≡ (R.with_cell seat.old.me.0 (R.cell seat.new.me.0), seat.old.me.1) }
+    ensures wide { length words.new ≡ 12 }
+    ensures words { Gathers (R.cell seat.old.me.0) Q.name 12 words.new (R.cell seat.new.me.0) }
+{
+    for k in 0..12 {
+        words[k] = copied_word::<V, K, R, Brand>(table, seat, base + k, k);
+    }
+}
+
 /// Copies the twelve words of a read that has begun.
 pub fn copy_words<V, K, R: CellRule<V, K>, Q: Asked>(
     table: &Table<(), V, K, R, Global>,
@@ -49,9 +70,7 @@ pub fn copy_words<V, K, R: CellRule<V, K>, Q: Asked>(
     ensures words { Gathers (R.cell seat.old.me.0) Q.name 12 result (R.cell seat.new.me.0) }
 {
     let mut words = [0; 12];
-    for k in 0..12 {
-        words[k] = copied_word::<V, K, R, Brand>(table, seat, base + k, k);
-    }
+    load_words::<V, K, R, Q>(table, seat, base, &mut words);
     words
 }
 
@@ -85,7 +104,8 @@ fn read_as<V, K, R: CellRule<V, K>, Q: Asked>(
     ensures answer { Answers R.with_cell R.noted (R.cell seat.old.me.0) seat.old.me.0 Q.name result out.old out.new seat.new.me.0 }
 {
     let first = first_serial::<V, K, R, Q>(table, seat, at);
-    let words = copy_words::<V, K, R, Q>(table, seat, words_place(at, first));
+    let mut words = [0; 12];
+    load_words::<V, K, R, Q>(table, seat, words_place(at, first), &mut words);
     let last = last_serial::<V, K, R, Q>(table, seat, at);
     close(first, last, &words, out)
 }

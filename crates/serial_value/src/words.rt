@@ -10,6 +10,38 @@ pub fn word_of(text: &[u8], k: usize) -> u64
     requires short { length text.now ≤ 255 }
     ensures { result ≡ text_word text.now k }
 {
+    if 8 * k + 8 <= text.len() {
+        whole_word(text, k)
+    } else {
+        cut_word(text, k)
+    }
+}
+
+/// Word `k`, whose eight bytes are all inside: a load of them at once.
+fn whole_word(text: &[u8], k: usize) -> u64
+    requires k { k < 32 }
+    requires inside { 8 * k + 8 ≤ length text.now }
+    ensures { result ≡ text_word text.now k }
+{
+    let start = 8 * k;
+    u64::from_le_bytes([
+        text[start],
+        text[start + 1],
+        text[start + 2],
+        text[start + 3],
+        text[start + 4],
+        text[start + 5],
+        text[start + 6],
+        text[start + 7],
+    ])
+}
+
+/// Word `k`, of which a byte past the end is 0.
+fn cut_word(text: &[u8], k: usize) -> u64
+    requires k { k < 32 }
+    requires short { length text.now ≤ 255 }
+    ensures { result ≡ text_word text.now k }
+{
     let start = 8 * k;
     let mut bytes = [0u8; 8];
     for j in 0..8 {

@@ -7,7 +7,7 @@ ghost use Rattle.serial_value.specs.Cell.{sets_of, updating, accepted, IsUpdatin
 ghost use Rattle.serial_value.specs.Steps.{IsSameSeat, HasCell};
 
 use crate::layout::serial;
-use crate::read::copy_words;
+use crate::read::load_words;
 use crate::rule::{Asked, CellRule};
 use crate::steps::{backup_word, clean_serial, dirty_serial, first_serial, value_word};
 use crate::words::word_of;
@@ -79,7 +79,8 @@ fn write_as<V, K, R: CellRule<V, K>, Q: Asked>(
         ≡ (R.with_cell seat.old.me.0 (accepted (R.cell seat.old.me.0) Q.name Q.value), seat.old.me.1) }
 {
     let clean = first_serial::<V, K, R, Q>(table, seat, at);
-    let old = copy_words::<V, K, R, Q>(table, seat, at + 1);
+    let mut old = [0; 12];
+    load_words::<V, K, R, Q>(table, seat, at + 1, &mut old);
     back_up::<V, K, R, Q>(table, seat, &old);
     dirty_serial::<V, K, R, Brand>(table, seat, at, clean);
     replace::<V, K, R, Q>(table, seat, at, value);

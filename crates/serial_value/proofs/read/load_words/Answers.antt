@@ -2,7 +2,7 @@ use Rattle.std.proofs.Common.{◌∙◌, arith}
 use Rattle.std.proofs.lemmas.List.{length-set}
 use Rattle.serial_value.proofs.Moves.{moves_on}
 use Rattle.serial_value.proofs.Reading.{gathers_one}
-use Rattle.serial_value.proofs.read.copy_words.Goals as goal
+use Rattle.serial_value.proofs.read.load_words.Goals as goal
 
 pub loop-k-preserved : goal.loop-k-preserved
 loop-k-preserved g c =

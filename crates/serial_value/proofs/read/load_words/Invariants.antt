@@ -1,6 +1,6 @@
 use Rattle.std.proofs.Common.{◌≡◌, length}
 use Rattle.serial_value.specs.Cell.{Gathers}
-use Rattle.serial_value.proofs.read.copy_words.Given as goal
+use Rattle.serial_value.proofs.read.load_words.Given as goal
 
 abbrev pub ghosts-copied_word : goal.ghosts-copied_word
 ghosts-copied_word g a = record { name = g.Q.Asked.name; value = g.Q.Asked.value; place = g.Q.Asked.place; index = a.k }
