@@ -13,6 +13,7 @@ pub mod Cells
 pub mod Tries
 pub mod WordOrder
 pub mod PartsLeft
+pub mod FirstPart
 pub mod Walking
 pub mod Needing
 pub mod Growing

@@ -12,7 +12,7 @@ abbrev is_dot : ℕ → Bool
 is_dot b = b == 46
 
 -- how many bytes stand before the first dot
-abbrev dot_at : List ℕ → ℕ
+abbrev pub dot_at : List ℕ → ℕ
 dot_at rest = position_or_len is_dot rest
 
 dot_within : (rest : List ℕ) → dot_at rest ≤ length rest
@@ -49,6 +49,10 @@ first_part_is (b ∷ rest) =
       | false ↦ ap (onto_first b) (first_part_is rest) ∙ ap (λ (ps : List (List ℕ)). (b ∷ take (dot_at rest) rest) ∷ ps) (sym (behind_suc (dot_at rest) b rest))
           ∙ ap (λ (k : ℕ). take k (b ∷ rest) ∷ parts_behind k (b ∷ rest)) more
     ]
+
+-- it has n bytes where the first dot stands at byte n, or none stands and there are n bytes
+pub part_to_dot : (rest : List ℕ) (n : ℕ) → dot_at rest ≡ n → parts_of rest ≡ take n rest ∷ parts_behind n rest
+part_to_dot rest n is = subst (λ (k : ℕ). parts_of rest ≡ take k rest ∷ parts_behind k rest) is (first_part_is rest)
 
 -- so it has as many bytes as stand before the first dot
 pub first_part : (rest : List ℕ) (n : ℕ) → n ≡ unwrap_or (position is_dot rest) (length rest) → parts_of rest ≡ take n rest ∷ parts_behind n rest

@@ -2,6 +2,7 @@
 
 ghost use Rattle.std.specs.Prelude.{◌≡◌, ◌+◌, ◌<◌, ◌≤◌, length, IsTrue};
 ghost use Rattle.serial_value.specs.Steps.{IsSameSeat};
+ghost use Rattle.serial_value.specs.Words.{text_word};
 ghost use Rattle.property_trie.specs.Parts.{node_size as size_of, compare_parts as order_of};
 ghost use Rattle.property_trie.specs.TrieSteps.{SitsAt, IsShortText, StandsAt, part_at};
 ghost use Rattle.property_trie.specs.TreeWords.{word_order};
@@ -24,24 +25,36 @@ fn compare_words(a: u64, b: u64) -> Ordering
     a.swap_bytes().cmp(&b.swap_bytes())
 }
 
+/// Word `k` of a part whose first word is at hand.
+fn word_at(part: &[u8], first: u64, k: usize) -> u64
+    requires k { k < 32 }
+    requires short { length part.now ≤ 255 }
+    requires first { first ≡ text_word part.now 0 }
+    ensures { result ≡ text_word part.now k }
+{
+    if k == 0 { first } else { word_of(part, k) }
+}
+
 /// Compares a part with that of the node, where they have one length.
 fn compare_part_words<V, K, R: TrieRule<V, K>>(
     table: &Table<(), V, K, R, Global>,
     seat: &mut Seat<(), V>,
     place: usize,
     part: &[u8],
+    first: u64,
 ) -> Ordering
     requires table { SitsAt seat.old table.now.shared.table_id (R.words seat.old.me.0) }
     requires stands { IsTrue (R.trie seat.old.me.0).live × StandsAt (R.trie seat.old.me.0).trail place }
     requires room { place + size_of (part_at (R.trie seat.old.me.0).trail) ≤ table.now.shared.table_id.words }
     requires short { (length part.now ≤ 255) × IsShortText (part_at (R.trie seat.old.me.0).trail) }
+    requires first { first ≡ text_word part.now 0 }
     requires same_length { length part.now ≡ length (part_at (R.trie seat.old.me.0).trail) }
     ensures seat { IsSameSeat seat.old seat.new × (seat.new.me ≡ seat.old.me) }
     ensures order { result ≡ slice_cmp nat_cmp part.now (part_at (R.trie seat.old.me.0).trail) }
 {
     for k in 0..part.len().div_ceil(8) {
         let own = node_word::<V, K, R, Brand>(table, seat, place, k);
-        let order = compare_words(word_of(part, k), own);
+        let order = compare_words(word_at(part, first, k), own);
         if order != Ordering::Equal {
             return order;
         }
@@ -49,24 +62,29 @@ fn compare_part_words<V, K, R: TrieRule<V, K>>(
     Ordering::Equal
 }
 
-/// Compares a part with that of the node that the walk stands at.
+/// Compares a part, whose first word is at hand, with that of the node that the walk stands at.
 pub(crate) fn compare_with_node<V, K, R: TrieRule<V, K>>(
     table: &Table<(), V, K, R, Global>,
     seat: &mut Seat<(), V>,
     place: usize,
     part: &[u8],
+    first: u64,
 ) -> Ordering
     requires table { SitsAt seat.old table.now.shared.table_id (R.words seat.old.me.0) }
     requires stands { IsTrue (R.trie seat.old.me.0).live × StandsAt (R.trie seat.old.me.0).trail place }
     requires room { place + size_of (part_at (R.trie seat.old.me.0).trail) ≤ table.now.shared.table_id.words }
     requires short { (length part.now ≤ 255) × IsShortText (part_at (R.trie seat.old.me.0).trail) }
+    requires first { first ≡ text_word part.now 0 }
     ensures seat { IsSameSeat seat.old seat.new × (seat.new.me ≡ seat.old.me) }
     ensures order { result ≡ order_of part.now (part_at (R.trie seat.old.me.0).trail) }
 {
     let length = node_length::<V, K, R>(table, seat, place) as usize;
-    match part.len().cmp(&length) {
-        Ordering::Less => Ordering::Less,
-        Ordering::Equal => compare_part_words::<V, K, R>(table, seat, place, part),
-        Ordering::Greater => Ordering::Greater,
+    if part.len() == length {
+        return compare_part_words::<V, K, R>(table, seat, place, part, first);
+    }
+    if part.len() < length {
+        Ordering::Less
+    } else {
+        Ordering::Greater
     }
 }

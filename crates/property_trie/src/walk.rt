@@ -3,6 +3,7 @@
 ghost use Rattle.std.specs.Prelude.{◌≡◌, ◌+◌, ◌<◌, ◌≤◌, ◌^◌, ◌==◌, ◌∷◌, take, drop, length, IsTrue, Some, None, MatchResult, IfSome, IfErr};
 ghost use Rattle.std.specs.List.{position};
 ghost use Rattle.serial_value.specs.Steps.{IsSameSeat, HasCell};
+ghost use Rattle.serial_value.specs.Words.{text_word};
 ghost use Rattle.property_trie.specs.Parts.{parts_of, parts_behind};
 ghost use Rattle.property_trie.specs.Tree.{by_order, find as find_in};
 ghost use Rattle.property_trie.specs.TrieSteps.{SitsAt, IsAtRest, LeadsTo, ComesTo, ReachesNode, ReachesNone, Searches, LinkInside, Finds};
@@ -12,6 +13,7 @@ use crate::rule::{Sought, TrieRule};
 use crate::steps::{cell_link, followed_link};
 use atomic_table::{Seat, Table};
 use init_base::PropName;
+use serial_value::word_of;
 use std::alloc::Global;
 use std::cmp::Ordering;
 use std::marker::Brand;
@@ -44,6 +46,24 @@ pub(crate) fn part_len(rest: &[u8]) -> usize
     first_dot(rest).unwrap_or(rest.len())
 }
 
+/// How many bytes the first part has, and its first word. A part of less than eight bytes is met once, with its dot.
+fn first_part(rest: &[u8]) -> (usize, u64)
+    requires short { length rest.now ≤ 255 }
+    ensures first { parts_of rest.now ≡ take result.0 rest.now ∷ parts_behind result.0 rest.now }
+    ensures inside { result.0 ≤ length rest.now }
+    ensures word { result.1 ≡ text_word (take result.0 rest.now) 0 }
+{
+    let mut bytes = [0u8; 8];
+    for j in 0..8 {
+        if j == rest.len() || rest[j] == b'.' {
+            return (j, u64::from_le_bytes(bytes));
+        }
+        bytes[j] = rest[j];
+    }
+    let len = part_len(rest);
+    (len, word_of(&rest[..len], 0))
+}
+
 /// The link from a node to the siblings before or behind it.
 fn sibling_link(place: usize, order: Ordering) -> Option<usize>
     requires { place < 2 ^ 33 }
@@ -56,16 +76,22 @@ fn sibling_link(place: usize, order: Ordering) -> Option<usize>
     }
 }
 
-/// Walks among the siblings for the first part of `rest`: to its node, or to the link, which is 0, that would lead to it.
+/// Walks among the siblings for the first part of `rest`, which has so many bytes and this
+/// first word: to its node, or to the link, which is 0, that would lead to it.
 fn find_node<V, K, R: TrieRule<V, K>, Q: Sought>(
     table: &Table<(), V, K, R, Global>,
     seat: &mut Seat<(), V>,
     top: usize,
     rest: &[u8],
+    len: usize,
+    first: u64,
 ) -> Result<usize, usize>
     requires table { SitsAt seat.old table.now.shared.table_id (R.words seat.old.me.0) }
     requires top { top < table.now.shared.table_id.words }
     requires rest { (parts_of rest.now ≡ Q.rest) × (length rest.now ≤ 255) }
+    requires first { parts_of rest.now ≡ take len rest.now ∷ parts_behind len rest.now }
+    requires inside { len ≤ length rest.now }
+    requires word { first ≡ text_word (take len rest.now) 0 }
     requires leads { LeadsTo (R.trie seat.old.me.0) Q.name top Q.rest }
     ensures seat { IsSameSeat seat.old seat.new × (seat.new.me.1 ≡ seat.old.me.1) }
     ensures ends { let v = seat.old.me.0 in MatchResult result
@@ -73,14 +99,14 @@ fn find_node<V, K, R: TrieRule<V, K>, Q: Sought>(
         (λ link. ReachesNone R.with_trie R.noted (R.cell v) (R.trie v) v Q.name Q.rest link seat.new.me.0) }
     ensures inside { IfErr result (λ link. link < table.now.shared.table_id.words) }
 {
-    let part = &rest[..part_len(rest)];
+    let part = &rest[..len];
     let mut link = top;
     'siblings: loop {
         let place = followed_link::<V, K, R, Brand>(table, seat, link) as usize;
         if place == 0 {
             return Err(link);
         }
-        let order = compare_with_node::<V, K, R>(table, seat, place, part);
+        let order = compare_with_node::<V, K, R>(table, seat, place, part, first);
         let Some(next) = sibling_link(place, order) else {
             return Ok(place);
         };
@@ -128,11 +154,12 @@ pub(crate) fn search<V, K, R: TrieRule<V, K>, Q: Sought>(
     let mut link = TOP;
     'parts: loop {
         let rest = &name[from..];
-        let place = match find_node::<V, K, R, Brand>(table, seat, link, rest) {
+        let (len, first) = first_part(rest);
+        let place = match find_node::<V, K, R, Brand>(table, seat, link, rest, len, first) {
             Ok(place) => place,
             Err(none) => return SearchEnd::NoNode(none, from),
         };
-        let end = from + part_len(rest);
+        let end = from + len;
         if end == name.len() {
             return end_at_node::<V, K, R, Brand>(table, seat, place);
         }

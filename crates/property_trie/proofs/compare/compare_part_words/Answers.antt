@@ -16,8 +16,8 @@ returns-then-ne-clause-order g c =
     let short : IsShortText c.args.part.now = record { short = c.requires.short.0; bytes = λ i. let f = c.type_inv.part i in omega arith } in
     let own = part_at (g.R.TrieRule.trie c.args.seat.now.me.0).trail in
     sym (c.loop-k.invariant.left
-    ∙ words_left c.args.part.now own c.loop-k.k c.word_of.result c.node_word-own.result c.compare_words-order.result c.requires.same_length short c.requires.short.1
-    c.word_of.ensures (c.node_word-own.ensures.told ∙ ap (λ m. text_word (part_at (g.R.TrieRule.trie m.0).trail) c.loop-k.k) c.loop-k.invariant.same) c.compare_words-order.ensures
+    ∙ words_left c.args.part.now own c.loop-k.k c.word_at.result c.node_word-own.result c.compare_words-order.result c.requires.same_length short c.requires.short.1
+    c.word_at.ensures (c.node_word-own.ensures.told ∙ ap (λ m. text_word (part_at (g.R.TrieRule.trie m.0).trail) c.loop-k.k) c.loop-k.invariant.same) c.compare_words-order.ensures
     ∙ decided c.compare_words-order.result _ (sym c.ne.ensures ∙ c.if-ne.true))
 
 pub loop-k-preserved : goal.loop-k-preserved
@@ -30,7 +30,7 @@ loop-k-preserved g c =
       id = c.node_word-own.ensures.seat.0.1 ∙ inv.id;
       same = c.node_word-own.ensures.seat.1 ∙ inv.same;
       left = inv.left
-          ∙ words_left c.args.part.now own c.loop-k.k c.word_of.result c.node_word-own.result c.compare_words-order.result c.requires.same_length short c.requires.short.1
-          c.word_of.ensures (c.node_word-own.ensures.told ∙ ap (λ m. text_word (part_at (g.R.TrieRule.trie m.0).trail) c.loop-k.k) inv.same) c.compare_words-order.ensures
+          ∙ words_left c.args.part.now own c.loop-k.k c.word_at.result c.node_word-own.result c.compare_words-order.result c.requires.same_length short c.requires.short.1
+          c.word_at.ensures (c.node_word-own.ensures.told ∙ ap (λ m. text_word (part_at (g.R.TrieRule.trie m.0).trail) c.loop-k.k) inv.same) c.compare_words-order.ensures
           ∙ passed c.compare_words-order.result _ (sym c.ne.ensures ∙ c.if-ne.false);
     }

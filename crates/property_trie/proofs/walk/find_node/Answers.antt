@@ -14,11 +14,11 @@ returns-in_default-clause-ends g c =
     let rest = g.Q.Sought.rest in
     let place = c.followed_link-place.result in
     let told = c.followed_link-place.ensures.told.some c.if-place-eq0.false in
-    let p = take c.part_len.result c.args.rest.now in
+    let p = take c.args.len c.args.rest.now in
     let stood = trie_standing g.R.CellRule.cell R.trie R.with_trie g.R.CellRule.noted L.trie_with L.trie_twice L.cell_beside m w g.Q.Sought.name rest place told.0 told.3 in
     let compared = c.compare_with_node-order.ensures.order ∙ ap (λ t. compare_parts p (part_at t.trail)) stood in
     let same = sibling_same c.compare_with_node-order.result place p told.0 compared c.in_default.ensures in
     let walked = c.siblings.invariant.walked in
     let ends = at_first g.R.CellRule.cell R.trie R.with_trie L.trie_with L.trie_twice L.cell_beside g.R.CellRule.noted v m w (R.words v) (R.words m) g.Q.Sought.name rest place told.0 p
-    (parts_behind c.part_len.result c.args.rest.now) walked told.3 (ap R.words walked.is ∙ L.words_stay v _) told.2 (sym c.requires.rest.0 ∙ c.part_len.ensures.first) same in
+    (parts_behind c.args.len c.args.rest.now) walked told.3 (ap R.words walked.is ∙ L.words_stay v _) told.2 (sym c.requires.rest.0 ∙ c.requires.first) same in
     (ends.0, ap (λ x. x.0) c.compare_with_node-order.ensures.seat.1 ∙ ends.1)

@@ -19,7 +19,7 @@ parts-preserved g c =
     let name = c.args.name.now in
     let rest = take (length name - c.parts.from) (drop c.parts.from name) in
     let whole : rest ≡ drop c.parts.from name = take_rest name c.parts.from in
-    let n = c.part_len.result in
+    let n = c.first_part-len.result.0 in
     let ends = c.in-Ok.ensures.ends in
     let behind = drop (c.parts.from + n + 1) name in
     let first = first_part behind in
@@ -31,14 +31,14 @@ parts-preserved g c =
       rights = c.in-Ok.ensures.seat.1 ∙ inv.rights;
       walked = walked_to C.cell R.trie R.with_trie C.noted L.trie_with L.trie_twice L.cell_beside v w g.Q.Sought.name (parts_of rest) c.in-Ok.place (first_of (parts_of rest)) is;
       leads = child_leads (R.trie w) (R.trie v) g.Q.Sought.name (parts_of rest) (parts_of behind) c.in-Ok.place (take n rest) first.0 first.1 stood
-          c.requires.rests.live c.requires.rests.no_adding (c.part_len.ensures.first ∙ ap (λ r. take n rest ∷ r) (ap (parts_behind n) whole ∙ more_parts name c.parts.from n inv.within c.if-end-name.false)) first.2;
+          c.requires.rests.live c.requires.rests.no_adding (c.first_part-len.ensures.first ∙ ap (λ r. take n rest ∷ r) (ap (parts_behind n) whole ∙ more_parts name c.parts.from n inv.within c.if-end-name.false)) first.2;
       inside =
           let k = ends.0.0 in
           let same : R.words m ≡ R.words v = ap R.words inv.walked.is ∙ L.words_stay v _ in
           let all = c.requires.table.1.0 in
           omega arith;
       within =
-          let short = c.part_len.ensures.inside in
+          let short = c.first_part-len.ensures.inside in
           let same = ap length whole in
           let long = length-drop c.parts.from name in
           let more = c.if-end-name.false in
