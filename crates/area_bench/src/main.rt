@@ -103,20 +103,26 @@ fn is_right(looks: &Looks<'_>, answer: Option<bool>) -> bool {
     }
 }
 
-/// So many reads, of which it counts those that answered as they should.
-fn reads(area: &Area, reader: &mut Reader, looks: &Looks<'_>, count: u64) -> u64
+/// So many reads, of which it counts those that answered as they should. The buffer is the caller's, so that each read
+/// writes it.
+fn reads(
+    area: &Area,
+    reader: &mut Reader,
+    looks: &Looks<'_>,
+    count: u64,
+    out: &mut [u8; 91],
+) -> u64
     requires { reader.old.table ≡ area.now }
 {
     let names = looks.names;
     let mut whole = 0;
-    let mut out = [0; 91];
     let mut at = 0;
     for _ in 0..count {
         if at >= names.len() {
             at = 0;
         }
         if at < names.len() {
-            if is_right(looks, read(area, reader, &names[at], &mut out)) {
+            if is_right(looks, read(area, reader, &names[at], out)) {
                 whole += 1;
             }
             at += 1;
@@ -177,6 +183,14 @@ fn sets_until(writer: &mut AreaWriter<'_>, names: &[String], stop: &AtomicBool) 
     }
 }
 
+/// So many reads, with no writer beside.
+fn reads_alone(area: &Area, reader: &mut Reader, looks: &Looks<'_>, count: u64) -> u64
+    requires { reader.old.table ≡ area.now }
+{
+    let mut out = [0; 91];
+    reads(area, reader, looks, count, &mut out)
+}
+
 /// So many reads, and then the writer is told to stop.
 fn reads_then_stop(
     area: &Area,
@@ -187,7 +201,8 @@ fn reads_then_stop(
 ) -> u64
     requires { reader.old.table ≡ area.now }
 {
-    let whole = reads(area, reader, looks, count);
+    let mut out = [0; 91];
+    let whole = reads(area, reader, looks, count, &mut out);
     stop.store(true, Ordering::SeqCst);
     whole
 }
@@ -271,7 +286,7 @@ fn answers<R: Threads + Sync>(rt: &R, alloc: Global, run: &Run) -> Option<u64>
             run.calls,
         ));
     }
-    Some(reads(&area, &mut reader, &looks, run.calls))
+    Some(reads_alone(&area, &mut reader, &looks, run.calls))
 }
 
 fn main(rt: HostRuntime) -> ExitCode {

@@ -46,7 +46,7 @@ pub(crate) fn part_len(rest: &[u8]) -> usize
     first_dot(rest).unwrap_or(rest.len())
 }
 
-/// How many bytes the first part has, and its first word. A part of less than eight bytes is met once, with its dot.
+/// How many bytes the first part has, and its first word. One pass finds the dot and gathers the word of a short part.
 fn first_part(rest: &[u8]) -> (usize, u64)
     requires short { length rest.now ≤ 255 }
     ensures first { parts_of rest.now ≡ take result.0 rest.now ∷ parts_behind result.0 rest.now }
@@ -76,8 +76,8 @@ fn sibling_link(place: usize, order: Ordering) -> Option<usize>
     }
 }
 
-/// Walks among the siblings for the first part of `rest`, which has so many bytes and this
-/// first word: to its node, or to the link, which is 0, that would lead to it.
+/// Walks among the siblings for the first part of `rest`, which has this length and this first word: to its node, or to
+/// the link, which is 0, that would lead to it.
 fn find_node<V, K, R: TrieRule<V, K>, Q: Sought>(
     table: &Table<(), V, K, R, Global>,
     seat: &mut Seat<(), V>,
