@@ -5,7 +5,7 @@ ghost use Rattle.std.specs.List.{position};
 ghost use Rattle.serial_value.specs.Steps.{IsSameSeat, HasCell};
 ghost use Rattle.serial_value.specs.Words.{text_word};
 ghost use Rattle.property_trie.specs.Parts.{parts_of, parts_behind};
-ghost use Rattle.property_trie.specs.Tree.{by_order, find as find_in};
+ghost use Rattle.property_trie.specs.Tree.{find as find_in};
 ghost use Rattle.property_trie.specs.TrieSteps.{SitsAt, IsAtRest, LeadsTo, ComesTo, ReachesNode, ReachesNone, Searches, LinkInside, Finds};
 
 use crate::compare::compare_with_node;
@@ -64,18 +64,6 @@ fn first_part(rest: &[u8]) -> (usize, u64)
     (len, word_of(&rest[..len], 0))
 }
 
-/// The link from a node to the siblings before or behind it.
-fn sibling_link(place: usize, order: Ordering) -> Option<usize>
-    requires { place < 2 ^ 33 }
-    ensures { result ≡ by_order order (Some (place + 1)) None (Some (place + 2)) }
-{
-    match order {
-        Ordering::Less => Some(place + 1),
-        Ordering::Equal => None,
-        Ordering::Greater => Some(place + 2),
-    }
-}
-
 /// Walks among the siblings for the first part of `rest`, which has this length and this first word: to its node, or to
 /// the link, which is 0, that would lead to it.
 fn find_node<V, K, R: TrieRule<V, K>, Q: Sought>(
@@ -107,10 +95,11 @@ fn find_node<V, K, R: TrieRule<V, K>, Q: Sought>(
             return Err(link);
         }
         let order = compare_with_node::<V, K, R>(table, seat, place, part, first);
-        let Some(next) = sibling_link(place, order) else {
-            return Ok(place);
-        };
-        link = next;
+        match order {
+            Ordering::Less => link = place + 1,
+            Ordering::Equal => return Ok(place),
+            Ordering::Greater => link = place + 2,
+        }
     }
 }
 

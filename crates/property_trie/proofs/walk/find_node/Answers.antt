@@ -1,11 +1,12 @@
 use Rattle.std.proofs.Common.{sym, ◌∙◌, ap, take}
 use Rattle.property_trie.specs.Parts.{compare_parts, parts_behind}
 use Rattle.property_trie.specs.TrieSteps.{part_at}
-use Rattle.property_trie.proofs.Walking.{at_first, trie_standing, sibling_same}
+use Rattle.property_trie.proofs.Orders.{same_part}
+use Rattle.property_trie.proofs.Walking.{at_first, trie_standing}
 use Rattle.property_trie.proofs.walk.find_node.Goals as goal
 
-pub returns-in_default-clause-ends : goal.returns-in_default-clause-ends
-returns-in_default-clause-ends g c =
+pub returns-in-Equal-clause-ends : goal.returns-in-Equal-clause-ends
+returns-in-Equal-clause-ends g c =
     let R = g.R.TrieRule in
     let L = g.met.R.TrieRule in
     let v = c.args.seat.now.me.0 in
@@ -17,7 +18,7 @@ returns-in_default-clause-ends g c =
     let p = take c.args.len c.args.rest.now in
     let stood = trie_standing g.R.CellRule.cell R.trie R.with_trie g.R.CellRule.noted L.trie_with L.trie_twice L.cell_beside m w g.Q.Sought.name rest place told.0 told.3 in
     let compared = c.compare_with_node-order.ensures.order ∙ ap (λ t. compare_parts p (part_at t.trail)) stood in
-    let same = sibling_same c.compare_with_node-order.result place p told.0 compared c.in_default.ensures in
+    let same = same_part p told.0 (sym compared ∙ c.in-Equal.is) in
     let walked = c.siblings.invariant.walked in
     let ends = at_first g.R.CellRule.cell R.trie R.with_trie L.trie_with L.trie_twice L.cell_beside g.R.CellRule.noted v m w (R.words v) (R.words m) g.Q.Sought.name rest place told.0 p
     (parts_behind c.args.len c.args.rest.now) walked told.3 (ap R.words walked.is ∙ L.words_stay v _) told.2 (sym c.requires.rest.0 ∙ c.requires.first) same in
