@@ -105,13 +105,7 @@ fn is_right(looks: &Looks<'_>, answer: Option<bool>) -> bool {
 
 /// So many reads, of which it counts those that answered as they should. The buffer is the caller's, so that each read
 /// writes it.
-fn reads(
-    area: &Area,
-    reader: &mut Reader,
-    looks: &Looks<'_>,
-    count: u64,
-    out: &mut [u8; 91],
-) -> u64
+fn reads(area: &Area, reader: &mut Reader, looks: &Looks<'_>, count: u64, out: &mut [u8; 91]) -> u64
     requires { reader.old.table ≡ area.now }
 {
     let names = looks.names;
