@@ -269,7 +269,8 @@ fn reads(asked: &[String], calls: usize, mut read: impl FnMut(&str) -> bool, set
     std::thread::scope(|threads| {
         if let Some(mut set) = set {
             threads.spawn(move || {
-                while !stop.load(SeqCst) {
+                // So many looks between two sets, so that the rate is that of the looks.
+                while !(0..4_096).any(|_| stop.load(SeqCst)) {
                     set();
                 }
             });

@@ -21,6 +21,9 @@ const WORDS: u64 = 1_048_576;
 /// More names than any run asks for.
 const MOST_NAMES: usize = 40_000;
 
+/// How many times a writer beside reads looks between two sets whether it is to stop, so that its rate is that of the looks.
+const LOOKS: u32 = 4_096;
+
 /// More sets than a run has time for.
 const MOST_SETS: u64 = 1 << 40;
 
@@ -166,14 +169,25 @@ fn sets(writer: &mut AreaWriter<'_>, names: &[String], count: u64) {
     }
 }
 
-/// Sets of names that are there, until it is told to stop.
-fn sets_until(writer: &mut AreaWriter<'_>, names: &[String], stop: &AtomicBool) {
+/// Whether it is told to stop while it looks so many times.
+fn stops(stop: &AtomicBool) -> bool {
+    for _ in 0..LOOKS {
+        if stop.load(Ordering::SeqCst) {
+            return true;
+        }
+    }
+    false
+}
+
+/// Sets of names that are there, until it is told to stop. The writer lies on the stack of its own thread.
+fn sets_until(writer: AreaWriter<'_>, names: &[String], stop: &AtomicBool) {
+    let mut writer = writer;
     let mut at = 0;
     for _ in 0..MOST_SETS {
-        if stop.load(Ordering::SeqCst) {
+        if stops(stop) {
             return;
         }
-        at = set_next(writer, names, at);
+        at = set_next(&mut writer, names, at);
     }
 }
 
@@ -185,18 +199,24 @@ fn reads_alone(area: &Area, reader: &mut Reader, looks: &Looks<'_>, count: u64) 
     reads(area, reader, looks, count, &mut out)
 }
 
+/// What a reading thread writes to.
+#[derive(Drop)]
+struct ReadingSide {
+    reader: Reader,
+    out: [u8; 91],
+}
+
 /// So many reads, and then the writer is told to stop.
 fn reads_then_stop(
     area: &Area,
-    reader: &mut Reader,
+    side: &mut ReadingSide,
     looks: &Looks<'_>,
     count: u64,
     stop: &AtomicBool,
 ) -> u64
-    requires { reader.old.table ≡ area.now }
+    requires { side.old.reader.table ≡ area.now }
 {
-    let mut out = [0; 91];
-    let whole = reads(area, reader, looks, count, &mut out);
+    let whole = reads(area, &mut side.reader, looks, count, &mut side.out);
     stop.store(true, Ordering::SeqCst);
     whole
 }
@@ -205,21 +225,38 @@ fn reads_then_stop(
 fn reads_beside<R: Threads + Sync>(
     rt: &R,
     area: &Area,
-    writer: &mut AreaWriter<'_>,
+    writer: AreaWriter<'_>,
     names: &[String],
-    reader: &mut Reader,
+    side: &mut ReadingSide,
     looks: &Looks<'_>,
     count: u64,
 ) -> u64
-    requires { reader.old.table ≡ area.now }
+    requires { side.old.reader.table ≡ area.now }
 {
-    let stop = AtomicBool::new(false);
+    let stop = &AtomicBool::new(false);
     let ((), whole) = join(
         rt,
-        || sets_until(writer, names, &stop),
-        || reads_then_stop(area, reader, looks, count, &stop),
+        move || sets_until(writer, names, stop),
+        move || reads_then_stop(area, side, looks, count, stop),
     );
     whole
+}
+
+/// The same, where what the reading thread writes lies on the heap, apart from all that the other one uses.
+fn reads_apart<R: Threads + Sync>(
+    rt: &R,
+    alloc: Global,
+    area: &Area,
+    writer: AreaWriter<'_>,
+    names: &[String],
+    side: ReadingSide,
+    looks: &Looks<'_>,
+    count: u64,
+) -> Option<u64>
+    requires { side.reader.table ≡ area.now }
+{
+    let mut side = Box::new(alloc, side).ok()?;
+    Some(reads_beside(rt, area, writer, names, &mut side, looks, count))
 }
 
 /// What the words ask for.
@@ -270,15 +307,11 @@ fn answers<R: Threads + Sync>(rt: &R, alloc: Global, run: &Run) -> Option<u64>
         beside,
     };
     if beside {
-        return Some(reads_beside(
-            rt,
-            &area,
-            &mut writer,
-            &names,
-            &mut reader,
-            &looks,
-            run.calls,
-        ));
+        let side = ReadingSide {
+            reader,
+            out: [0; 91],
+        };
+        return reads_apart(rt, alloc, &area, writer, &names, side, &looks, run.calls);
     }
     Some(reads_alone(&area, &mut reader, &looks, run.calls))
 }
