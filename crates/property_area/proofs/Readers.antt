@@ -1,5 +1,5 @@
 -- A client's seat is split off and taken in, and a client is told the count of sets: the rule of the area holds.
-use Rattle.std.proofs.Common.{◌≡◌, ◌≢◌, ℕ, zero, suc, ◌+◌, ◌<◌, ◌≤◌, ◌⊎◌, List, [], ◌∷◌, ◌++◌, length, get_or, set, max, Option, Some, None, Bool, true, false, ◌==◌, if◌then◌else◌, sym, refl, ap, ◌∙◌, subst, inl, inr, ⊎_elim, arith, length-set, length-append, ne_eqb, eq-eqb}
+use Rattle.std.proofs.Common.{◌≡◌, ◌≢◌, ℕ, suc, ◌+◌, ◌≤◌, List, [], ◌∷◌, ◌++◌, length, get_or, set, max, Option, Some, None, Bool, true, false, ◌==◌, if◌then◌else◌, sym, refl, ap, ◌∙◌, subst, ⊎_elim, arith, length-set, length-append, ne_eqb, eq-eqb}
 use Rattle.std.proofs.lemmas.Bool.{cases_Bool, eqb-true}
 use mathlib.Core.Option.{some, some-ne-none}
 use mathlib.Core.Logic.{dite}
@@ -33,9 +33,9 @@ use Rattle.property_area.specs.declared.view.LogOpening.{LogOpening}
 use Rattle.property_area.specs.declared.view.LogEntry.{LogEntry}
 use Rattle.property_area.specs.Area.{requests_in, requests_of, out_seat, list_in, Moment, world_of, WordsHold, ClientsHold, AskedHolds, PartHolds, ViewHolds, AreaHolds}
 use Rattle.property_area.specs.Seats.{sets_in}
-use Rattle.property_area.specs.Readers.{client_in, others_in, IsIn, without, handing, handed, client_of, taking, spent, synced, seen_by, caught, asker_of, request_of, recording, opening_with, ComesNext, ClientStands, EachClientStands}
+use Rattle.property_area.specs.Readers.{client_in, others_in, IsIn, without, handing, handed, client_of, taking, spent, synced, seen_by, caught, asker_of, request_of, recording, opening_with, ComesNext, EachClientStands}
 use Rattle.property_area.specs.Kept.Requests.{requests_told, requests_asked, requests_own, requests_other, asked_told}
-use Rattle.property_area.specs.Kept.Frame.{St, Carried, Mine, mine, reads}
+use Rattle.property_area.specs.Kept.Frame.{St, Carried, mine, reads}
 
 -- an empty list that begins with the sets that there are, or with none
 fresh_list : (w : World) (began more : List Set) → w.sets ≡ began ++ more → ListHolds w began []

@@ -1,5 +1,5 @@
 -- A writer that is stopped before its second set, and a read that is stopped before its last load.
-use Rattle.std.proofs.Common.{◌≡◌, ℕ, List, [], ◌∷◌, length, take, Option, Some, None, sym, refl, ap, ◌∙◌, subst, arith, take_all}
+use Rattle.std.proofs.Common.{◌≡◌, ℕ, List, [], ◌∷◌, length, Some, None, sym, refl, ap, ◌∙◌, subst, arith, take_all}
 use Rattle.atomic_table.specs.Seated.{TableId}
 use Rattle.init_machine.specs.Sets.{Set}
 use Rattle.serial_value.specs.declared.view.CellView.{CellView}

@@ -22,7 +22,6 @@ use Rattle.serial_value.specs.Words.{IsValue}
 use Rattle.serial_value.specs.History.{FewAgains}
 use Rattle.property_area.specs.declared.view.LogLine.{LogLine}
 use Rattle.property_area.specs.declared.view.LogOpening.{LogOpening}
-use Rattle.property_area.specs.declared.view.LogEntry.{LogEntry}
 use Rattle.property_area.specs.declared.view.Client.{Client}
 use Rattle.property_area.specs.declared.view.AreaView.{AreaView}
 use Rattle.property_area.specs.declared.reader.ReadAnswer.{ReadAnswer}

@@ -1,17 +1,15 @@
 -- A walk changes the trail of a view alone, so what its last step tells holds of the view that it began with.
-use Rattle.std.proofs.Common.{◌≡◌, ℕ, ◌+◌, ◌<◌, ◌≤◌, IsTrue, List, [], ◌∷◌, Option, Some, None, sym, refl, ap, ◌∙◌, subst, inr, arith}
+use Rattle.std.proofs.Common.{◌≡◌, ℕ, ◌+◌, IsTrue, List, [], ◌∷◌, Option, Some, None, sym, refl, ap, ◌∙◌, subst, inr}
 use Rattle.std.specs.declared.cmp.Ordering.{Ordering}
-use Rattle.std.specs.declared.cmp.Ordering.TheVariants.{Less, Equal, Greater}
 use Rattle.init_machine.specs.declared.report.Reading.{Reading}
 use Rattle.init_machine.specs.declared.report.Reading.TheVariants.{Absent}
 use Rattle.serial_value.specs.declared.view.CellView.{CellView}
 use Rattle.serial_value.specs.declared.view.CellView.TheVariants.{Writer, Reader}
-use Rattle.property_trie.specs.Parts.{compare_parts}
-use Rattle.property_trie.specs.Tree.{by_order, at_last}
+use Rattle.property_trie.specs.Tree.{by_order}
 use Rattle.property_trie.specs.declared.view.Trail.{Trail}
 use Rattle.property_trie.specs.declared.view.TrieView.{TrieView}
 use Rattle.property_trie.specs.TrieSteps.{LeadsTo, GoesOn, ComesTo, NodeInside, first_of, rested, standing, knowing, Misses}
-use Rattle.property_trie.proofs.Orders.{same_part, compare_same}
+use Rattle.property_trie.proofs.Orders.{compare_same}
 
 module _ {V : Type 0} (trie : V → TrieView) (with_trie : V → TrieView → V) where
   -- the later view differs from the first in its trail alone
@@ -67,36 +65,6 @@ module _ {V : Type 0} (cell : V → CellView) (trie : V → TrieView) (with_trie
 -- a view with no walk under way is at rest
 pub rested_same : (t : TrieView) → t.trail ≡ None → rested t ≡ t
 rested_same t none = λ i. record t { trail = sym none i }
-
-abbrev Step : Ordering → ℕ → Option ℕ
-Step order place = by_order order (Some (place + 1)) None (Some (place + 2))
-
--- from a node the walk goes on among its siblings
-pub sibling_leads : (t t0 : TrieView) (name : List ℕ) (rest : List (List ℕ)) (place : ℕ) (own p : List ℕ) (ps : List (List ℕ)) (order : Ordering) (next : ℕ)
-    → t ≡ standing t0 name rest place own → IsTrue t0.live → t0.adding ≡ None → rest ≡ p ∷ ps → order ≡ compare_parts p own → Some next ≡ Step order place
-    → LeadsTo t name next rest
-sibling_leads t t0 name rest place own p ps order next is live none parts compared goes =
-    subst (λ (u : TrieView). LeadsTo u name next rest) (sym is) record {
-      live = live;
-      no_adding = none;
-      next = inr (refl, subst (λ (r : List (List ℕ)). GoesOn place own r next rest) (sym parts) (on order compared goes));
-    }
-  where
-    on : (o : Ordering) → o ≡ compare_parts p own → Some next ≡ Step o place → GoesOn place own (p ∷ ps) next rest
-    on Less e s = subst (λ (o : Ordering). by_order o ((next ≡ place + 1) × (rest ≡ p ∷ ps)) (at_last ps ⊥ ((next ≡ place + 3) × (rest ≡ ps))) ((next ≡ place + 2) × (rest ≡ p ∷ ps))) e (cc, parts)
-    on Equal e s = absurd (cc)
-    on Greater e s = subst (λ (o : Ordering). by_order o ((next ≡ place + 1) × (rest ≡ p ∷ ps)) (at_last ps ⊥ ((next ≡ place + 3) × (rest ≡ ps))) ((next ≡ place + 2) × (rest ≡ p ∷ ps))) e (cc, parts)
-
-pub sibling_above : (order : Ordering) (place next : ℕ) → Some next ≡ Step order place → (place < next) × (next ≤ place + 2)
-sibling_above Less place next s = let e : next ≡ place + 1 = cc in (omega arith, omega arith)
-sibling_above Equal place next s = absurd (cc)
-sibling_above Greater place next s = let e : next ≡ place + 2 = cc in (omega arith, omega arith)
-
--- or has come to the node of the part
-pub sibling_same : (order : Ordering) (place : ℕ) (p own : List ℕ) → order ≡ compare_parts p own → None ≡ Step order place → p ≡ own
-sibling_same Less place p own e s = absurd (cc)
-sibling_same Equal place p own e s = same_part p own (sym e)
-sibling_same Greater place p own e s = absurd (cc)
 
 module _ {V : Type 0} (cell : V → CellView) (trie : V → TrieView) (with_trie : V → TrieView → V)
     (trie_with : (v : V) (t : TrieView) → trie (with_trie v t) ≡ t)

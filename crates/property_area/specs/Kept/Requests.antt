@@ -1,13 +1,12 @@
 -- The requests in a list, and in the log.
-use Rattle.std.proofs.Common.{◌≡◌, ◌≢◌, ℕ, suc, List, [], ◌∷◌, ◌++◌, Bool, true, false, ◌==◌, if◌then◌else◌, sym, refl, ap, ◌∙◌, subst, ⊎_elim, arith, ne_eqb, eq-eqb}
-use Rattle.std.specs.Prelude.{IsTrue}
+use Rattle.std.proofs.Common.{◌≡◌, ◌≢◌, ℕ, List, [], ◌∷◌, ◌++◌, Bool, true, false, ◌==◌, if◌then◌else◌, refl, ap, ◌∙◌, ne_eqb, eq-eqb}
 use Rattle.init_machine.specs.declared.report.Reading.{Reading}
 use Rattle.init_machine.specs.declared.client.ClientItem.{ClientItem}
 use Rattle.init_machine.specs.declared.client.ClientItem.TheVariants.{Told, Asked}
 use Rattle.init_machine.specs.declared.client.ClientRequest.{ClientRequest}
 use Rattle.property_area.specs.declared.view.LogEntry.{LogEntry}
 use Rattle.property_area.specs.declared.view.AreaView.{AreaView}
-use Rattle.property_area.specs.Area.{requests_in, requests_of, out_seat, Moment, AskedHolds, noted}
+use Rattle.property_area.specs.Area.{requests_in, requests_of, Moment, AskedHolds, noted}
 
 pub requests_told : (list : List ClientItem) (reading : Reading) → requests_in (list ++ Told reading ∷ []) ≡ requests_in list
 requests_told [] reading = refl
