@@ -242,23 +242,6 @@ fn reads_beside<R: Threads + Sync>(
     whole
 }
 
-/// The same, where what the reading thread writes lies on the heap, apart from all that the other one uses.
-fn reads_apart<R: Threads + Sync>(
-    rt: &R,
-    alloc: Global,
-    area: &Area,
-    writer: AreaWriter<'_>,
-    names: &[String],
-    side: ReadingSide,
-    looks: &Looks<'_>,
-    count: u64,
-) -> Option<u64>
-    requires { side.reader.table ≡ area.now }
-{
-    let mut side = Box::new(alloc, side).ok()?;
-    Some(reads_beside(rt, area, writer, names, &mut side, looks, count))
-}
-
 /// What the words ask for.
 #[derive(Drop)]
 struct Run {
@@ -307,11 +290,16 @@ fn answers<R: Threads + Sync>(rt: &R, alloc: Global, run: &Run) -> Option<u64>
         beside,
     };
     if beside {
-        let side = ReadingSide {
-            reader,
-            out: [0; 91],
-        };
-        return reads_apart(rt, alloc, &area, writer, &names, side, &looks, run.calls);
+        // On the heap, apart from what the writer's thread reads of this one's stack.
+        let mut side = Box::new(
+            alloc,
+            ReadingSide {
+                reader,
+                out: [0; 91],
+            },
+        )
+        .ok()?;
+        return Some(reads_beside(rt, &area, writer, &names, &mut side, &looks, run.calls));
     }
     Some(reads_alone(&area, &mut reader, &looks, run.calls))
 }
