@@ -13,19 +13,32 @@ struct Area {
     words: Vec<AtomicU64>,
 }
 
-fn is_name_byte(b: u8) -> bool {
-    b.is_ascii_alphanumeric() || matches!(b, b'.' | b'-' | b'_' | b'@' | b':')
+const DOT: u8 = 1;
+const OTHER: u8 = 2;
+
+static KINDS: [u8; 256] = kinds();
+
+const fn kinds() -> [u8; 256] {
+    let mut kinds = [OTHER; 256];
+    let mut b = 0;
+    while b < 256 {
+        if (b as u8).is_ascii_alphanumeric() || matches!(b as u8, b'-' | b'_' | b'@' | b':') {
+            kinds[b] = 0;
+        }
+        b += 1;
+    }
+    kinds[b'.' as usize] = DOT;
+    kinds
 }
 
 fn is_legal(name: &[u8]) -> bool {
-    let mut before = b'.';
+    let (mut seen, mut before) = (0, DOT);
     for &b in name {
-        if !is_name_byte(b) || (b == b'.' && before == b'.') {
-            return false;
-        }
-        before = b;
+        let kind = KINDS[b as usize];
+        seen |= kind | (kind & before) << 1;
+        before = kind;
     }
-    (1..=255).contains(&name.len()) && before != b'.'
+    name.len() <= 255 && seen < OTHER && before != DOT
 }
 
 fn word_of(value: &[u8], k: usize) -> u64 {

@@ -1,6 +1,6 @@
 /* A library to be loaded before a program (LD_PRELOAD): the Nth call of one function of the C library fails.
  *
- *   FAIL_CALL   the function: malloc, realloc, open, openat, read, write, fsync, rename, statx, getdents64 or close
+ *   FAIL_CALL   the function: malloc, realloc, open, openat, read, write, fsync, rename, unlink, statx, getdents64 or close
  *   FAIL_AT     which of its calls, from 1; 0 fails none
  *   FAIL_ERRNO  what it says then; 0 makes a read or a write take one byte alone
  *   FAIL_COUNT  a file that gets the number of its calls when the program ends
@@ -92,6 +92,8 @@ int fsync(int file) { return fails("fsync") ? -1 : (int)syscall(SYS_fsync, file)
 int rename(const char *from, const char *to) {
     return fails("rename") ? -1 : (int)syscall(SYS_renameat2, AT_FDCWD, from, AT_FDCWD, to, 0);
 }
+
+int unlink(const char *path) { return fails("unlink") ? -1 : (int)syscall(SYS_unlinkat, AT_FDCWD, path, 0); }
 
 int statx(int dir, const char *path, int flags, unsigned mask, struct statx *to) {
     return fails("statx") ? -1 : (int)syscall(SYS_statx, dir, path, flags, mask, to);

@@ -12,8 +12,6 @@ mod pending;
 mod queue;
 mod running;
 mod taking;
-#[cfg(test)]
-mod tests;
 mod triggers;
 
 pub use queue::Queue;

@@ -1,8 +1,9 @@
 //! A run of one writer beside three readers at an area, each on a thread of its own. The sets go round the names, and each
 //! value tells its own number, so each answer can be held against the sets.
 //!
-//! `area_race N`: each reader makes N reads, and the writer as many sets. It prints how many answers were not those of the sets
-//! that they named, or of fewer sets than the reader had seen before.
+//! `area_race N`: each reader makes N reads, and the writer as many sets. Then, with no writer beside it, each reader makes one
+//! last read, which has to find its name's value. It prints how many answers were not those of the sets that they named, or of
+//! fewer sets than the reader had seen before, or not the value that a last read has to find.
 #![tactic(auto)]
 
 ghost use Rattle.std.specs.Prelude.{◌≡◌, ◌<◌, ◌≤◌, ◌^◌, IfSome};
@@ -13,7 +14,7 @@ use init_machine::PropStore;
 use property_area::{Area, AreaWriter, ReadAnswer, Reader};
 use std::alloc::Global;
 use std::process::ExitCode;
-use std::thread::{Threads, join};
+use std::thread::{Threads, join_mut};
 
 /// How many words the area has.
 const WORDS: u64 = 1024;
@@ -71,31 +72,43 @@ fn is_right(answer: ReadAnswer, place: u64, out: &[u8; 91]) -> bool {
     }
 }
 
-/// Whether one read of the name with this place is wrong.
-fn reads_wrong(area: &Area, reader: &mut Reader, place: u64) -> bool
+/// The answer of one read of the name with this place, where it is right.
+fn right_read(area: &Area, reader: &mut Reader, place: u64) -> Option<ReadAnswer>
     requires area { reader.old.table ≡ area.now }
     ensures reader { reader.new.table ≡ reader.old.table }
 {
-    let Some(name) = PropName::of(name_at(place)) else {
-        return true;
-    };
+    let name = PropName::of(name_at(place))?;
     let seen = reader.number();
     let mut out = [0; 91];
     let answer = reader.read(area, name, &mut out);
-    !is_right(answer, place, &out) || reader.number() < seen
+    let right = is_right(answer, place, &out) && reader.number() >= seen;
+    if right { Some(answer) } else { None }
 }
 
 /// How many of so many reads were wrong.
 fn wrong_reads(area: &Area, reader: &mut Reader, count: u64) -> u64
     requires area { reader.old.table ≡ area.now }
+    ensures reader { reader.new.table ≡ reader.old.table }
 {
     let mut wrong = 0;
     for k in 0..count {
-        if reads_wrong(area, reader, k % NAMES) {
+        if right_read(area, reader, k % NAMES).is_none() {
             wrong += 1;
         }
     }
     wrong
+}
+
+/// How many of one last read, with no writer beside it, were wrong: it finds the name that was set first, where one was.
+fn wrong_ends(area: &Area, reader: &mut Reader, count: u64) -> u64
+    requires area { reader.old.table ≡ area.now }
+{
+    let right = match right_read(area, reader, 0) {
+        Some(ReadAnswer::Found { .. }) => count > 0,
+        Some(ReadAnswer::Absent { .. }) => count == 0,
+        Some(ReadAnswer::Again { .. }) | None => false,
+    };
+    u64::from(!right)
 }
 
 /// One set of the name with this place.
@@ -129,11 +142,12 @@ fn two_readers<R: Threads + Sync>(
 ) -> u64
     requires one { one.old.table ≡ area.now }
     requires two { two.old.table ≡ area.now }
+    ensures readers { (one.new.table ≡ one.old.table) × (two.new.table ≡ two.old.table) }
 {
-    let (a, b) = join(
+    let (a, b) = join_mut(
         rt,
-        || wrong_reads(area, one, count),
-        || wrong_reads(area, two, count),
+        &mut || wrong_reads(area, one, count),
+        &mut || wrong_reads(area, two, count),
     );
     a.saturating_add(b)
 }
@@ -148,11 +162,12 @@ fn writer_and_reader<R: Threads + Sync>(
 ) -> u64
     requires reader { reader.old.table ≡ area.now }
     requires count { count < 2 ^ 41 }
+    ensures reader { reader.new.table ≡ reader.old.table }
 {
-    let ((), wrong) = join(
+    let ((), wrong) = join_mut(
         rt,
-        || write_all(writer, count),
-        || wrong_reads(area, reader, count),
+        &mut || write_all(writer, count),
+        &mut || wrong_reads(area, reader, count),
     );
     wrong
 }
@@ -171,13 +186,14 @@ fn all_beside<R: Threads + Sync>(
     requires two { two.old.table ≡ area.now }
     requires three { three.old.table ≡ area.now }
     requires count { count < 2 ^ 41 }
+    ensures readers { (one.new.table ≡ one.old.table) × (two.new.table ≡ two.old.table) × (three.new.table ≡ three.old.table) }
 {
-    let (a, b) = join(
+    let (a, b) = join_mut(
         rt,
-        || -> u64
+        &mut || -> u64
             requires { IsSync R.row × (one.now.table ≡ area.now) × (two.now.table ≡ area.now) }
         { two_readers(rt, area, one, two, count) },
-        || -> u64
+        &mut || -> u64
             requires { IsSync R.row × (three.now.table ≡ area.now) × (count < 2 ^ 41) }
         { writer_and_reader(rt, area, writer, three, count) },
     );
@@ -193,7 +209,7 @@ fn race<R: Threads + Sync>(rt: &R, alloc: Global, count: u64) -> Option<u64>
     let mut one = writer.hand_out(ClientId(1)).ok()?;
     let mut two = writer.hand_out(ClientId(2)).ok()?;
     let mut three = writer.hand_out(ClientId(3)).ok()?;
-    Some(all_beside(
+    let wrong = all_beside(
         rt,
         &area,
         &mut writer,
@@ -201,7 +217,11 @@ fn race<R: Threads + Sync>(rt: &R, alloc: Global, count: u64) -> Option<u64>
         &mut two,
         &mut three,
         count,
-    ))
+    );
+    let ends = wrong_ends(&area, &mut one, count)
+        .saturating_add(wrong_ends(&area, &mut two, count))
+        .saturating_add(wrong_ends(&area, &mut three, count));
+    Some(wrong.saturating_add(ends))
 }
 
 /// None where the word is no count.

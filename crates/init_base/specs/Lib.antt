@@ -6,6 +6,7 @@ pub mod Name
 pub mod Outside
 pub mod Quoted
 pub mod Reading
+pub mod Resolve
 pub mod Text
 pub mod Tree
 pub mod Value

@@ -1,6 +1,6 @@
 -- Which texts name a property (AOSP, system properties): 1 to 255 bytes out of ASCII letters, digits and . - _ @ :,
 -- with no dot (46) first, last or beside another.
-use Rattle.std.specs.Prelude.{ℕ, Bool, true, IsTrue, ◌&&◌, ◌||◌, not, ◌==◌, nat_le, List, [], ◌∷◌, length}
+use Rattle.std.specs.Prelude.{ℕ, Bool, true, IsTrue, ◌&&◌, ◌||◌, not, ◌==◌, nat_le, List, [], ◌∷◌, length, if◌then◌else◌}
 use Rattle.std.specs.List.{list_all}
 
 abbrev pub is_name_byte : ℕ → Bool
@@ -24,3 +24,7 @@ is_legal_name name =
 
 abbrev pub LegalName : List ℕ → Type 0
 LegalName name = IsTrue (is_legal_name name)
+
+-- the kind of a byte: 1 for a dot, 0 for another byte of names, 2 for one that no name has
+abbrev pub kind_of_byte : ℕ → ℕ
+kind_of_byte b = if b == 46 then 1 else (if is_name_byte b then 0 else 2)

@@ -13,8 +13,6 @@ mod name;
 mod outside;
 mod q_form;
 mod reading;
-#[cfg(test)]
-mod tests;
 mod text;
 mod units;
 mod value;

@@ -1,8 +1,8 @@
 //! Property names, which are legal by their type. The rule is `LegalName` of `specs/Name.antt`.
 
-ghost use Rattle.std.specs.Prelude.{◌≡◌, ◌↔◌, IfSome, IsSome};
+ghost use Rattle.std.specs.Prelude.{◌≡◌, ◌≤◌, ◌↔◌, ◌==◌, ◌&&◌, not, nat_lt, IfSome, IsSome};
 ghost use Rattle.std.specs.List.{list_all};
-ghost use Rattle.init_base.specs.Name.{LegalName, is_legal_name, is_name_byte as is_name_byte_lem, has_only_lone_dots as has_only_lone_dots_lem};
+ghost use Rattle.init_base.specs.Name.{LegalName, has_only_lone_dots, is_legal_name, is_name_byte, kind_of_byte};
 
 /// A property's name, which is legal: 1 to 255 bytes out of ASCII letters, digits and `. - _ @ :`, that doesn't
 /// begin or end with a dot and has no two dots side by side (AOSP, system properties).
@@ -36,34 +36,53 @@ impl<'a> PropName<'a> {
 fn is_legal(bytes: &[u8]) -> bool
     ensures { result ≡ is_legal_name bytes.now }
 {
-    if bytes.is_empty() || bytes.len() > 255 {
-        return false;
-    }
-    has_name_bytes(bytes) && has_only_lone_dots(bytes)
+    bytes.len() <= 255 && has_legal_bytes(bytes)
 }
 
-fn has_name_bytes(bytes: &[u8]) -> bool
-    ensures { result ≡ list_all is_name_byte_lem bytes.now }
-{
-    bytes.iter().all(|byte| is_name_byte(*byte))
-}
+/// The kind of the dot.
+const DOT: u8 = 1;
 
-fn is_name_byte(byte: u8) -> bool
-    ensures { result ≡ is_name_byte_lem byte }
-{
-    matches!(byte, b'a'..=b'z' | b'A'..=b'Z' | b'0'..=b'9' | b'.' | b'-' | b'_' | b'@' | b':')
-}
+/// The kind of the bytes that no name has.
+const OTHER: u8 = 2;
 
-/// Whether no dot stands first, last or beside another.
-fn has_only_lone_dots(bytes: &[u8]) -> bool
-    ensures { result ≡ has_only_lone_dots_lem bytes.now }
+/// The kind of each byte: 0 for those of names but the dot.
+const KINDS: [u8; 256] = [
+    2, 2, 2, 2, 2, 2, 2, 2, 2, 2, 2, 2, 2, 2, 2, 2, 2, 2, 2, 2, 2, 2, 2, 2, 2, 2, 2, 2, 2, 2, 2, 2,
+    2, 2, 2, 2, 2, 2, 2, 2, 2, 2, 2, 2, 2, 0, 1, 2, 0, 0, 0, 0, 0, 0, 0, 0, 0, 0, 0, 2, 2, 2, 2, 2,
+    0, 0, 0, 0, 0, 0, 0, 0, 0, 0, 0, 0, 0, 0, 0, 0, 0, 0, 0, 0, 0, 0, 0, 0, 0, 0, 0, 2, 2, 2, 2, 0,
+    2, 0, 0, 0, 0, 0, 0, 0, 0, 0, 0, 0, 0, 0, 0, 0, 0, 0, 0, 0, 0, 0, 0, 0, 0, 0, 0, 2, 2, 2, 2, 2,
+    2, 2, 2, 2, 2, 2, 2, 2, 2, 2, 2, 2, 2, 2, 2, 2, 2, 2, 2, 2, 2, 2, 2, 2, 2, 2, 2, 2, 2, 2, 2, 2,
+    2, 2, 2, 2, 2, 2, 2, 2, 2, 2, 2, 2, 2, 2, 2, 2, 2, 2, 2, 2, 2, 2, 2, 2, 2, 2, 2, 2, 2, 2, 2, 2,
+    2, 2, 2, 2, 2, 2, 2, 2, 2, 2, 2, 2, 2, 2, 2, 2, 2, 2, 2, 2, 2, 2, 2, 2, 2, 2, 2, 2, 2, 2, 2, 2,
+    2, 2, 2, 2, 2, 2, 2, 2, 2, 2, 2, 2, 2, 2, 2, 2, 2, 2, 2, 2, 2, 2, 2, 2, 2, 2, 2, 2, 2, 2, 2, 2,
+];
+
+/// Whether all bytes are those of names, and no dot stands first, last or beside another. It goes over them once, with no
+/// branch.
+fn has_legal_bytes(bytes: &[u8]) -> bool
+    ensures { result ≡ (list_all is_name_byte bytes.now && has_only_lone_dots bytes.now) }
 {
-    let mut previous = b'.';
+    let mut seen = 0;
+    let mut before = DOT;
     for byte in bytes {
-        if previous == b'.' && *byte == b'.' {
-            return false;
-        }
-        previous = *byte;
+        let kind = kind_of(*byte);
+        seen |= marks(before, kind);
+        before = kind;
     }
-    previous != b'.'
+    seen < OTHER && before != DOT
+}
+
+fn kind_of(byte: u8) -> u8
+    ensures { result ≡ kind_of_byte byte }
+{
+    KINDS[byte as usize]
+}
+
+/// What is noted of a byte behind another. It is `OTHER` or more where no name has the byte, or both are dots.
+fn marks(before: u8, kind: u8) -> u8
+    requires before { before ≤ 2 }
+    requires kind { kind ≤ 2 }
+    ensures { nat_lt result 2 ≡ (nat_lt kind 2 && not (before == 1 && kind == 1)) }
+{
+    kind | ((kind & before) << 1)
 }

@@ -14,8 +14,6 @@ mod read;
 mod reaping;
 mod restarting;
 mod step;
-#[cfg(test)]
-mod tests;
 mod waiting;
 
 pub use machine::{Core, CoreStop};

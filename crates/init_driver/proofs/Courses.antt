@@ -1,5 +1,5 @@
 -- Inputs that are taken one after another.
-use Rattle.std.proofs.Common.{◌≡◌, ℕ, suc, ◌+◌, ◌-◌, ◌<◌, ◌≤◌, List, [], ◌∷◌, ◌++◌, length, get_or, drop, replicate, Option, Some, None, Result, Ok, Err, append-nil, append_assoc, refl, sym, ap, ◌∙◌, subst, arith}
+use Rattle.std.proofs.Common.{◌≡◌, ℕ, suc, ◌+◌, ◌-◌, ◌<◌, ◌≤◌, ◌⊎◌, inl, inr, IsTrue, List, [], ◌∷◌, ◌++◌, length, get_or, drop, replicate, Option, Some, None, Result, Ok, Err, append-nil, append_assoc, length-append, refl, sym, ap, ◌∙◌, subst, arith}
 use Rattle.std.specs.List.{flat_map}
 use Rattle.std.specs.Io.KnownBytes.{append_known}
 use Rattle.std.proofs.lemmas.List.{at_drop_more}
@@ -13,17 +13,20 @@ use Rattle.init_machine.specs.declared.config.Config.{Config}
 use Rattle.init_machine.specs.declared.input.Input.{Input}
 use Rattle.init_machine.specs.declared.report.Entry.{Entry}
 use Rattle.init_trace.specs.Report.{EntriesText, EntryText}
-use Rattle.init_trace.specs.Written.{Added, TakesFront}
-use Rattle.init_trace.proofs.Adding.{added_nothing, added_then, front_of_more, front_then, taken_then, takes_nothing}
+use Rattle.init_trace.specs.Written.{Added}
+use Rattle.init_trace.proofs.Adding.{added_nothing, taken_then}
 use Rattle.machine_laws.specs.Histories.{history_from}
 use Rattle.script_lang.specs.Inputs.{act_inputs}
-use Rattle.script_lang.specs.Script.{last_or}
 use Rattle.script_lang.specs.declared.script.Act.{Act}
-use Rattle.init_driver.specs.Course.{entries_at, Leads, Place, Stops, Takes, Untaken, place_of}
-use Rattle.init_driver.specs.Stored.{given_at, given_from, Keeps}
+use Rattle.init_driver.specs.Course.{entries_at, texts_at, Breaks, IsAhead, Leads, Place, Stops, Takes, Untaken, place_of}
+use Rattle.init_driver.specs.Keeper.{KeeperView, Risks, Took}
+use Rattle.init_driver.specs.Stored.{given_at, given_from, has_stored}
 use Rattle.init_driver.specs.declared.refusal.DriveRefusal.{DriveRefusal}
 use Rattle.init_driver.specs.declared.refusal.DriveRefusal.TheVariants as refusal
 use Rattle.init_driver.specs.declared.traced.Traced.{Traced}
+use Rattle.init_driver.proofs.Aheads.{ahead_shift, ahead_then, ahead_up}
+use Rattle.init_driver.proofs.Keepers.{risks_then, took_nothing, took_then}
+use Rattle.init_driver.proofs.Sinks.{two_fronts}
 
 -- ---- inputs behind others
 
@@ -32,7 +35,7 @@ pub after_more : (config : Config) (policy : PolicyLines) (s : State) (first mor
 after_more config policy s [] more = refl
 after_more config policy s (i ∷ first) more = after_more config policy (step config policy s i).state first more
 
-history_more : (config : Config) (policy : PolicyLines) (s : State) (first more : List Input)
+pub history_more : (config : Config) (policy : PolicyLines) (s : State) (first more : List Input)
     → history_from config policy s (first ++ more) ≡ history_from config policy s first ++ history_from config policy (after_from config policy s first) more
 history_more config policy s [] more = refl
 history_more config policy s (i ∷ first) more =
@@ -46,20 +49,6 @@ given_more config policy s (i ∷ first) more =
     let now = step config policy s i in
     ap (λ rest. given_at now ++ rest) (given_more config policy now.state first more)
     ∙ sym (append_assoc (given_at now) (given_from config policy now.state first) (given_from config policy (after_from config policy now.state first) more))
-
-last_of_more : (held : List ℕ) (first more : List (List ℕ)) → last_or held (first ++ more) ≡ last_or (last_or held first) more
-last_of_more held [] more = refl
-last_of_more held (text ∷ first) more = last_of_more text first more
-
-pub keeps_nothing : (held : Option (List ℕ)) → Keeps held held []
-keeps_nothing None = tt
-keeps_nothing (Some text) = refl
-
-keeps_then : (a b c : Option (List ℕ)) (first more : List (List ℕ)) → Keeps a b first → Keeps b c more → Keeps a c (first ++ more)
-keeps_then None b c first more h k = tt
-keeps_then (Some held) b c first more h k =
-    let now : c ≡ Some (last_or (last_or held first) more) = subst (λ z. Keeps z c more) h k in
-    now ∙ ap Some (sym (last_of_more held first more))
 
 -- ---- from place to place
 
@@ -78,14 +67,36 @@ text_more : (first more : List Input) (a b : Place) → Leads first a b
     → EntriesText (entries_at a (first ++ more)) ≡ EntriesText (entries_at a first) ++ EntriesText (entries_at b more)
 text_more first more a b h = ap EntriesText (entries_more first more a b h) ∙ flat_map-append EntryText (entries_at a first) (entries_at b more)
 
+texts_more : (first more : List Input) (a b : Place) → Leads first a b → texts_at a (first ++ more) ≡ texts_at a first ++ texts_at b more
+texts_more first more a b h =
+    given_more a.config a.policy a.state first more
+    ∙ ap (λ g. texts_at a first ++ g) (sym (moved (λ c p s. given_from c p s more) first a b h))
+
 pub leads_nothing : (a : Place) → Leads [] a a
 leads_nothing a = record {
   config = refl;
   policy = refl;
   state = refl;
   added = added_nothing a.taken a.waits;
-  kept = keeps_nothing a.held;
+  ahead = tt;
+  kept = took_nothing a.keeper;
 }
+
+-- what is ahead behind other inputs, of which so many bytes were written
+ahead_more : (first more : List Input) (a b : Place) (h : Leads first a b) (written : ℕ) → IsAhead (length b.waits) (entries_at b more) written
+    → IsAhead (length a.waits) (entries_at a (first ++ more)) (length h.added.front + written)
+ahead_more first more a b h written k =
+    let front = length h.added.front in
+    let text = length (EntriesText (entries_at a first)) in
+    let here = length-append h.added.front b.waits in
+    let there = length-append a.waits (EntriesText (entries_at a first)) in
+    let whole = ap length h.added.whole in
+    let same : front + length b.waits ≡ length a.waits + text = omega arith in
+    let up : front ≤ front + written = omega arith in
+    subst (λ (es : List Entry). IsAhead (length a.waits) es (front + written)) (sym (entries_more first more a b h))
+    (ahead_then (length a.waits) (entries_at a first) (entries_at b more) (front + written)
+    (ahead_up (length a.waits) (entries_at a first) front (front + written) up h.ahead)
+    (subst (λ n. IsAhead n (entries_at b more) (front + written)) same (ahead_shift (length b.waits) (entries_at b more) written front k)))
 
 pub leads_then : (first more : List Input) (a b d : Place) → Leads first a b → Leads more b d → Leads (first ++ more) a d
 leads_then first more a b d h k = record {
@@ -94,79 +105,134 @@ leads_then first more a b d h k = record {
   state =
       k.state ∙ moved (λ c p s. after_from c p s more) first a b h
       ∙ sym (after_more a.config a.policy a.state first more);
-  added = subst (Added a.taken d.taken a.waits d.waits) (sym (text_more first more a b h))
-      (added_then a.taken b.taken d.taken a.waits b.waits d.waits (EntriesText (entries_at a first)) (EntriesText (entries_at b more)) h.added k.added);
-  kept = subst (Keeps a.held d.held)
-      (ap (λ g. given_from a.config a.policy a.state first ++ g) (moved (λ c p s. given_from c p s more) first a b h) ∙ sym (given_more a.config a.policy a.state first more))
-      (keeps_then a.held b.held d.held (given_from a.config a.policy a.state first) (given_from b.config b.policy b.state more) h.kept k.kept);
+  added =
+      record {
+        front = h.added.front ++ k.added.front;
+        whole =
+            two_fronts a.waits b.waits d.waits (EntriesText (entries_at a first)) (EntriesText (entries_at b more)) h.added.front k.added.front h.added.whole k.added.whole
+            ∙ ap (λ z. a.waits ++ z) (sym (text_more first more a b h));
+        taken = taken_then a.taken b.taken d.taken h.added.front k.added.front h.added.taken k.added.taken;
+      };
+  ahead =
+      subst (λ n. IsAhead (length a.waits) (entries_at a (first ++ more)) n) (sym (length-append h.added.front k.added.front))
+      (ahead_more first more a b h (length k.added.front) k.ahead);
+  kept = subst (Took a.keeper d.keeper) (sym (texts_more first more a b h)) (took_then a.keeper b.keeper d.keeper (texts_at a first) (texts_at b more) h.kept k.kept);
 }
 
-front_more : (first more : List Input) (a b d : Place) → Leads first a b
-    → TakesFront b.taken d.taken (b.waits ++ EntriesText (entries_at b more)) → TakesFront a.taken d.taken (a.waits ++ EntriesText (entries_at a (first ++ more)))
-front_more first more a b d h k =
-    subst (λ t. TakesFront a.taken d.taken (a.waits ++ t)) (sym (text_more first more a b h))
-    (front_then a.taken b.taken d.taken a.waits b.waits (EntriesText (entries_at a first)) (EntriesText (entries_at b more)) h.added k)
+breaks_more : (first more : List Input) (a b d : Place) → Leads first a b → Breaks more b d → Breaks (first ++ more) a d
+breaks_more first more a b d h k =
+    record {
+      done = first ++ k.done;
+      left = k.left;
+      all = append_assoc first k.done k.left ∙ ap (λ z. first ++ z) k.all;
+      written = record {
+        front = h.added.front ++ k.written.front;
+        rest = k.written.rest;
+        whole =
+            two_fronts a.waits b.waits k.written.rest (EntriesText (entries_at a first)) (EntriesText (entries_at b k.done)) h.added.front k.written.front h.added.whole k.written.whole
+            ∙ ap (λ z. a.waits ++ z) (sym (text_more first k.done a b h));
+        taken = taken_then a.taken b.taken d.taken h.added.front k.written.front h.added.taken k.written.taken;
+      };
+      ahead =
+          subst (λ n. IsAhead (length a.waits) (entries_at a (first ++ k.done)) n) (sym (length-append h.added.front k.written.front))
+          (ahead_more first k.done a b h (length k.written.front) k.ahead);
+      kept = subst (Took a.keeper d.keeper) (sym (texts_more first k.done a b h)) (took_then a.keeper b.keeper d.keeper (texts_at a first) (texts_at b k.done) h.kept k.kept);
+    }
+
+-- whether an input that comes behind others stores a property
+stores_behind : (first done : List Input) (i : Input) (a b : Place) → Leads first a b
+    → (step b.config b.policy (after_from b.config b.policy b.state done) i).lines ≡ (step a.config a.policy (after_from a.config a.policy a.state (first ++ done)) i).lines
+stores_behind first done i a b h =
+    moved (λ c p s. (step c p (after_from c p s done) i).lines) first a b h
+    ∙ ap (λ s. (step a.config a.policy s i).lines) (sym (after_more a.config a.policy a.state first done))
 
 stops_more : (first more : List Input) (a b d : Place) → Leads first a b → Stops more b d → Stops (first ++ more) a d
-stops_more first more a b d h k =
-    let earlier = entries_at a first in
-    record {
-      before = earlier ++ k.before;
-      entry = k.entry;
-      behind = k.behind;
-      entries = entries_more first more a b h ∙ ap (λ es. earlier ++ es) k.entries ∙ sym (append_assoc earlier k.before (k.entry ∷ k.behind));
-      stored = k.stored;
-      written =
-          taken_then a.taken b.taken d.taken h.added.front (b.waits ++ EntriesText k.before) h.added.taken k.written
-          ∙ ap (append_known a.taken)
-          (sym (append_assoc h.added.front b.waits (EntriesText k.before)) ∙ ap (λ z. z ++ EntriesText k.before) h.added.whole
-          ∙ append_assoc a.waits (EntriesText earlier) (EntriesText k.before) ∙ ap (λ z. a.waits ++ z) (sym (flat_map-append EntryText earlier k.before)));
-    }
+stops_more first more a b d h k = record {
+  done = first ++ k.done;
+  input = k.input;
+  left = k.left;
+  all = append_assoc first k.done (k.input ∷ k.left) ∙ ap (λ z. first ++ z) k.all;
+  stored = subst (λ os. IsTrue (has_stored os)) (stores_behind first k.done k.input a b h) k.stored;
+  written =
+      taken_then a.taken b.taken d.taken h.added.front (b.waits ++ EntriesText (entries_at b k.done)) h.added.taken k.written
+      ∙ ap (append_known a.taken)
+      (sym (append_assoc h.added.front b.waits (EntriesText (entries_at b k.done))) ∙ ap (λ z. z ++ EntriesText (entries_at b k.done)) h.added.whole
+      ∙ append_assoc a.waits (EntriesText (entries_at a first)) (EntriesText (entries_at b k.done)) ∙ ap (λ z. a.waits ++ z) (sym (text_more first k.done a b h)));
+  kept =
+      let one = texts_more first k.done a b h in
+      let more : texts_at a ((first ++ k.done) ++ k.input ∷ []) ≡ texts_at a first ++ texts_at b (k.done ++ k.input ∷ []) =
+      ap (texts_at a) (append_assoc first k.done (k.input ∷ [])) ∙ texts_more first (k.done ++ k.input ∷ []) a b h in
+      λ tells.
+      subst (Risks a.keeper d.keeper (texts_at a (first ++ k.done))) (sym more)
+      (subst (λ texts. Risks a.keeper d.keeper texts (texts_at a first ++ texts_at b (k.done ++ k.input ∷ []))) (sym one)
+      (risks_then a.keeper b.keeper d.keeper (texts_at a first) (texts_at b k.done) (texts_at b (k.done ++ k.input ∷ [])) h.kept k.kept tells));
+}
 
 -- a refusal comes behind other inputs
 pub untaken_then : (e : DriveRefusal) (first more : List Input) (a b d : Place) → Leads first a b → Untaken e more b d → Untaken e (first ++ more) a d
 untaken_then refusal.Keeper first more a b d h k = stops_more first more a b d h k
-untaken_then refusal.Write first more a b d h k = front_more first more a b d h k
-untaken_then refusal.NoMemory first more a b d h k = front_more first more a b d h k
+untaken_then refusal.Write first more a b d h k = breaks_more first more a b d h k
+untaken_then refusal.NoMemory first more a b d h k = elim k [
+  | inl breaks ↦ inl (breaks_more first more a b d h breaks)
+  | inr stops ↦ inr (stops_more first more a b d h stops)
+]
 
 -- inputs are taken behind others
 pub takes_then : {T : Type 0} (r : Result T DriveRefusal) (first more : List Input) (a b d : Place) → Leads first a b → Takes more b d r → Takes (first ++ more) a d r
 takes_then (Ok v) first more a b d h k = leads_then first more a b d h k
 takes_then (Err e) first more a b d h k = untaken_then e first more a b d h k
 
-front_less : (first more : List Input) (a b : Place) → TakesFront a.taken b.taken (a.waits ++ EntriesText (entries_at a first))
-    → TakesFront a.taken b.taken (a.waits ++ EntriesText (entries_at a (first ++ more)))
-front_less first more a b h =
-    let rest = history_from a.config a.policy (after_from a.config a.policy a.state first) more in
-    subst (λ t. TakesFront a.taken b.taken (a.waits ++ t))
-    (sym (ap EntriesText (history_more a.config a.policy a.state first more) ∙ flat_map-append EntryText (entries_at a first) rest))
-    (front_of_more a.taken b.taken a.waits (EntriesText (entries_at a first)) (EntriesText rest) h)
+breaks_less : (first more : List Input) (a b : Place) → Breaks first a b → Breaks (first ++ more) a b
+breaks_less first more a b h = record {
+  done = h.done;
+  left = h.left ++ more;
+  all = sym (append_assoc h.done h.left more) ∙ ap (λ z. z ++ more) h.all;
+  written = h.written;
+  ahead = h.ahead;
+  kept = h.kept;
+}
+
+stops_less : (first more : List Input) (a b : Place) → Stops first a b → Stops (first ++ more) a b
+stops_less first more a b h = record {
+  done = h.done;
+  input = h.input;
+  left = h.left ++ more;
+  all = sym (append_assoc h.done (h.input ∷ h.left) more) ∙ ap (λ z. z ++ more) h.all;
+  stored = h.stored;
+  written = h.written;
+  kept = h.kept;
+}
 
 -- a refusal ends longer inputs too
 pub untaken_less : (e : DriveRefusal) (first more : List Input) (a b : Place) → Untaken e first a b → Untaken e (first ++ more) a b
-untaken_less refusal.Keeper first more a b h =
-    let rest = history_from a.config a.policy (after_from a.config a.policy a.state first) more in
-    record {
-      before = h.before;
-      entry = h.entry;
-      behind = h.behind ++ rest;
-      entries =
-          history_more a.config a.policy a.state first more ∙ ap (λ es. es ++ rest) h.entries
-          ∙ append_assoc h.before (h.entry ∷ h.behind) rest;
-      stored = h.stored;
-      written = h.written;
-    }
-untaken_less refusal.Write first more a b h = front_less first more a b h
-untaken_less refusal.NoMemory first more a b h = front_less first more a b h
+untaken_less refusal.Keeper first more a b h = stops_less first more a b h
+untaken_less refusal.Write first more a b h = breaks_less first more a b h
+untaken_less refusal.NoMemory first more a b h = elim h [
+  | inl breaks ↦ inl (breaks_less first more a b breaks)
+  | inr stops ↦ inr (stops_less first more a b stops)
+]
+
+-- nothing more was taken
+pub takes_no_more : (known : Option (List ℕ)) → known ≡ append_known known []
+takes_no_more None = refl
+takes_no_more (Some bytes) = ap Some (sym (append-nil bytes))
 
 -- memory ran out before the first input
-pub takes_none : (inputs : List Input) (a b : Place) → b.taken ≡ a.taken → Untaken refusal.NoMemory inputs a b
-takes_none inputs a b is =
-    let text = a.waits ++ EntriesText (entries_at a inputs) in
-    subst (λ t. TakesFront a.taken t text) (sym is) (takes_nothing a.taken text)
+pub takes_still : (inputs : List Input) (a b : Place) → b.taken ≡ a.taken → Took a.keeper b.keeper [] → Untaken refusal.NoMemory inputs a b
+takes_still inputs a b same kept = inl (record {
+  done = [];
+  left = inputs;
+  all = refl;
+  written = record { front = []; rest = a.waits ++ []; whole = refl; taken = same ∙ takes_no_more a.taken };
+  ahead = tt;
+  kept = kept;
+})
 
-abbrev place_at : Config → PolicyLines → State → List ℕ → Option (List ℕ) → Option (List ℕ) → Place
-place_at config policy s waits taken held = record { config = config; policy = policy; state = s; waits = waits; taken = taken; held = held }
+pub takes_none : (inputs : List Input) (a : Place) → Untaken refusal.NoMemory inputs a a
+takes_none inputs a = takes_still inputs a a refl (took_nothing a.keeper)
+
+abbrev place_at : Config → PolicyLines → State → List ℕ → Option (List ℕ) → KeeperView → Place
+place_at config policy s waits taken keeper = record { config = config; policy = policy; state = s; waits = waits; taken = taken; keeper = keeper }
 
 -- ---- a loop over inputs
 
@@ -197,7 +263,7 @@ going_stops e all left part rest a b d is h k =
 -- memory ran out between two of them
 pub going_ends : (all left : List Input) (a b : Place) → Going all left a b → Untaken refusal.NoMemory all a b
 going_ends all left a b h =
-    going_stops refusal.NoMemory all left [] left a b b refl h (takes_none [] b b refl)
+    going_stops refusal.NoMemory all left [] left a b b refl h (takes_none [] b)
 
 -- nothing is left
 pub gone : (all left : List Input) (a b : Place) → left ≡ [] → Going all left a b → Leads all a b
@@ -225,13 +291,13 @@ pub acts_left : (acts : List Act) (k : ℕ) → length acts ≤ k → flat_map a
 acts_left acts k past = ap (flat_map act_inputs) (drop_of_length-le acts past)
 
 -- a core that stands where it stood
-pub same_place : (t u : Traced) (taken held : Option (List ℕ)) → u.core.config ≡ t.core.config → u.core.policy ≡ t.core.policy → u.core.state ≡ t.core.state → u.printer ≡ t.printer
-    → place_of t taken held ≡ place_of u taken held
-same_place t u taken held config policy state printer =
-    ap (λ (c : Config). place_at c t.core.policy t.core.state t.printer taken held) (sym config)
-    ∙ ap (λ (p : PolicyLines). place_at u.core.config p t.core.state t.printer taken held) (sym policy)
-    ∙ ap (λ (s : State). place_at u.core.config u.core.policy s t.printer taken held) (sym state)
-    ∙ ap (λ (w : List ℕ). place_at u.core.config u.core.policy u.core.state w taken held) (sym printer)
+pub same_place : (t u : Traced) (taken : Option (List ℕ)) (keeper : KeeperView) → u.core.config ≡ t.core.config → u.core.policy ≡ t.core.policy → u.core.state ≡ t.core.state → u.printer ≡ t.printer
+    → place_of t taken keeper ≡ place_of u taken keeper
+same_place t u taken keeper config policy state printer =
+    ap (λ (c : Config). place_at c t.core.policy t.core.state t.printer taken keeper) (sym config)
+    ∙ ap (λ (p : PolicyLines). place_at u.core.config p t.core.state t.printer taken keeper) (sym policy)
+    ∙ ap (λ (s : State). place_at u.core.config u.core.policy s t.printer taken keeper) (sym state)
+    ∙ ap (λ (w : List ℕ). place_at u.core.config u.core.policy u.core.state w taken keeper) (sym printer)
 
 pub after_same : (config config' : Config) (policy policy' : PolicyLines) (s s' : State) (inputs : List Input) → config' ≡ config → policy' ≡ policy → s' ≡ s
     → after_from config' policy' s' inputs ≡ after_from config policy s inputs

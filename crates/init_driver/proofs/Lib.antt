@@ -1,4 +1,7 @@
 pub mod Sinks
+pub mod Keepers
+pub mod Aheads
+pub mod Whole
 pub mod Courses
 pub mod Entries
 pub mod Reached

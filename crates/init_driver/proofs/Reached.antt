@@ -1,5 +1,5 @@
 -- States that a well-formed machine reaches: where a property is stored, the saved pairs have a text.
-use Rattle.std.proofs.Common.{◌≡◌, ℕ, ◌+◌, Bool, true, false, IsTrue, ◌&&◌, List, [], ◌∷◌, ◌++◌, refl, sym, ap, ◌∙◌, subst}
+use Rattle.std.proofs.Common.{◌≡◌, ℕ, ◌+◌, Bool, true, false, IsTrue, ◌&&◌, List, [], ◌∷◌, ◌++◌, take, refl, sym, ap, ◌∙◌, subst}
 use Rattle.std.specs.List.{list_all}
 use Rattle.init_core.specs.Core.{opening_of, without_saved}
 use Rattle.init_machine.specs.Changes.{Change}
@@ -29,7 +29,7 @@ use Rattle.script_lang.specs.declared.script.Act.{Act}
 use Rattle.script_lang.specs.declared.script.Client.{Client}
 use Rattle.script_lang.specs.declared.script.Script.{Script}
 use Rattle.init_driver.specs.Course.{IsReached, Leads, Place}
-use Rattle.init_driver.specs.Run.{given_in, report_from, report_of}
+use Rattle.init_driver.specs.Run.{Due, due_from, due_of, report_from}
 use Rattle.init_driver.specs.Readings.{parts_from, readings_from, told_by}
 use Rattle.init_driver.specs.Stored.{given_at, given_from, has_stored}
 use Rattle.init_driver.proofs.Courses.{Going, after_more}
@@ -154,21 +154,20 @@ report_same config policy s diagnostics script =
     (parts_same config policy booted script.acts 1 script.clients
     ∙ ap (λ (t : State). parts_from config policy t script.acts 1 script.clients) (same_after config policy [] s (input.Boot ∷ [])))
 
--- the report from the first state
-pub report_opened : (config config' : Config) (policy policy' : PolicyLines) (words : ℕ) (s : State) (diagnostics : List Diagnostic) (script : Script)
-    → config' ≡ without_saved config → policy' ≡ policy → s ≡ first_state (opening_of config policy words)
-    → report_from config' policy' s diagnostics script ≡ report_of (opening_of config policy words) diagnostics script
-report_opened config config' policy policy' words s diagnostics script same_config same_policy same_state =
-    ap (λ (c : Config). report_from c policy' s diagnostics script) same_config
-    ∙ ap (λ (p : PolicyLines). report_from (without_saved config) p s diagnostics script) same_policy
-    ∙ ap (λ (t : State). report_from (without_saved config) policy t diagnostics script) same_state
-    ∙ report_same config policy (first_state (opening_of config policy words)) diagnostics script
+abbrev due_with : Report → (ℕ → List (List ℕ)) → List (List ℕ) → Due
+due_with report upto all = record { report = report; upto = upto; all = all }
 
-pub given_opened : (config config' : Config) (policy policy' : PolicyLines) (words : ℕ) (s : State) (script : Script)
+due_same : (config : Config) (policy : PolicyLines) (s : State) (diagnostics : List Diagnostic) (script : Script)
+    → due_from (without_saved config) policy s diagnostics script ≡ due_from config policy s diagnostics script
+due_same config policy s diagnostics script = λ i.
+    due_with (report_same config policy s diagnostics script i) (λ n. given_same config policy s (take n (InOrder script)) i) (given_same config policy s (InOrder script) i)
+
+-- what is due from the first state
+pub due_opened : (config config' : Config) (policy policy' : PolicyLines) (words : ℕ) (s : State) (diagnostics : List Diagnostic) (script : Script)
     → config' ≡ without_saved config → policy' ≡ policy → s ≡ first_state (opening_of config policy words)
-    → given_from config' policy' s (InOrder script) ≡ given_in (opening_of config policy words) script
-given_opened config config' policy policy' words s script same_config same_policy same_state =
-    ap (λ (c : Config). given_from c policy' s (InOrder script)) same_config
-    ∙ ap (λ (p : PolicyLines). given_from (without_saved config) p s (InOrder script)) same_policy
-    ∙ ap (λ (t : State). given_from (without_saved config) policy t (InOrder script)) same_state
-    ∙ given_same config policy (first_state (opening_of config policy words)) (InOrder script)
+    → due_from config' policy' s diagnostics script ≡ due_of (opening_of config policy words) diagnostics script
+due_opened config config' policy policy' words s diagnostics script same_config same_policy same_state =
+    ap (λ (c : Config). due_from c policy' s diagnostics script) same_config
+    ∙ ap (λ (p : PolicyLines). due_from (without_saved config) p s diagnostics script) same_policy
+    ∙ ap (λ (t : State). due_from (without_saved config) policy t diagnostics script) same_state
+    ∙ due_same config policy (first_state (opening_of config policy words)) diagnostics script

@@ -11,6 +11,11 @@ use Rattle.init_driver.specs.Run.{keeper_failed, sink_failed}
 use Rattle.init_driver.specs.declared.refusal.DriveRefusal.{DriveRefusal}
 use Rattle.init_driver.specs.declared.refusal.DriveRefusal.TheVariants as refusal
 
+-- one front behind another
+pub two_fronts : (w x y s t f g : List ℕ) → f ++ x ≡ w ++ s → g ++ y ≡ x ++ t → (f ++ g) ++ y ≡ w ++ (s ++ t)
+two_fronts w x y s t f g h k =
+    append_assoc f g y ∙ ap (λ z. f ++ z) k ∙ sym (append_assoc f x t) ∙ ap (λ z. z ++ t) h ∙ append_assoc w s t
+
 -- a front of a text is one of a longer text
 pub front_of : (a b : Option (List ℕ)) (w t : List ℕ) → TakesFront a b w → TakesFront a b (w ++ t)
 front_of a b w t h = record {

@@ -1,5 +1,5 @@
 -- The course of a run: what stands between two inputs. No promise of the crate cites these definitions.
-use Rattle.std.specs.Prelude.{◌≡◌, ℕ, ◌+◌, IsTrue, List, [], ◌∷◌, ◌++◌, Option, Result, Ok, Err}
+use Rattle.std.specs.Prelude.{◌≡◌, ℕ, ◌+◌, ◌≤◌, ◌⊎◌, ⊤, IsTrue, List, [], ◌∷◌, ◌++◌, length, Option, Result, Ok, Err}
 use Rattle.std.specs.Io.KnownBytes.{append_known}
 use Rattle.init_base.specs.declared.outside.refusal.IoRefusal.{IoRefusal}
 use Rattle.init_base.specs.declared.outside.refusal.IoRefusal.TheVariants as io
@@ -8,44 +8,57 @@ use Rattle.init_machine.specs.Changes.{change}
 use Rattle.init_machine.specs.History.{after, after_from}
 use Rattle.init_machine.specs.Policy.{PolicyLines}
 use Rattle.init_machine.specs.State.{Opening, State}
+use Rattle.init_machine.specs.Step.{step}
 use Rattle.init_machine.specs.WellFormed.{IsWellFormed}
 use Rattle.init_machine.specs.declared.config.Config.{Config}
 use Rattle.init_machine.specs.declared.input.Input.{Input}
 use Rattle.init_machine.specs.declared.output.Output.{Output}
 use Rattle.init_machine.specs.declared.report.ClientPart.{ClientPart}
 use Rattle.init_machine.specs.declared.report.Entry.{Entry}
-use Rattle.init_trace.specs.Report.{EntriesText}
+use Rattle.init_trace.specs.Report.{EntriesText, EntryText}
 use Rattle.init_trace.specs.Written.{Added, TakesFront}
 use Rattle.machine_laws.specs.Histories.{history_from}
 use Rattle.script_lang.specs.declared.script.Act.{Act}
 use Rattle.init_driver.specs.Readings.{readings_from, told_by}
-use Rattle.init_driver.specs.Stored.{given_at, given_from, has_stored, Keeps}
+use Rattle.init_driver.specs.Keeper.{KeeperView, Risks, Took}
+use Rattle.init_driver.specs.Stored.{given_at, given_from, has_stored}
 use Rattle.init_driver.specs.declared.refusal.DriveRefusal.{DriveRefusal}
 use Rattle.init_driver.specs.declared.refusal.DriveRefusal.TheVariants as refusal
 use Rattle.init_driver.specs.declared.traced.Traced.{Traced}
 
--- what the machine goes by, its state, what waits to be written, what was taken of the text, and what the keeper holds
-pub record Place : Type 0 where
+-- what the machine goes by, its state, what waits to be written, what was taken of the text, and what the keeper tells
+pub record Place : Type 1 where
   pub config : Config
   pub policy : PolicyLines
   pub state : State
   pub waits : List ℕ
   pub taken : Option (List ℕ)
-  pub held : Option (List ℕ)
+  pub keeper : KeeperView
 
-abbrev pub place_of : Traced → Option (List ℕ) → Option (List ℕ) → Place
-place_of t taken held = record {
+abbrev pub place_of : Traced → Option (List ℕ) → KeeperView → Place
+place_of t taken keeper = record {
   config = t.core.config;
   policy = t.core.policy;
   state = t.core.state;
   waits = t.printer;
   taken = taken;
-  held = held;
+  keeper = keeper;
 }
 
 -- the entries of inputs that are taken at a place
 abbrev pub entries_at : Place → List Input → List Entry
 entries_at a inputs = history_from a.config a.policy a.state inputs
+
+-- the texts that the keeper is given at inputs that are taken at a place
+abbrev pub texts_at : Place → List Input → List (List ℕ)
+texts_at a inputs = given_from a.config a.policy a.state inputs
+
+-- Of some bytes that wait and of the text of entries behind them, so many bytes are written: all that comes before an entry
+-- that stores a property is among them.
+abbrev pub IsAhead : ℕ → List Entry → ℕ → Type 0
+IsAhead waiting [] written = ⊤
+IsAhead waiting (e ∷ rest) written =
+    (IsTrue (has_stored e.outputs) → waiting ≤ written) × IsAhead (waiting + length (EntryText e)) rest written
 
 -- the inputs lead from one place to another
 pub record Leads (inputs : List Input) (a b : Place) : Type 0 where
@@ -53,22 +66,33 @@ pub record Leads (inputs : List Input) (a b : Place) : Type 0 where
   pub policy : b.policy ≡ a.policy
   pub state : b.state ≡ after_from a.config a.policy a.state inputs
   pub added : Added a.taken b.taken a.waits b.waits (EntriesText (entries_at a inputs))
-  pub kept : Keeps a.held b.held (given_from a.config a.policy a.state inputs)
+  pub ahead : IsAhead (length a.waits) (entries_at a inputs) (length added.front)
+  pub kept : Took a.keeper b.keeper (texts_at a inputs)
 
--- the keeper failed at an entry of the inputs: all before that entry was written, and nothing else
+-- a refusal came when so many of the inputs were done: a front of their text is written
+pub record Breaks (inputs : List Input) (a b : Place) : Type 0 where
+  pub done : List Input
+  pub left : List Input
+  pub all : done ++ left ≡ inputs
+  pub written : TakesFront a.taken b.taken (a.waits ++ EntriesText (entries_at a done))
+  pub ahead : IsAhead (length a.waits) (entries_at a done) (length written.front)
+  pub kept : Took a.keeper b.keeper (texts_at a done)
+
+-- the keeper didn't take the text of an input's entry: all before that entry is written, and nothing else
 pub record Stops (inputs : List Input) (a b : Place) : Type 0 where
-  pub before : List Entry
-  pub entry : Entry
-  pub behind : List Entry
-  pub entries : entries_at a inputs ≡ before ++ entry ∷ behind
-  pub stored : IsTrue (has_stored entry.outputs)
-  pub written : b.taken ≡ append_known a.taken (a.waits ++ EntriesText before)
+  pub done : List Input
+  pub input : Input
+  pub left : List Input
+  pub all : done ++ input ∷ left ≡ inputs
+  pub stored : IsTrue (has_stored (step a.config a.policy (after_from a.config a.policy a.state done) input).lines)
+  pub written : b.taken ≡ append_known a.taken (a.waits ++ EntriesText (entries_at a done))
+  pub kept : a.keeper.TellsCrash → Risks a.keeper b.keeper (texts_at a done) (texts_at a (done ++ input ∷ []))
 
 -- inputs are taken, until a refusal
 abbrev pub Untaken : DriveRefusal → List Input → Place → Place → Type 0
 Untaken refusal.Keeper inputs a b = Stops inputs a b
-Untaken refusal.Write inputs a b = TakesFront a.taken b.taken (a.waits ++ EntriesText (entries_at a inputs))
-Untaken refusal.NoMemory inputs a b = TakesFront a.taken b.taken (a.waits ++ EntriesText (entries_at a inputs))
+Untaken refusal.Write inputs a b = Breaks inputs a b
+Untaken refusal.NoMemory inputs a b = Breaks inputs a b ⊎ Stops inputs a b
 
 -- inputs are taken
 abbrev pub Takes : {T : Type 0} → List Input → Place → Place → Result T DriveRefusal → Type 0
@@ -92,16 +116,37 @@ abbrev pub Prints : {T : Type 0} → Option (List ℕ) → Option (List ℕ) →
 Prints old new (Ok value) waited waits text = Added old new waited waits text
 Prints old new (Err e) waited waits text = Unprinted e old new waited text
 
--- The keeper isn't given the text: it failed when all that waited was written, or that was refused.
+-- the keeper didn't take a text: all that waited is written
+pub record Refuses (outputs : List Output) (a b : Place) : Type 0 where
+  pub stored : IsTrue (has_stored outputs)
+  pub written : b.taken ≡ append_known a.taken a.waits
+  pub kept : a.keeper.TellsCrash → Risks a.keeper b.keeper [] (given_at (change a.state outputs))
+
+-- not all that waited is written, and the keeper isn't asked
+pub record Unwritten (a b : Place) : Type 0 where
+  pub written : TakesFront a.taken b.taken a.waits
+  pub kept : Took a.keeper b.keeper []
+
+-- the text isn't kept, or it isn't the keeper's turn yet
 abbrev pub Unsaved : DriveRefusal → List Output → Place → Place → Type 0
-Unsaved refusal.Keeper outputs a b = IsTrue (has_stored outputs) × (b.taken ≡ append_known a.taken a.waits)
-Unsaved refusal.Write outputs a b = TakesFront a.taken b.taken a.waits
-Unsaved refusal.NoMemory outputs a b = TakesFront a.taken b.taken a.waits
+Unsaved refusal.Keeper outputs a b = Refuses outputs a b
+Unsaved refusal.Write outputs a b = Unwritten a b
+Unsaved refusal.NoMemory outputs a b = Unwritten a b ⊎ Refuses outputs a b
 
 -- The keeper is given the text of the saved pairs, if these outputs store a property. Before that all that waits is written.
+pub record Saved (outputs : List Output) (a b : Place) : Type 0 where
+  pub added : Added a.taken b.taken a.waits b.waits []
+  pub empty : IsTrue (has_stored outputs) → b.waits ≡ []
+  pub kept : Took a.keeper b.keeper (given_at (change a.state outputs))
+
 abbrev pub Saves : {T : Type 0} → List Output → Place → Place → Result T DriveRefusal → Type 0
-Saves outputs a b (Ok value) = Added a.taken b.taken a.waits b.waits [] × Keeps a.held b.held (given_at (change a.state outputs))
+Saves outputs a b (Ok value) = Saved outputs a b
 Saves outputs a b (Err e) = Unsaved e outputs a b
+
+-- what a keeper that was given one text answers
+abbrev pub Holds : {T : Type 0} → KeeperView → KeeperView → List ℕ → Result T DriveRefusal → Type 0
+Holds a b text (Ok value) = Took a b (text ∷ [])
+Holds a b text (Err e) = a.TellsCrash → Risks a b [] (text ∷ [])
 
 -- a state that a well-formed machine reaches
 pub record IsReached (config : Config) (policy : PolicyLines) (s : State) : Type 0 where

@@ -1,4 +1,5 @@
 pub mod Stored
+pub mod Keeper
 pub mod Readings
 pub mod Run
 pub mod Course

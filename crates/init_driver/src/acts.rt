@@ -4,6 +4,7 @@ ghost use Rattle.std.specs.Prelude.{◌≡◌, ◌∷◌, [], All, length, map, 
 ghost use Rattle.std.specs.List.{flat_map};
 ghost use Rattle.init_base.specs.Faults.{Counted};
 ghost use Rattle.init_driver.specs.Course.{IsReached, Takes, place_of, told_from};
+ghost use Rattle.init_driver.specs.Keeper.{seen_by};
 ghost use Rattle.init_driver.specs.Run.{keeper_failed, sink_failed};
 ghost use Rattle.init_machine.specs.declared.input.Input.TheVariants as Input;
 ghost use Rattle.script_lang.specs.Inputs.{act_inputs, ask_inputs};
@@ -29,8 +30,9 @@ pub fn take_acts<P: Keeper, K: Sink>(
 ) -> Result<(), DriveRefusal>
     requires reached { IsReached traced.old.core.config traced.old.core.policy traced.old.core.state }
     requires asks { All (IsAskAmong (length parts.old.items)) acts.now }
-    ensures takes { Takes (flat_map act_inputs acts.now) (place_of traced.old (K.taken out.old) (P.held keeper.old))
-        (place_of traced.new (K.taken out.new) (P.held keeper.new)) result }
+    ensures takes { let seen = seen_by P.held P.TellsCrash P.moment P.MayLeave in
+        Takes (flat_map act_inputs acts.now) (place_of traced.old (K.taken out.old) (seen keeper.old))
+        (place_of traced.new (K.taken out.new) (seen keeper.new)) result }
     ensures told { OnOk result (parts.new.items
         ≡ told_from traced.old.core.config traced.old.core.policy traced.old.core.state acts.now 1 parts.old.items) }
     ensures keeper { Counted (keeper_failed result) (P.fault_count keeper.old) (P.fault_count keeper.new) }
@@ -52,8 +54,9 @@ fn take_act<P: Keeper, K: Sink>(
     out: &mut K,
 ) -> Result<(), DriveRefusal>
     requires { IsReached traced.old.core.config traced.old.core.policy traced.old.core.state }
-    ensures takes { Takes (act_inputs act.now) (place_of traced.old (K.taken out.old) (P.held keeper.old))
-        (place_of traced.new (K.taken out.new) (P.held keeper.new)) result }
+    ensures takes { let seen = seen_by P.held P.TellsCrash P.moment P.MayLeave in
+        Takes (act_inputs act.now) (place_of traced.old (K.taken out.old) (seen keeper.old))
+        (place_of traced.new (K.taken out.new) (seen keeper.new)) result }
     ensures keeper { Counted (keeper_failed result) (P.fault_count keeper.old) (P.fault_count keeper.new) }
     ensures sink { Counted (sink_failed result) (K.fault_count out.old) (K.fault_count out.new) }
 {
@@ -88,8 +91,9 @@ fn take_ask<P: Keeper, K: Sink>(
     out: &mut K,
 ) -> Result<(), DriveRefusal>
     requires { IsReached traced.old.core.config traced.old.core.policy traced.old.core.state }
-    ensures takes { Takes (ask_inputs who ask.now) (place_of traced.old (K.taken out.old) (P.held keeper.old))
-        (place_of traced.new (K.taken out.new) (P.held keeper.new)) result }
+    ensures takes { let seen = seen_by P.held P.TellsCrash P.moment P.MayLeave in
+        Takes (ask_inputs who ask.now) (place_of traced.old (K.taken out.old) (seen keeper.old))
+        (place_of traced.new (K.taken out.new) (seen keeper.new)) result }
     ensures keeper { Counted (keeper_failed result) (P.fault_count keeper.old) (P.fault_count keeper.new) }
     ensures sink { Counted (sink_failed result) (K.fault_count out.old) (K.fault_count out.new) }
 {
@@ -115,8 +119,9 @@ fn take_steps<P: Keeper, K: Sink>(
     out: &mut K,
 ) -> Result<(), DriveRefusal>
     requires { IsReached traced.old.core.config traced.old.core.policy traced.old.core.state }
-    ensures takes { Takes (replicate count Input.Next) (place_of traced.old (K.taken out.old) (P.held keeper.old))
-        (place_of traced.new (K.taken out.new) (P.held keeper.new)) result }
+    ensures takes { let seen = seen_by P.held P.TellsCrash P.moment P.MayLeave in
+        Takes (replicate count Input.Next) (place_of traced.old (K.taken out.old) (seen keeper.old))
+        (place_of traced.new (K.taken out.new) (seen keeper.new)) result }
     ensures keeper { Counted (keeper_failed result) (P.fault_count keeper.old) (P.fault_count keeper.new) }
     ensures sink { Counted (sink_failed result) (K.fault_count out.old) (K.fault_count out.new) }
 {
@@ -136,8 +141,9 @@ pub fn take<P: Keeper, K: Sink>(
     out: &mut K,
 ) -> Result<(), DriveRefusal>
     requires { IsReached traced.old.core.config traced.old.core.policy traced.old.core.state }
-    ensures takes { Takes (input.now ∷ []) (place_of traced.old (K.taken out.old) (P.held keeper.old))
-        (place_of traced.new (K.taken out.new) (P.held keeper.new)) result }
+    ensures takes { let seen = seen_by P.held P.TellsCrash P.moment P.MayLeave in
+        Takes (input.now ∷ []) (place_of traced.old (K.taken out.old) (seen keeper.old))
+        (place_of traced.new (K.taken out.new) (seen keeper.new)) result }
     ensures keeper { Counted (keeper_failed result) (P.fault_count keeper.old) (P.fault_count keeper.new) }
     ensures sink { Counted (sink_failed result) (K.fault_count out.old) (K.fault_count out.new) }
 {

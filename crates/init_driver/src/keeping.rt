@@ -1,10 +1,11 @@
 //! The keeper of the persistent properties: it is given the text of the saved pairs wherever a property is stored.
 
-ghost use Rattle.std.specs.Prelude.{◌≡◌, ◌∷◌, [], IsTrue, OnOk, false};
+ghost use Rattle.std.specs.Prelude.{◌≡◌, IsTrue, false};
 ghost use Rattle.init_base.specs.Faults.{Counted};
-ghost use Rattle.init_driver.specs.Course.{Saves, place_of};
+ghost use Rattle.init_driver.specs.Course.{Holds, Saves, place_of};
+ghost use Rattle.init_driver.specs.Keeper.{seen_by};
 ghost use Rattle.init_driver.specs.Run.{keeper_failed, sink_failed};
-ghost use Rattle.init_driver.specs.Stored.{Keeps, has_stored, is_stored as is_stored_lem};
+ghost use Rattle.init_driver.specs.Stored.{has_stored, is_stored as is_stored_lem};
 ghost use Rattle.persist_file.specs.Store.{are_saved, store_text};
 
 use crate::refusal::DriveRefusal;
@@ -22,8 +23,9 @@ pub fn save<P: Keeper, K: Sink>(
     out: &mut K,
 ) -> Result<(), DriveRefusal>
     requires { IsTrue (has_stored traced.old.core.outputs) → IsTrue (are_saved traced.old.core.state.saved) }
-    ensures saves { Saves traced.old.core.outputs (place_of traced.old (K.taken out.old) (P.held keeper.old))
-        (place_of traced.new (K.taken out.new) (P.held keeper.new)) result }
+    ensures saves { let seen = seen_by P.held P.TellsCrash P.moment P.MayLeave in
+        Saves traced.old.core.outputs (place_of traced.old (K.taken out.old) (seen keeper.old))
+        (place_of traced.new (K.taken out.new) (seen keeper.new)) result }
     ensures core { traced.new.core ≡ traced.old.core }
     ensures keeper { Counted (keeper_failed result) (P.fault_count keeper.old) (P.fault_count keeper.new) }
     ensures sink { Counted (sink_failed result) (K.fault_count out.old) (K.fault_count out.new) }
@@ -51,7 +53,8 @@ fn is_stored(output: &Output) -> bool
 /// Gives the keeper the text of pairs.
 fn keep<P: Keeper>(alloc: Global, pairs: &List<Pair>, keeper: &mut P) -> Result<(), DriveRefusal>
     requires { IsTrue (are_saved pairs.now) }
-    ensures keeps { OnOk result (Keeps (P.held keeper.old) (P.held keeper.new) (store_text pairs.now ∷ [])) }
+    ensures keeps { let seen = seen_by P.held P.TellsCrash P.moment P.MayLeave in
+        Holds (seen keeper.old) (seen keeper.new) (store_text pairs.now) result }
     ensures writes { sink_failed result ≡ false }
     ensures cause { Counted (keeper_failed result) (P.fault_count keeper.old) (P.fault_count keeper.new) }
 {

@@ -1,12 +1,12 @@
 //! `run`: a script on one thread.
 
-ghost use Rattle.std.specs.Prelude.{◌≡◌, ◌∷◌, [], All, length, IfOk, OnOk};
+ghost use Rattle.std.specs.Prelude.{◌≡◌, ◌∷◌, [], IfOk};
 ghost use Rattle.init_base.specs.Faults.{Counted};
 ghost use Rattle.init_core.specs.Core.{opening_of};
 ghost use Rattle.init_driver.specs.Course.{IsReached, Prints, Takes, place_of};
+ghost use Rattle.init_driver.specs.Keeper.{seen_by};
 ghost use Rattle.init_driver.specs.Readings.{empty_parts, parts_from};
-ghost use Rattle.init_driver.specs.Run.{AsksAreMet, WritesReport, given_in, keeper_failed, report_from, report_of, sink_failed};
-ghost use Rattle.init_driver.specs.Stored.{Keeps, given_from};
+ghost use Rattle.init_driver.specs.Run.{AsksAreMet, Leaves, due_from, due_of, keeper_failed, sink_failed};
 ghost use Rattle.init_machine.specs.History.{after_from};
 ghost use Rattle.init_machine.specs.WellFormed.{IsWellFormed};
 ghost use Rattle.init_machine.specs.declared.input.Input.TheVariants as Input;
@@ -39,6 +39,11 @@ pub struct Setup {
 /// `Keeper` comes only where the keeper's count of faults rose: then exactly the head and the entries before the one whose
 /// text the keeper was to take are written. `Write` comes only where the sink's count rose. After it, and after `NoMemory`, a
 /// front of the text is written.
+///
+/// At each refusal so many entries are written whole. The keeper then stands as at the last of them, or at the next entry:
+/// after `Write` it took each text up to there. Where it tells what a crash leaves, a crash now leaves the text that was given
+/// last up to there, at any refusal; and a crash at a moment since the call began left one of the texts that were given, or
+/// what it could leave before.
 pub fn run<P: Keeper, K: Sink>(
     alloc: Global,
     setup: Setup,
@@ -48,10 +53,9 @@ pub fn run<P: Keeper, K: Sink>(
 ) -> Result<(), DriveRefusal>
     requires config { IsWellFormed setup.config }
     requires asks { AsksAreMet script.now }
-    ensures written { let opening = opening_of setup.config setup.policy script.now.words in
-        WritesReport (K.taken out.old) (K.taken out.new) result (report_of opening setup.diagnostics script.now) }
-    ensures kept { let opening = opening_of setup.config setup.policy script.now.words in
-        OnOk result (Keeps (P.held keeper.old) (P.held keeper.new) (given_in opening script.now)) }
+    ensures leaves { let seen = seen_by P.held P.TellsCrash P.moment P.MayLeave in
+        Leaves result (K.taken out.old) (K.taken out.new) (seen keeper.old) (seen keeper.new)
+        (due_of (opening_of setup.config setup.policy script.now.words) setup.diagnostics script.now) }
     ensures keeper { Counted (keeper_failed result) (P.fault_count keeper.old) (P.fault_count keeper.new) }
     ensures sink { Counted (sink_failed result) (K.fault_count out.old) (K.fault_count out.new) }
 {
@@ -71,10 +75,9 @@ fn drive<P: Keeper, K: Sink>(
     requires reached { IsReached traced.old.core.config traced.old.core.policy traced.old.core.state }
     requires empty { traced.old.printer ≡ [] }
     requires asks { AsksAreMet script.now }
-    ensures written { WritesReport (K.taken out.old) (K.taken out.new) result
-        (report_from traced.old.core.config traced.old.core.policy traced.old.core.state diagnostics.now script.now) }
-    ensures kept { OnOk result (Keeps (P.held keeper.old) (P.held keeper.new)
-        (given_from traced.old.core.config traced.old.core.policy traced.old.core.state (InOrder script.now))) }
+    ensures leaves { let seen = seen_by P.held P.TellsCrash P.moment P.MayLeave in
+        Leaves result (K.taken out.old) (K.taken out.new) (seen keeper.old) (seen keeper.new)
+        (due_from traced.old.core.config traced.old.core.policy traced.old.core.state diagnostics.now script.now) }
     ensures keeper { Counted (keeper_failed result) (P.fault_count keeper.old) (P.fault_count keeper.new) }
     ensures sink { Counted (sink_failed result) (K.fault_count out.old) (K.fault_count out.new) }
 {
@@ -93,8 +96,9 @@ fn take_script<P: Keeper, K: Sink>(
 ) -> Result<List<ClientPart>, DriveRefusal>
     requires reached { IsReached traced.old.core.config traced.old.core.policy traced.old.core.state }
     requires asks { AsksAreMet script.now }
-    ensures takes { Takes (InOrder script.now) (place_of traced.old (K.taken out.old) (P.held keeper.old))
-        (place_of traced.new (K.taken out.new) (P.held keeper.new)) result }
+    ensures takes { let seen = seen_by P.held P.TellsCrash P.moment P.MayLeave in
+        Takes (InOrder script.now) (place_of traced.old (K.taken out.old) (seen keeper.old))
+        (place_of traced.new (K.taken out.new) (seen keeper.new)) result }
     ensures parts { IfOk result (λ parts. parts ≡ parts_from traced.old.core.config traced.old.core.policy
         (after_from traced.old.core.config traced.old.core.policy traced.old.core.state (Input.Boot ∷ []))
         script.now.acts 1 script.now.clients) }

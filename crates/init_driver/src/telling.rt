@@ -67,16 +67,33 @@ fn read_now(alloc: Global, core: &mut Core<ListStore>, name: &Text) -> Result<Re
     ensures policy { core.new.policy ≡ core.old.policy }
     ensures state { core.new.state ≡ core.old.state }
 {
-    let number = core.store().count();
     let Some(legal) = PropName::of(name.bytes()) else {
         unreachable!()
     };
-    let mut value = [0; 91];
-    match core.get(legal, &mut value) {
+    let mut buffer = [0; 91];
+    read_into(alloc, core, name, legal, &mut buffer)
+}
+
+/// The same over a buffer for the value, of a name that is known to be legal.
+fn read_into(
+    alloc: Global,
+    core: &mut Core<ListStore>,
+    name: &Text,
+    legal: PropName<'_>,
+    buffer: &mut [u8; 91],
+) -> Result<Reading, NoMemory>
+    requires { legal.bytes.now ≡ name.now }
+    ensures read { IfOk result (λ reading. reading ≡ read_now_lem core.old.state name.now) }
+    ensures config { core.new.config ≡ core.old.config }
+    ensures policy { core.new.policy ≡ core.old.policy }
+    ensures state { core.new.state ≡ core.old.state }
+{
+    let number = core.store().count();
+    match core.get(legal, buffer) {
         Some((len, _)) => Ok(Reading::Found {
             name: name.share()?,
             number,
-            value: Text::of(alloc, &value[..len])?,
+            value: Text::of(alloc, &buffer[..len])?,
         }),
         None => Ok(Reading::Absent {
             name: name.share()?,

@@ -10,8 +10,6 @@ mod held;
 mod name;
 mod nodes;
 mod room;
-#[cfg(test)]
-mod tests;
 
 use crate::store::{Full, PropStore};
 use entries::{look_up, need_if_absent, set};

@@ -18,6 +18,3 @@ mod words;
 pub use law::{text_determines_report, text_is_its_parts};
 pub use printer::Printer;
 pub use printing::{print, print_diagnostics};
-
-#[cfg(test)]
-mod tests;

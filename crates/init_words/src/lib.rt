@@ -8,8 +8,6 @@ mod command;
 mod form;
 mod misuse;
 mod reading;
-#[cfg(test)]
-mod tests;
 
 pub use form::{Form, form_of};
 pub use misuse::{Misuse, Place, WordFault, misuse_of, nothing_wrong_with_a_form};

@@ -5,4 +5,5 @@ pub mod Written
 pub mod WellFormed
 pub mod Prepared
 pub mod Performed
+pub mod Ends
 pub mod Complete

@@ -2,13 +2,12 @@
 use Rattle.std.proofs.Common.{◌≡◌, ℕ, List, [], Option, Some, refl, subst, inl, inr, ap}
 use native.Mathlib.Omega.{arith}
 use Rattle.init_base.specs.Faults.{Rose}
-use Rattle.init_driver.specs.Stored.{Keeps}
-use Rattle.init_driver.specs.Run.{given_in}
+use Rattle.init_driver.specs.Keeper.{KeeperView}
 use Rattle.rc_import.specs.World.{World}
 use Rattle.script_lang.specs.Script.{IsScript}
 use Rattle.initsim.specs.Counts.{AreCounted, Counts}
 use Rattle.initsim.specs.Prepared.{IsFit, IsRunStatus, IsSetupOf, Performs, course_of}
-use Rattle.initsim.specs.Run.{Course, IsCourseOf, RunLeaves}
+use Rattle.initsim.specs.Run.{Course, IsCourseOf}
 use Rattle.initsim.specs.Script.{ScriptSays}
 use Rattle.initsim.specs.Stops.{status_of}
 use Rattle.initsim.specs.Store.{IsStoreOf, StoreSays}
@@ -23,49 +22,47 @@ use Rattle.init_words.specs.declared.form.Form.TheVariants.{Run}
 
 -- ---- what it says
 
-pub performed_script : (course : Course) (was old new kept : Option (List ℕ)) (how : Status) (bytes : List ℕ) (left : Option (List ℕ))
-    → Performs course was old new kept how → IsScript bytes course.script → left ≡ Some [] → ScriptSays bytes left how
-performed_script course was old new kept status.Done bytes left performs is whole = ((course.script, is), whole)
-performed_script course was old new kept status.WriteFault bytes left performs is whole = ((course.script, is), whole)
-performed_script course was old new kept status.ReadFault bytes left performs is whole = tt
-performed_script course was old new kept status.NoMemory bytes left performs is whole = tt
-performed_script course was old new kept status.Usage bytes left performs is whole = tt
-performed_script course was old new kept (status.BadScript line) bytes left performs is whole = absurd performs
-performed_script course was old new kept status.NoInit bytes left performs is whole = absurd performs
-performed_script course was old new kept (status.TooLarge limit number) bytes left performs is whole = absurd performs
-performed_script course was old new kept (status.BadPolicy allow line) bytes left performs is whole = absurd performs
-performed_script course was old new kept (status.BadStore line) bytes left performs is whole = absurd performs
+pub performed_script : (course : Course) (old new : Option (List ℕ)) (keeper kept : KeeperView) (how : Status) (bytes : List ℕ) (left : Option (List ℕ))
+    → Performs course old new keeper kept how → IsScript bytes course.script → left ≡ Some [] → ScriptSays bytes left how
+performed_script course old new keeper kept status.Done bytes left performs is whole = ((course.script, is), whole)
+performed_script course old new keeper kept status.WriteFault bytes left performs is whole = ((course.script, is), whole)
+performed_script course old new keeper kept status.ReadFault bytes left performs is whole = tt
+performed_script course old new keeper kept status.NoMemory bytes left performs is whole = tt
+performed_script course old new keeper kept status.Usage bytes left performs is whole = tt
+performed_script course old new keeper kept (status.BadScript line) bytes left performs is whole = absurd performs
+performed_script course old new keeper kept status.NoInit bytes left performs is whole = absurd performs
+performed_script course old new keeper kept (status.TooLarge limit number) bytes left performs is whole = absurd performs
+performed_script course old new keeper kept (status.BadPolicy allow line) bytes left performs is whole = absurd performs
+performed_script course old new keeper kept (status.BadStore line) bytes left performs is whole = absurd performs
 
 setup_fits : (world : World) (job : Job) → IsSetupOf world job.setup → IsFitFor Run world
 setup_fits world job is = ((job.setup.policy, is.policy), (is.load.short, (is.load.loaded, is.load.rc_files)))
 
-pub performed_tree : (job : Job) (was old new kept : Option (List ℕ)) (how : Status) (world : World)
-    → Performs (course_of job) was old new kept how → IsSetupOf world job.setup → TreeSays Run world how
-performed_tree job was old new kept status.Done world performs is = setup_fits world job is
-performed_tree job was old new kept status.WriteFault world performs is = setup_fits world job is
-performed_tree job was old new kept status.ReadFault world performs is = tt
-performed_tree job was old new kept status.NoMemory world performs is = tt
-performed_tree job was old new kept status.Usage world performs is = tt
-performed_tree job was old new kept (status.BadScript line) world performs is = tt
-performed_tree job was old new kept status.NoInit world performs is = absurd performs
-performed_tree job was old new kept (status.TooLarge limit number) world performs is = absurd performs
-performed_tree job was old new kept (status.BadPolicy allow line) world performs is = absurd performs
-performed_tree job was old new kept (status.BadStore line) world performs is = setup_fits world job is
+pub performed_tree : (job : Job) (old new : Option (List ℕ)) (keeper kept : KeeperView) (how : Status) (world : World)
+    → Performs (course_of job) old new keeper kept how → IsSetupOf world job.setup → TreeSays Run world how
+performed_tree job old new keeper kept status.Done world performs is = setup_fits world job is
+performed_tree job old new keeper kept status.WriteFault world performs is = setup_fits world job is
+performed_tree job old new keeper kept status.ReadFault world performs is = tt
+performed_tree job old new keeper kept status.NoMemory world performs is = tt
+performed_tree job old new keeper kept status.Usage world performs is = tt
+performed_tree job old new keeper kept (status.BadScript line) world performs is = tt
+performed_tree job old new keeper kept status.NoInit world performs is = absurd performs
+performed_tree job old new keeper kept (status.TooLarge limit number) world performs is = absurd performs
+performed_tree job old new keeper kept (status.BadPolicy allow line) world performs is = absurd performs
+performed_tree job old new keeper kept (status.BadStore line) world performs is = setup_fits world job is
 
-pub performed_store : (job : Job) (was old new kept : Option (List ℕ)) (how : Status) (held : List ℕ)
-    → Performs (course_of job) was old new kept how → IsStoreOf held job.setup.config.saved → StoreSays held how
-performed_store job was old new kept status.Done held performs is = (job.setup.config.saved, is)
-performed_store job was old new kept status.WriteFault held performs is = (job.setup.config.saved, is)
-performed_store job was old new kept status.ReadFault held performs is = tt
-performed_store job was old new kept status.NoMemory held performs is = tt
-performed_store job was old new kept status.Usage held performs is = tt
-performed_store job was old new kept (status.BadScript line) held performs is = tt
-performed_store job was old new kept status.NoInit held performs is = tt
-performed_store job was old new kept (status.TooLarge limit number) held performs is = absurd performs
-performed_store job was old new kept (status.BadPolicy allow line) held performs is = tt
-performed_store job was old new kept (status.BadStore line) held performs is = absurd performs
-
--- ---- what it leaves
+pub performed_store : (job : Job) (old new : Option (List ℕ)) (keeper kept : KeeperView) (how : Status) (held : List ℕ)
+    → Performs (course_of job) old new keeper kept how → IsStoreOf held job.setup.config.saved → StoreSays held how
+performed_store job old new keeper kept status.Done held performs is = (job.setup.config.saved, is)
+performed_store job old new keeper kept status.WriteFault held performs is = (job.setup.config.saved, is)
+performed_store job old new keeper kept status.ReadFault held performs is = tt
+performed_store job old new keeper kept status.NoMemory held performs is = tt
+performed_store job old new keeper kept status.Usage held performs is = tt
+performed_store job old new keeper kept (status.BadScript line) held performs is = tt
+performed_store job old new keeper kept status.NoInit held performs is = tt
+performed_store job old new keeper kept (status.TooLarge limit number) held performs is = absurd performs
+performed_store job old new keeper kept (status.BadPolicy allow line) held performs is = tt
+performed_store job old new keeper kept (status.BadStore line) held performs is = absurd performs
 
 pub course_is : (job : Job) (bytes : List ℕ) (world : World) (held : List ℕ)
     → IsFit job → IsScript bytes job.script → IsSetupOf world job.setup → IsStoreOf held job.setup.config.saved
@@ -81,37 +78,6 @@ course_is job bytes world held fit script setup store = record {
     capacity = refl;
   };
 }
-
-pub performed_leaves : (course : Course) (was old new kept : Option (List ℕ)) (how : Status) (bytes : List ℕ) (world : World) (held : List ℕ)
-    → was ≡ Some held → IsCourseOf bytes world held course → Performs course was old new kept how → RunLeaves bytes world held old new kept how
-performed_leaves course was old new kept status.Done bytes world held told is performs = record {
-  course = course;
-  course_is = is;
-  written = performs.0;
-  keeps = subst (λ w. Keeps w kept (given_in course.opening course.script)) told performs.1;
-}
-performed_leaves course was old new kept status.WriteFault bytes world held told is performs =
-    record { course = course; course_is = is; front = performs }
-performed_leaves course was old new kept status.ReadFault bytes world held told is performs =
-    inr (record { course = course; course_is = is; before = performs })
-performed_leaves course was old new kept status.NoMemory bytes world held told is performs =
-    inr (record { course = course; course_is = is; front = performs })
-performed_leaves course was old new kept status.Usage bytes world held told is performs = absurd performs
-performed_leaves course was old new kept (status.BadScript line) bytes world held told is performs = absurd performs
-performed_leaves course was old new kept status.NoInit bytes world held told is performs = absurd performs
-performed_leaves course was old new kept (status.TooLarge limit number) bytes world held told is performs = absurd performs
-performed_leaves course was old new kept (status.BadPolicy allow line) bytes world held told is performs = absurd performs
-performed_leaves course was old new kept (status.BadStore line) bytes world held told is performs = absurd performs
-
-pub stop_leaves : (why : Stop) (bytes : List ℕ) (world : World) (held : List ℕ) (old kept : Option (List ℕ))
-    → RunLeaves bytes world held old old kept (status_of why)
-stop_leaves stop.ReadFault bytes world held old kept = inl refl
-stop_leaves stop.NoMemory bytes world held old kept = inl refl
-stop_leaves (stop.BadScript line) bytes world held old kept = refl
-stop_leaves stop.NoInit bytes world held old kept = refl
-stop_leaves (stop.TooLarge limit number) bytes world held old kept = refl
-stop_leaves (stop.BadPolicy allow line) bytes world held old kept = refl
-stop_leaves (stop.BadStore line) bytes world held old kept = refl
 
 -- ---- counts
 
@@ -132,23 +98,23 @@ counts_after how f f' s s' k k' k'' o o' same counted =
 rose_from_nothing : Rose 0 0 → ⊥
 rose_from_nothing rose = omega (arith, rose)
 
-pub performed_as_before : {A : Type 0} (course : Course) (was old new kept : Option (List ℕ)) (how : Status) (k k' k'' o o' : ℕ) (one other : A)
-    → Performs course was old new kept how → k' ≡ k
+pub performed_as_before : {A : Type 0} (course : Course) (old new : Option (List ℕ)) (keeper kept : KeeperView) (how : Status) (k k' k'' o o' : ℕ) (one other : A)
+    → Performs course old new keeper kept how → k' ≡ k
     → AreCounted how (record { files = 0; script = 0; keeper = k'; out = o }) (record { files = 0; script = 0; keeper = k''; out = o' })
     → IsAsBefore one other how k k''
-performed_as_before course was old new kept status.Done k k' k'' o o' one other performs same counted = tt
-performed_as_before course was old new kept status.WriteFault k k' k'' o o' one other performs same counted = tt
-performed_as_before course was old new kept status.NoMemory k k' k'' o o' one other performs same counted = tt
-performed_as_before course was old new kept status.ReadFault k k' k'' o o' one other performs same (inl rose, out) = absurd (rose_from_nothing rose)
-performed_as_before course was old new kept status.ReadFault k k' k'' o o' one other performs same (inr (inl rose), out) = absurd (rose_from_nothing rose)
-performed_as_before course was old new kept status.ReadFault k k' k'' o o' one other performs same (inr (inr rose), out) =
+performed_as_before course old new keeper kept status.Done k k' k'' o o' one other performs same counted = tt
+performed_as_before course old new keeper kept status.WriteFault k k' k'' o o' one other performs same counted = tt
+performed_as_before course old new keeper kept status.NoMemory k k' k'' o o' one other performs same counted = tt
+performed_as_before course old new keeper kept status.ReadFault k k' k'' o o' one other performs same (inl rose, out) = absurd (rose_from_nothing rose)
+performed_as_before course old new keeper kept status.ReadFault k k' k'' o o' one other performs same (inr (inl rose), out) = absurd (rose_from_nothing rose)
+performed_as_before course old new keeper kept status.ReadFault k k' k'' o o' one other performs same (inr (inr rose), out) =
     inr (subst (λ x. Rose x k'') same rose)
-performed_as_before course was old new kept status.Usage k k' k'' o o' one other performs same counted = absurd performs
-performed_as_before course was old new kept (status.BadScript line) k k' k'' o o' one other performs same counted = absurd performs
-performed_as_before course was old new kept status.NoInit k k' k'' o o' one other performs same counted = absurd performs
-performed_as_before course was old new kept (status.TooLarge limit number) k k' k'' o o' one other performs same counted = absurd performs
-performed_as_before course was old new kept (status.BadPolicy allow line) k k' k'' o o' one other performs same counted = absurd performs
-performed_as_before course was old new kept (status.BadStore line) k k' k'' o o' one other performs same counted = absurd performs
+performed_as_before course old new keeper kept status.Usage k k' k'' o o' one other performs same counted = absurd performs
+performed_as_before course old new keeper kept (status.BadScript line) k k' k'' o o' one other performs same counted = absurd performs
+performed_as_before course old new keeper kept status.NoInit k k' k'' o o' one other performs same counted = absurd performs
+performed_as_before course old new keeper kept (status.TooLarge limit number) k k' k'' o o' one other performs same counted = absurd performs
+performed_as_before course old new keeper kept (status.BadPolicy allow line) k k' k'' o o' one other performs same counted = absurd performs
+performed_as_before course old new keeper kept (status.BadStore line) k k' k'' o o' one other performs same counted = absurd performs
 
 pub stop_as_before : {A : Type 0} (why : Stop) (one other : A) (k k' : ℕ) → other ≡ one → IsAsBefore one other (status_of why) k k'
 stop_as_before stop.ReadFault one other k k' same = inl same
@@ -159,15 +125,15 @@ stop_as_before (stop.TooLarge limit number) one other k k' same = same
 stop_as_before (stop.BadPolicy allow line) one other k k' same = same
 stop_as_before (stop.BadStore line) one other k k' same = same
 
-pub performed_status : (course : Course) (was old new kept : Option (List ℕ)) (how : Status)
-    → Performs course was old new kept how → IsRunStatus how
-performed_status course was old new kept status.Done performs = tt
-performed_status course was old new kept status.WriteFault performs = tt
-performed_status course was old new kept status.ReadFault performs = tt
-performed_status course was old new kept status.NoMemory performs = tt
-performed_status course was old new kept status.Usage performs = absurd performs
-performed_status course was old new kept (status.BadScript line) performs = tt
-performed_status course was old new kept status.NoInit performs = tt
-performed_status course was old new kept (status.TooLarge limit number) performs = tt
-performed_status course was old new kept (status.BadPolicy allow line) performs = tt
-performed_status course was old new kept (status.BadStore line) performs = tt
+pub performed_status : (course : Course) (old new : Option (List ℕ)) (keeper kept : KeeperView) (how : Status)
+    → Performs course old new keeper kept how → IsRunStatus how
+performed_status course old new keeper kept status.Done performs = tt
+performed_status course old new keeper kept status.WriteFault performs = tt
+performed_status course old new keeper kept status.ReadFault performs = tt
+performed_status course old new keeper kept status.NoMemory performs = tt
+performed_status course old new keeper kept status.Usage performs = absurd performs
+performed_status course old new keeper kept (status.BadScript line) performs = tt
+performed_status course old new keeper kept status.NoInit performs = tt
+performed_status course old new keeper kept (status.TooLarge limit number) performs = tt
+performed_status course old new keeper kept (status.BadPolicy allow line) performs = tt
+performed_status course old new keeper kept (status.BadStore line) performs = tt

@@ -7,6 +7,7 @@ pub mod Tree
 pub mod Store
 pub mod Run
 pub mod Check
+pub mod Outcome
 pub mod Top
 pub mod Stops
 pub mod Prepared

@@ -1,8 +1,9 @@
 -- What is prepared of a run, before the machine starts.
 use Rattle.std.specs.Prelude.{◌≡◌, ℕ, ⊤, List, [], map, Option, Some, Result, Ok, Err}
 use Rattle.std.specs.Io.KnownBytes.{append_known}
-use Rattle.init_driver.specs.Run.{WritesBefore, given_in, report_of}
-use Rattle.init_driver.specs.Stored.{Keeps}
+use Rattle.init_driver.specs.Keeper.{KeeperView, Risks, Took}
+use Rattle.init_driver.specs.Run.{LeavesPart, given_in}
+use Rattle.init_driver.specs.declared.refusal.DriveRefusal.TheVariants as refusal
 use Rattle.init_driver.specs.declared.running.Setup.{Setup}
 use Rattle.init_machine.specs.WellFormed.{IsWellFormed}
 use Rattle.init_machine.specs.declared.config.Pair.{Pair}
@@ -15,7 +16,7 @@ use Rattle.script_lang.specs.Script.{IsScript}
 use Rattle.script_lang.specs.declared.script.Script.{Script}
 use Rattle.initsim.specs.Counts.{AreCounted, Counts}
 use Rattle.initsim.specs.Policy.{IsPolicyOf}
-use Rattle.initsim.specs.Run.{Course, run_text}
+use Rattle.initsim.specs.Run.{Course, due_of_course, run_text}
 use Rattle.initsim.specs.Script.{ScriptSays}
 use Rattle.initsim.specs.Stops.{status_of}
 use Rattle.initsim.specs.Store.{IsStoreOf, StoreSays}
@@ -85,19 +86,19 @@ course_of job = record {
   script = job.script;
 }
 
--- what a run of a course leaves: in the sink, and in the keeper
-abbrev pub Performs : Course → Option (List ℕ) → Option (List ℕ) → Option (List ℕ) → Option (List ℕ) → Status → Type 0
-Performs course held old new kept status.Done =
-    (new ≡ append_known old (run_text course)) × Keeps held kept (given_in course.opening course.script)
-Performs course held old new kept status.WriteFault = TakesFront old new (run_text course)
-Performs course held old new kept status.ReadFault = WritesBefore old new (report_of course.opening course.diagnostics course.script)
-Performs course held old new kept status.NoMemory = TakesFront old new (run_text course)
-Performs course held old new kept status.Usage = ⊥
-Performs course held old new kept (status.BadScript line) = ⊥
-Performs course held old new kept status.NoInit = ⊥
-Performs course held old new kept (status.TooLarge limit number) = ⊥
-Performs course held old new kept (status.BadPolicy allow line) = ⊥
-Performs course held old new kept (status.BadStore line) = ⊥
+-- what a run of a course leaves: in the sink, and with the keeper
+abbrev pub Performs : Course → Option (List ℕ) → Option (List ℕ) → KeeperView → KeeperView → Status → Type 0
+Performs course old new keeper kept status.Done =
+    (new ≡ append_known old (run_text course)) × Took keeper kept (given_in course.opening course.script)
+Performs course old new keeper kept status.WriteFault = LeavesPart refusal.Write old new keeper kept (due_of_course course)
+Performs course old new keeper kept status.ReadFault = LeavesPart refusal.Keeper old new keeper kept (due_of_course course)
+Performs course old new keeper kept status.NoMemory = LeavesPart refusal.NoMemory old new keeper kept (due_of_course course)
+Performs course old new keeper kept _ = ⊥
+
+-- a keeper of which only the text was asked
+abbrev pub IsAsked : {T : Type 0} → Result T Stop → KeeperView → KeeperView → Type 0
+IsAsked (Ok value) keeper kept = Took keeper kept []
+IsAsked (Err why) keeper kept = (kept.held ≡ keeper.held) × (keeper.TellsCrash → Risks keeper kept [] [])
 
 -- the diagnostics alone are written
 abbrev pub WritesDiagnostics : List Diagnostic → Option (List ℕ) → Option (List ℕ) → Status → Type 0

@@ -1,20 +1,15 @@
--- What a run leaves in the sink and in the keeper.
-use Rattle.std.specs.Prelude.{◌≡◌, ℕ, ◌⊎◌, List, map, Option, Some}
-use Rattle.std.specs.Io.KnownBytes.{append_known}
-use Rattle.init_driver.specs.Run.{WritesBefore, given_in, report_of}
-use Rattle.init_driver.specs.Stored.{Keeps}
+-- The course of a run, and its text.
+use Rattle.std.specs.Prelude.{◌≡◌, ℕ, List, map}
+use Rattle.init_driver.specs.Run.{Due, due_of, report_of}
 use Rattle.init_machine.specs.State.{Opening}
 use Rattle.init_machine.specs.declared.diagnostic.Diagnostic.{Diagnostic}
 use Rattle.init_trace.specs.Report.{TextOf}
-use Rattle.init_trace.specs.Written.{TakesFront}
 use Rattle.script_lang.specs.Script.{IsScript}
 use Rattle.script_lang.specs.declared.script.Script.{Script}
 use Rattle.rc_import.specs.World.{World}
 use Rattle.initsim.specs.Policy.{IsPolicyOf}
 use Rattle.initsim.specs.Store.{IsStoreOf}
 use Rattle.initsim.specs.Tree.{IsLoadOf}
-use Rattle.initsim.specs.declared.status.Status.{Status}
-use Rattle.initsim.specs.declared.status.Status.TheVariants as status
 
 -- What a run goes by: the machine's opening, the diagnostics of the tree, and the script.
 pub record Course : Type 0 where
@@ -42,36 +37,6 @@ pub record IsCourseOf (bytes : List ℕ) (world : World) (held : List ℕ) (cour
 abbrev pub run_text : Course → List ℕ
 run_text course = TextOf (report_of course.opening course.diagnostics course.script)
 
--- Done: the text of the run was written whole, and the keeper holds the last of the texts that it was given, or else what it
--- held before
-pub record IsRun (bytes : List ℕ) (world : World) (held : List ℕ) (old new kept : Option (List ℕ)) : Type 0 where
-  pub course : Course
-  pub course_is : IsCourseOf bytes world held course
-  pub written : new ≡ append_known old (run_text course)
-  pub keeps : Keeps (Some held) kept (given_in course.opening course.script)
-
--- some front of the text of the run was written
-pub record IsRunFront (bytes : List ℕ) (world : World) (held : List ℕ) (old new : Option (List ℕ)) : Type 0 where
-  pub course : Course
-  pub course_is : IsCourseOf bytes world held course
-  pub front : TakesFront old new (run_text course)
-
--- the keeper failed at an entry: the text of the run up to that entry was written
-pub record IsRunUpToFault (bytes : List ℕ) (world : World) (held : List ℕ) (old new : Option (List ℕ)) : Type 0 where
-  pub course : Course
-  pub course_is : IsCourseOf bytes world held course
-  pub before : WritesBefore old new (report_of course.opening course.diagnostics course.script)
-
--- What a run leaves, of a script's bytes, a world and the text that a keeper holds: what the sink took, and what the keeper
--- holds then.
-abbrev pub RunLeaves : List ℕ → World → List ℕ → Option (List ℕ) → Option (List ℕ) → Option (List ℕ) → Status → Type 0
-RunLeaves bytes world held old new kept status.Done = IsRun bytes world held old new kept
-RunLeaves bytes world held old new kept status.WriteFault = IsRunFront bytes world held old new
-RunLeaves bytes world held old new kept status.ReadFault = (new ≡ old) ⊎ IsRunUpToFault bytes world held old new
-RunLeaves bytes world held old new kept status.NoMemory = (new ≡ old) ⊎ IsRunFront bytes world held old new
-RunLeaves bytes world held old new kept status.Usage = new ≡ old
-RunLeaves bytes world held old new kept (status.BadScript line) = new ≡ old
-RunLeaves bytes world held old new kept (status.BadPolicy allow line) = new ≡ old
-RunLeaves bytes world held old new kept status.NoInit = new ≡ old
-RunLeaves bytes world held old new kept (status.TooLarge limit number) = new ≡ old
-RunLeaves bytes world held old new kept (status.BadStore line) = new ≡ old
+-- what the run is to write and to give
+abbrev pub due_of_course : Course → Due
+due_of_course course = due_of course.opening course.diagnostics course.script

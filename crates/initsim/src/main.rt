@@ -5,6 +5,7 @@
 #![tactic(auto)]
 
 mod command_line;
+mod help;
 mod loading;
 mod prepare;
 mod reading;
@@ -15,11 +16,11 @@ mod texts;
 mod top;
 
 use command_line::words_of;
+use help::{is_help, tell_help};
 use init_base::{
     Fault, Keeper, List, NoMemory, Source, StdFiles, StdKeeper, StdSink, StdSource, Text,
 };
 use status::Status;
-use std::alloc::Global;
 use std::process::ExitCode;
 use telling::{tell, tell_misuse};
 use top::initsim;
@@ -35,13 +36,6 @@ fn word_at(words: &List<Text>, at: usize) -> Result<Text, NoMemory> {
     }
 }
 
-/// The path of the persistent store.
-fn store_path(alloc: Global, root: &Text) -> Result<Text, NoMemory> {
-    let mut path = Vec::from_slice(alloc, root.bytes())?;
-    path.extend_from_slice(STORE_PATH)?;
-    Text::from_vec(path)
-}
-
 fn run(rt: &HostRuntime) -> Result<Status, NoMemory> {
     let alloc = rt.alloc();
     let words = words_of(rt, alloc)?;
@@ -49,7 +43,7 @@ fn run(rt: &HostRuntime) -> Result<Status, NoMemory> {
     let path = word_at(&words, 2)?;
     let mut files = StdFiles::at(rt, alloc, &root)?;
     let mut script = StdSource::at(rt, alloc, &path)?;
-    let mut keeper = StdKeeper::at(rt, alloc, &store_path(alloc, &root)?)?;
+    let mut keeper = StdKeeper::below(rt, &root, &Text::of(alloc, STORE_PATH)?)?;
     let mut out = StdSink::stdout(rt);
     let status = initsim(
         alloc,
@@ -62,9 +56,21 @@ fn run(rt: &HostRuntime) -> Result<Status, NoMemory> {
     let fault = fault_behind(status, &script, &files, &keeper, &out);
     let _ = tell(rt, status, fault);
     if status == Status::Usage {
-        let _ = tell_misuse(rt, &words);
+        let _ = tell_usage(rt, &words);
     }
     Ok(status)
+}
+
+/// Prints what is wrong with the words, or help where they ask for it.
+fn tell_usage(rt: &HostRuntime, words: &List<Text>) -> std::io::Result<()> {
+    match words.at(0) {
+        Some(word) if is_help(word) => tell_help(rt),
+        Some(_) => tell_misuse(rt, words),
+        None => {
+            tell_misuse(rt, words)?;
+            tell_help(rt)
+        }
+    }
 }
 
 /// What the system said where the status comes of it.

@@ -2,8 +2,9 @@
 
 ghost use Rattle.std.specs.Prelude.{◌≡◌, [], map, IfErr, IfOk, IfSome};
 ghost use Rattle.init_base.specs.Faults.{Counted};
+ghost use Rattle.init_driver.specs.Keeper.{seen_by};
 ghost use Rattle.init_machine.specs.WellFormed.{IsWellFormed};
-ghost use Rattle.initsim.specs.Prepared.{ArePrepared, GivesSaved, GivesSetup, GivesTree, IsFit, IsJobFor, ScriptOfJob};
+ghost use Rattle.initsim.specs.Prepared.{ArePrepared, GivesSaved, GivesSetup, GivesTree, IsAsked, IsFit, IsJobFor, ScriptOfJob};
 ghost use Rattle.initsim.specs.Stops.{IsOfTree, has_read_fault};
 ghost use Rattle.initsim.specs.Tree.{IsWorldOf};
 ghost use Rattle.rc_import.specs.World.{World};
@@ -112,6 +113,7 @@ pub fn prepare<F: Files, S: Source, P: Keeper>(
     ensures store { IfSome (P.held keeper.old) (λ held. GivesSaved held result) }
     ensures fit { IfOk result IsFit }
     ensures held { P.held keeper.new ≡ P.held keeper.old }
+    ensures asked { let seen = seen_by P.held P.TellsCrash P.moment P.MayLeave in IsAsked result (seen keeper.old) (seen keeper.new) }
     ensures counts { ArePrepared result
         (record { files = F.fault_count files.old; script = S.fault_count source.old; keeper = P.fault_count keeper.old; out = 0 })
         (record { files = F.fault_count files.new; script = S.fault_count source.new; keeper = P.fault_count keeper.new; out = 0 }) }

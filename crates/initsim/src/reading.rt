@@ -2,6 +2,8 @@
 
 ghost use Rattle.std.specs.Prelude.{◌≡◌, IfErr, IfOk, IfSome, IsTrue};
 ghost use Rattle.init_base.specs.Faults.{Counted};
+ghost use Rattle.init_driver.specs.Keeper.{seen_by};
+ghost use Rattle.initsim.specs.Prepared.{IsAsked};
 ghost use Rattle.initsim.specs.Stops.{GivesScript, GivesStore, IsOfScript, IsOfStore, has_read_fault};
 ghost use Rattle.persist_file.specs.Store.{are_saved};
 ghost use Rattle.script_lang.specs.Laws.{MeetsConditions};
@@ -37,6 +39,7 @@ pub fn read_store<P: Keeper>(alloc: Global, keeper: &mut P) -> Result<List<Pair>
     ensures saved { IfOk result (λ saved. IsTrue (are_saved saved)) }
     ensures late { IfErr result IsOfStore }
     ensures held { P.held keeper.new ≡ P.held keeper.old }
+    ensures asked { let seen = seen_by P.held P.TellsCrash P.moment P.MayLeave in IsAsked result (seen keeper.old) (seen keeper.new) }
     ensures cause { Counted (has_read_fault result) (P.fault_count keeper.old) (P.fault_count keeper.new) }
 {
     match keeper.load(alloc, MOST_STORE_BYTES) {

@@ -1,10 +1,11 @@
 //! The top call: all that the program does.
 
 ghost use Rattle.std.specs.Prelude.{◌≡◌, ◌↔◌, ℕ, IfSome, None, Some};
+ghost use Rattle.init_driver.specs.Keeper.{seen_by};
 ghost use Rattle.initsim.specs.Check.{CheckWrites, IsCheckStatus};
 ghost use Rattle.initsim.specs.Counts.{AreCounted, IsDoneUnlessRisen};
+ghost use Rattle.initsim.specs.Outcome.{Ends, Tell, Told, shown_as};
 ghost use Rattle.initsim.specs.Prepared.{IsFit, IsRunStatus, Performs, WritesDiagnostics, course_of};
-ghost use Rattle.initsim.specs.Run.{RunLeaves};
 ghost use Rattle.initsim.specs.Script.{ScriptSays};
 ghost use Rattle.initsim.specs.Store.{StoreSays};
 ghost use Rattle.initsim.specs.Top.{CanBeDone, IsAsBefore};
@@ -26,7 +27,8 @@ use std::alloc::Global;
 /// Runs a job: the machine takes the script's inputs, and the text of the report is written.
 fn perform<P: Keeper, K: Sink>(alloc: Global, job: Job, keeper: &mut P, out: &mut K) -> Status
     requires { IsFit job }
-    ensures leaves { Performs (course_of job) (P.held keeper.old) (K.taken out.old) (K.taken out.new) (P.held keeper.new) result }
+    ensures leaves { let seen = seen_by P.held P.TellsCrash P.moment P.MayLeave in
+        Performs (course_of job) (K.taken out.old) (K.taken out.new) (seen keeper.old) (seen keeper.new) result }
     ensures counts { (files script : ℕ) → AreCounted result
         (record { files = files; script = script; keeper = P.fault_count keeper.old; out = K.fault_count out.old })
         (record { files = files; script = script; keeper = P.fault_count keeper.new; out = K.fault_count out.new }) }
@@ -50,8 +52,9 @@ fn run_script<F: Files, S: Source, P: Keeper, K: Sink>(
     ensures script { IfSome (S.left script.old) (λ bytes. ScriptSays bytes (S.left script.new) result) }
     ensures tree { (world : World) → IsWorldOf (F.tree files.old) world → TreeSays Form.Run world result }
     ensures store { IfSome (P.held keeper.old) (λ held. StoreSays held result) }
-    ensures leaves { (world : World) → IsWorldOf (F.tree files.old) world → IfSome (S.left script.old) (λ bytes. IfSome (P.held keeper.old) (λ held.
-        RunLeaves bytes world held (K.taken out.old) (K.taken out.new) (P.held keeper.new) result)) }
+    ensures ends { let seen = seen_by P.held P.TellsCrash P.moment P.MayLeave in
+        (told : Told) → Tell (S.left script.old) (F.tree files.old) (P.held keeper.old) told →
+        Ends (Some Form.Run) told result (shown_as (K.taken out.old) (K.taken out.new) (seen keeper.old) (seen keeper.new)) }
     ensures counts { AreCounted result
         (record { files = F.fault_count files.old; script = S.fault_count script.old; keeper = P.fault_count keeper.old; out = K.fault_count out.old })
         (record { files = F.fault_count files.new; script = S.fault_count script.new; keeper = P.fault_count keeper.new; out = K.fault_count out.new }) }
@@ -103,8 +106,10 @@ fn check<F: Files, K: Sink>(alloc: Global, files: &mut F, out: &mut K) -> Status
 /// diagnostics of the tree, the one legal history of the script's inputs, and what the clients read. `check ROOT` reads the
 /// build files and the rc files alone, and writes their diagnostics.
 ///
-/// What a status says of the script, the tree and the store is said of each by itself, where it is told: the refusal of an
-/// object says what is wrong with it, and each later status says that nothing is. Memory may run out at any point.
+/// How the call ends is said of what is told: the status, what the sink took, and what the keeper holds, or may leave after a
+/// crash, are those of the one outcome that words, script, tree and store come to; unless a count of faults rose, or memory ran
+/// out: then nothing is written, or a prefix of the outcome's text, and the keeper stands as at the last entry that is written
+/// whole, or at the next one. A refusal is that of a reader which refuses what is told, where those before it don't.
 pub fn initsim<F: Files, S: Source, P: Keeper, K: Sink>(
     alloc: Global,
     words: &List<Text>,
@@ -115,18 +120,12 @@ pub fn initsim<F: Files, S: Source, P: Keeper, K: Sink>(
 ) -> Status
     ensures usage { (result ≡ Status.Usage) ↔ (form_of_lem words.now ≡ None) }
 
-    // What a status says of the script, of the tree and of the store.
-    ensures script { form_of_lem words.now ≡ Some Form.Run →
+    // Where all is told, the call ends as the outcome says.
+    ensures ends { let seen = seen_by P.held P.TellsCrash P.moment P.MayLeave in
+        (told : Told) → Tell (S.left script.old) (F.tree files.old) (P.held keeper.old) told →
+        Ends (form_of_lem words.now) told result (shown_as (K.taken out.old) (K.taken out.new) (seen keeper.old) (seen keeper.new)) }
+    ensures read { form_of_lem words.now ≡ Some Form.Run →
         IfSome (S.left script.old) (λ bytes. ScriptSays bytes (S.left script.new) result) }
-    ensures tree { (world : World) → IsWorldOf (F.tree files.old) world → IfSome (form_of_lem words.now) (λ form. TreeSays form world result) }
-    ensures store { form_of_lem words.now ≡ Some Form.Run → IfSome (P.held keeper.old) (λ held. StoreSays held result) }
-
-    // What is left in the sink and in the keeper, where all is told.
-    ensures run { form_of_lem words.now ≡ Some Form.Run →
-        (world : World) → IsWorldOf (F.tree files.old) world → IfSome (S.left script.old) (λ bytes. IfSome (P.held keeper.old) (λ held.
-        RunLeaves bytes world held (K.taken out.old) (K.taken out.new) (P.held keeper.new) result)) }
-    ensures checked { form_of_lem words.now ≡ Some Form.Check →
-        (world : World) → IsWorldOf (F.tree files.old) world → CheckWrites world (K.taken out.old) (K.taken out.new) result }
 
     // A fault comes only where a count of its objects rose, and all other counts are as before.
     ensures faults { AreCounted result

@@ -11,8 +11,6 @@ mod node;
 mod noted;
 mod path;
 mod places;
-#[cfg(test)]
-mod tests;
 mod tree;
 
 pub use tree::Tree;

@@ -15,6 +15,3 @@ mod refusal;
 pub use kernel::Kernel;
 pub use reaped::Reaped;
 pub use refusal::{SpawnRefusal, TickRefusal};
-
-#[cfg(test)]
-mod tests;

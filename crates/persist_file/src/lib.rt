@@ -6,8 +6,6 @@ mod laws;
 mod printing;
 mod reading;
 mod refusal;
-#[cfg(test)]
-mod tests;
 mod value;
 
 pub use laws::{each_text_has_one_reading, printing_undoes_reading};

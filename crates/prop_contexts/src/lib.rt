@@ -16,8 +16,6 @@ mod names;
 mod policy;
 mod prefixes;
 mod refusal;
-#[cfg(test)]
-mod tests;
 
 pub use init_machine::{AllowLine, Context, PolicyView};
 pub use laws::{documented_contexts, each_text_has_one_reading};

@@ -7,8 +7,6 @@
 mod build;
 mod expansion;
 mod piece;
-#[cfg(test)]
-mod tests;
 mod types;
 mod value;
 mod view;

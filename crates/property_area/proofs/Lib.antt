@@ -4,4 +4,3 @@ pub mod AreaSerial
 pub mod Looking
 pub mod Readers
 pub mod Hearing
-pub mod Stopped

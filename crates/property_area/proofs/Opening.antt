@@ -44,7 +44,7 @@ first_view : (n : ℕ) (seat : ℕ) (v : AreaView) → get_elem? (begins n ∷ [
 first_view n zero v e = subst (λ (x : AreaView). ViewHolds (replicate n zero) first_moment zero x) (some-injective _ _ e) record {
   width = sym (count_zeros n);
   trie = record { known = λ name place is. let small = is.1 in absurd (omega arith); trail = tt };
-  part = (refl, refl, refl, refl, refl, tt, (refl, refl, refl, refl, λ who none. refl));
+  part = (refl, refl, refl, refl, refl, tt, (refl, refl, refl, refl, (λ who none. refl), (λ a none. absurd (cc))));
 }
 first_view n (suc seat) v e = absurd (some-ne-none v (sym e))
 

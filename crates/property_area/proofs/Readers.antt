@@ -31,9 +31,10 @@ use Rattle.property_area.specs.declared.view.Client.{Client}
 use Rattle.property_area.specs.declared.view.AreaView.{AreaView}
 use Rattle.property_area.specs.declared.view.LogOpening.{LogOpening}
 use Rattle.property_area.specs.declared.view.LogEntry.{LogEntry}
-use Rattle.property_area.specs.Area.{requests_in, requests_of, out_seat, list_in, Moment, world_of, WordsHold, ClientsHold, AskedHolds, PartHolds, ViewHolds, AreaHolds}
-use Rattle.property_area.specs.Seats.{sets_in}
-use Rattle.property_area.specs.Readers.{client_in, others_in, IsIn, without, handing, handed, client_of, taking, spent, synced, seen_by, caught, asker_of, request_of, recording, opening_with, ComesNext, EachClientStands}
+use Rattle.property_area.specs.declared.view.Arrival.{Arrival}
+use Rattle.property_area.specs.Area.{requests_in, requests_of, out_seat, list_in, Moment, world_of, WordsHold, ClientsHold, Brings, ArrivalHolds, AskedHolds, PartHolds, ViewHolds, AreaHolds}
+use Rattle.property_area.specs.Seats.{sets_in, IsStill}
+use Rattle.property_area.specs.Readers.{client_in, others_in, IsIn, without, handing, handed, client_of, arriving, put_away, spent, synced, seen_by, caught, asker_of, request_of, recording, opening_with, ComesNext, EachClientStands}
 use Rattle.property_area.specs.Kept.Requests.{requests_told, requests_asked, requests_own, requests_other, asked_told}
 use Rattle.property_area.specs.Kept.Frame.{St, Carried, mine, reads}
 
@@ -124,6 +125,10 @@ client_who (c ∷ clients) who sets =
       | false ↦ λ e. client_who clients who sets
     ] refl
 
+-- no seat is coming in
+none_comes : (v : AreaView) → IsStill v → ArrivalHolds v
+none_comes v still a is = let e : None ≡ Some a = sym still ∙ is in absurd (cc)
+
 -- the record of the writer is another
 module _ (words : List ℕ) (m : Moment) (out : List (ℕ × ℕ)) (seats : ℕ) (opening : Option LogOpening) (log : List LogEntry) where
   abbrev m' : Moment
@@ -150,17 +155,18 @@ module _ (words : List ℕ) (m : Moment) (out : List (ℕ × ℕ)) (seats : ℕ)
 
   own_on : (id : ℕ) (v : AreaView) (view : ViewHolds words m id v) (making : Option Making) → v.cell ≡ Writer (sets_of v.cell) making → (clients : List Client) → ClientsHold (world_of words m) clients
       → ((who : ℕ) → out_seat out who ≡ 0 → requests_in (list_in clients who) ≡ requests_of who log)
-      → ViewHolds words m' id (record v { clients = clients; out = out; seats = seats; opening = opening; log = log })
-  own_on id v view making is clients h inside =
+      → (came : Option Arrival) → ArrivalHolds (record v { clients = clients; out = out; seats = seats; came = came; opening = opening; log = log })
+      → ViewHolds words m' id (record v { clients = clients; out = out; seats = seats; came = came; opening = opening; log = log })
+  own_on id v view making is clients h inside came arrival =
       let known = mine words m id v (sets_of v.cell) making view is in record {
         width = view.width;
         trie = view.trie;
-        part = subst (λ (c : CellView). PartHolds (world_of words m) m' id c (record v { clients = clients; out = out; seats = seats; opening = opening; log = log })) (sym is)
-            (known.writes, known.sets_are, known.making_is, known.adding_is, known.head_is, h, (refl, refl, refl, refl, inside));
+        part = subst (λ (c : CellView). PartHolds (world_of words m) m' id c (record v { clients = clients; out = out; seats = seats; came = came; opening = opening; log = log })) (sym is)
+            (known.writes, known.sets_are, known.making_is, known.adding_is, known.head_is, h, (refl, refl, refl, refl, inside, arrival));
       }
 
-pub area_splits : (who id : ℕ) (v : AreaView) (making : Option Making) → v.cell ≡ Writer (sets_of v.cell) making → IsIn v who → Splits AreaHolds id v (handing who v) (handed who v)
-area_splits who id v making is free s h here =
+pub area_splits : (who id : ℕ) (v : AreaView) (making : Option Making) → v.cell ≡ Writer (sets_of v.cell) making → IsStill v → IsIn v who → Splits AreaHolds id v (handing who v) (handed who v)
+area_splits who id v making is still free s h here =
     let m = h.moment in
     let w = world_of s.words m in
     let view = h.each id v here in
@@ -194,7 +200,8 @@ area_splits who id v making is free s h here =
           (λ q none. let other : who ≢ q = λ same. let z : out_seat out q ≡ suc v.seats = ap (out_seat out) (sym same) ∙ seat_first v.out who v.seats in absurd (omega arith) in
           ap requests_in (list_others v.clients who q other)
           ∙ kept.4 q (ap (λ (o : List (ℕ × ℕ)). out_seat o q) (sym kept.0) ∙ sym (seat_behind v.out who v.seats q other) ∙ none)
-          ∙ ap (requests_of q) (sym kept.3))))
+          ∙ ap (requests_of q) (sym kept.3))
+          v.came (none_comes left still)))
           (λ (t : (seat ≢ id) × (get_elem? s.views seat ≡ some u)).
           view_on s.words m out seats v.opening v.log seat u (λ is_writer. t.0 (is_writer ∙ sym known.writes)) (others u seat) (h.each seat u t.1))
           (at_set s.views id seat left u old))
@@ -217,25 +224,33 @@ area_splits who id v making is free s h here =
 spent_holds : (w : World) → ReaderHolds w 0 None [] []
 spent_holds w = record { early = omega arith; holds = fresh_list w [] w.sets refl; seen = omega arith; copy = tt }
 
-pub area_joins : (id other : ℕ) (v r : AreaView) (making : Option Making) (number words : ℕ) → v.cell ≡ Writer (sets_of v.cell) making → r.cell ≡ Reader number None → IsTrue r.trie.live → v.words ≡ words
-    → Joins AreaHolds id v other r (taking v r) (spent words)
-area_joins id other v r making number words is reads_is live wide s h here apart there =
+pub area_joins : (id other came_from : ℕ) (v r : AreaView) (making : Option Making) (number words : ℕ) → v.cell ≡ Writer (sets_of v.cell) making → other ≡ came_from → r.cell ≡ Reader number None
+    → IsTrue r.trie.live → v.words ≡ words → Joins AreaHolds id v other r (arriving came_from v r) (spent words)
+area_joins id other came_from v r making number words is own_seat reads_is live wide s h here apart there =
     let m = h.moment in
+    let new : AreaView = arriving came_from v r in
     let w = world_of s.words m in
     let view = h.each id v here in
     let known = mine s.words m id v (sets_of v.cell) making view is in
     let kept = known.requests in
-    let old_there = sym (set_else s.views id other (taking v r) apart) ∙ there in
+    let old_there = sym (set_else s.views id other new apart) ∙ there in
     let reader = subst (λ (c : CellView). PartHolds w m other c r) reads_is (h.each other r old_there).part in
     let asked = reader.2 live in
     let now_there = h.there in
     let now_count = h.count in
-    let long = length-set s.views id (taking v r) in
-    let longer = length-set (set s.views id (taking v r)) other (spent words) in
+    let long = length-set s.views id new in
+    let longer = length-set (set s.views id new) other (spent words) in
     let out = without v.out r.who in
     let seats_now = kept.1 in
     let client = client_of r in
     let clients = client ∷ others_in v.clients r.who in
+    let arrived : Arrival = record { who = r.who; seat = came_from; before = v.out; opening = r.opening } in
+    let brings : Brings new arrived = (
+      asked.0 ∙ sym kept.2,
+      ap (λ (o : List (ℕ × ℕ)). out_seat o r.who) kept.0 ∙ asked.1 ∙ ap suc own_seat,
+      ap requests_in (list_first client (others_in v.clients r.who)) ∙ asked.2 ∙ ap (requests_of r.who) (sym kept.3),
+    ) in
+    let arrival : ArrivalHolds new = λ a is_a. let same : arrived ≡ a = cc in subst (Brings new) same brings in
     let others : (u : AreaView) (seat : ℕ) → seat ≢ other → AskedHolds m seat u → AskedHolds (record m { out = out; seats = v.seats; opening = v.opening; log = v.log }) seat u =
     λ u seat apart_too a live_too. let t = a live_too in (
       t.0 ∙ sym kept.2,
@@ -253,19 +268,20 @@ area_joins id other v r making number words is reads_is live wide s h here apart
             trie = record { known = λ name place none. let small = none.1 in absurd (omega arith); trail = tt };
             part = (reader.0, spent_holds w, (λ none. absurd (cc)));
           })
-          (λ (t : (seat ≢ other) × (get_elem? (set s.views id (taking v r)) seat ≡ some u)). ⊎_elim
-          (λ (k : (seat ≡ id) × (taking v r ≡ u)). subst (λ (x : ℕ × AreaView). ViewHolds s.words (record m { out = out; seats = v.seats; opening = v.opening; log = v.log }) x.0 x.1) (λ j. (sym k.0 j, k.1 j))
+          (λ (t : (seat ≢ other) × (get_elem? (set s.views id new) seat ≡ some u)). ⊎_elim
+          (λ (k : (seat ≡ id) × (new ≡ u)). subst (λ (x : ℕ × AreaView). ViewHolds s.words (record m { out = out; seats = v.seats; opening = v.opening; log = v.log }) x.0 x.1) (λ j. (sym k.0 j, k.1 j))
           (own_on s.words m out v.seats v.opening v.log id v view making is clients (reader.1.holds, others_hold w v.clients r.who known.clients)
           (λ q none. dite (ℕ_discrete r.who q)
           (λ (same : r.who ≡ q). subst (λ (x : ℕ). requests_in (list_in clients x) ≡ requests_of x v.log) same
           (ap requests_in (list_first client (others_in v.clients r.who)) ∙ asked.2 ∙ ap (requests_of r.who) (sym kept.3)))
           (λ (differs : r.who ≢ q). ap requests_in (list_behind client (others_in v.clients r.who) q differs ∙ list_others v.clients r.who q differs)
           ∙ kept.4 q (ap (λ (o : List (ℕ × ℕ)). out_seat o q) (sym kept.0) ∙ sym (seat_without v.out r.who q differs) ∙ none)
-          ∙ ap (requests_of q) (sym kept.3)))))
+          ∙ ap (requests_of q) (sym kept.3)))
+          new.came arrival))
           (λ (k : (seat ≢ id) × (get_elem? s.views seat ≡ some u)).
           view_on s.words m out v.seats v.opening v.log seat u (λ is_writer. k.0 (is_writer ∙ sym known.writes)) (others u seat t.0) (h.each seat u k.1))
-          (at_set s.views id seat (taking v r) u t.1))
-          (at_set (set s.views id (taking v r)) other seat (spent words) u e);
+          (at_set s.views id seat new u t.1))
+          (at_set (set s.views id new) other seat (spent words) u e);
     }
 
 -- a load with which the writer's record grows, and one client's list with it
@@ -273,10 +289,10 @@ pub area_records : (who id i : ℕ) (cs : Carried) (v : AreaView) (making : Opti
     → (client : Client) (log : List LogEntry) (opening : Option LogOpening) → client.who ≡ who → ListHolds (world_of s.words h.moment) client.began client.list
     → (out_seat v.out who ≡ 0 → requests_in client.list ≡ requests_of who log)
     → ((q : ℕ) → who ≢ q → requests_of q log ≡ requests_of q v.log)
-    → (out_seat v.out who ≡ 0)
+    → (out_seat v.out who ≡ 0) → IsStill v
     → ((seat : ℕ) (u : AreaView) → AskedHolds h.moment seat u → IsTrue u.trie.live → opening ≡ h.moment.opening)
     → AreaHolds (stepped s i (get_or s.words i 0) id cs (record v { clients = client ∷ others_in v.clients who; opening = opening; log = log }) keeps)
-area_records who id i cs v making s h here is client log opening named list own others free opened =
+area_records who id i cs v making s h here is client log opening named list own others free still opened =
     let m = h.moment in
     let w = world_of s.words m in
     let view = h.each id v here in
@@ -309,16 +325,17 @@ area_records who id i cs v making s h here is client log opening named list own 
           (λ (differs : who ≢ q).
           ap requests_in (list_behind client (others_in v.clients who) q (λ e'. differs (sym named ∙ e')) ∙ list_others v.clients who q differs)
           ∙ kept.4 q (ap (λ (o : List (ℕ × ℕ)). out_seat o q) (sym kept.0) ∙ none)
-          ∙ ap (requests_of q) (sym kept.3) ∙ sym (others q differs)))))
+          ∙ ap (requests_of q) (sym kept.3) ∙ sym (others q differs)))
+          v.came (none_comes new still)))
           (λ (t : (seat ≢ id) × (get_elem? s.views seat ≡ some u)).
           view_on s.words m v.out v.seats opening log seat u (λ is_writer. t.0 (is_writer ∙ sym known.writes)) (asked u seat) (h.each seat u t.1))
           (at_set s.views id seat new u e);
     }
 
 -- a client that has no seat is told the count
-pub area_synced : (who slots id : ℕ) (m : Me (Unit {0}) AreaView) (making : Option Making) (i : ℕ) → m.0.cell ≡ Writer (sets_of m.0.cell) making → IsIn m.0 who
+pub area_synced : (who slots id : ℕ) (m : Me (Unit {0}) AreaView) (making : Option Making) (i : ℕ) → m.0.cell ≡ Writer (sets_of m.0.cell) making → IsStill m.0 → IsIn m.0 who
     → Allows AreaHolds slots id m i (λ n. n) (λ n after. after ≡ (synced who m.0, m.1))
-area_synced who slots id m making i is free s h size here fits =
+area_synced who slots id m making i is still free s h size here fits =
     let v = m.0 in
     let mo = h.moment in
     let w = world_of s.words mo in
@@ -344,14 +361,14 @@ area_synced who slots id m making i is free s h size here fits =
           (client_who v.clients who (sets_of v.cell))
           (tells w client.began client.list list (Synced n) may)
           (λ _. requests_told client.list (Synced n) ∙ ap requests_in (sym (list_client v.clients who (sets_of v.cell))) ∙ kept.4 who free_now ∙ ap (requests_of who) (sym kept.3))
-          (λ q other. refl) free (λ seat u a live. kept.2),
+          (λ q other. refl) free still (λ seat u a live. kept.2),
       refl,
     )
 
 -- a history is opened, while no client has a seat
-pub area_begun : (opening : LogOpening) (slots id : ℕ) (m : Me (Unit {0}) AreaView) (making : Option Making) (i : ℕ) → m.0.cell ≡ Writer (sets_of m.0.cell) making → m.0.out ≡ []
+pub area_begun : (opening : LogOpening) (slots id : ℕ) (m : Me (Unit {0}) AreaView) (making : Option Making) (i : ℕ) → m.0.cell ≡ Writer (sets_of m.0.cell) making → IsStill m.0 → m.0.out ≡ []
     → Allows AreaHolds slots id m i (λ n. n) (λ n after. after ≡ (opening_with opening m.0, m.1))
-area_begun opening slots id me making i is none s h size here fits =
+area_begun opening slots id me making i is still none s h size here fits =
     let v = me.0 in
     let m = h.moment in
     let view = h.each id v here in
@@ -375,7 +392,8 @@ area_begun opening slots id me making i is none s h size here fits =
         each = λ seat u e. ⊎_elim
             (λ (t : (seat ≡ id) × (new ≡ u)). subst (λ (x : ℕ × AreaView). ViewHolds s.words (record m { out = v.out; seats = v.seats; opening = Some opening; log = v.log }) x.0 x.1) (λ j. (sym t.0 j, t.1 j))
             (own_on s.words m v.out v.seats (Some opening) v.log id v view making is v.clients known.clients
-            (λ q free. kept.4 q (ap (λ (o : List (ℕ × ℕ)). out_seat o q) (sym kept.0) ∙ free) ∙ ap (requests_of q) (sym kept.3))))
+            (λ q free. kept.4 q (ap (λ (o : List (ℕ × ℕ)). out_seat o q) (sym kept.0) ∙ free) ∙ ap (requests_of q) (sym kept.3))
+            v.came (none_comes new still)))
             (λ (t : (seat ≢ id) × (get_elem? s.views seat ≡ some u)).
             view_on s.words m v.out v.seats (Some opening) v.log seat u (λ is_writer. t.0 (is_writer ∙ sym known.writes)) (asked u seat) (h.each seat u t.1))
             (at_set s.views id seat new u e);
@@ -412,9 +430,9 @@ asks w began list request h after more within = record {
 }
 
 -- an entry is recorded
-pub area_noted : (entry : Entry) (slots id : ℕ) (m : Me (Unit {0}) AreaView) (making : Option Making) (i : ℕ) → m.0.cell ≡ Writer (sets_of m.0.cell) making → ComesNext m.0 entry
+pub area_noted : (entry : Entry) (slots id : ℕ) (m : Me (Unit {0}) AreaView) (making : Option Making) (i : ℕ) → m.0.cell ≡ Writer (sets_of m.0.cell) making → IsStill m.0 → ComesNext m.0 entry
     → Allows AreaHolds slots id m i (λ n. n) (λ n after. after ≡ (recording m.0 entry, m.1))
-area_noted entry slots id m making i is next s h size here fits =
+area_noted entry slots id m making i is still next s h size here fits =
     let v = m.0 in
     let mo = h.moment in
     let w = world_of s.words mo in
@@ -440,7 +458,7 @@ area_noted entry slots id m making i is next s h size here fits =
           (λ _. requests_asked client.list request
           ∙ ap (λ (qs : List ClientRequest). qs ++ request ∷ []) (ap requests_in (sym (list_client v.clients who (sets_of v.cell))) ∙ kept.4 who free_now ∙ ap (requests_of who) (sym kept.3))
           ∙ sym (requests_own v.log e))
-          (λ q other. requests_other v.log e q other) free (λ seat u a live. kept.2),
+          (λ q other. requests_other v.log e q other) free still (λ seat u a live. kept.2),
       refl,
     )
 
@@ -492,22 +510,45 @@ clients_stand : (w : World) (clients : List Client) → w.making ≡ None → Cl
 clients_stand w [] none h = tt
 clients_stand w (c ∷ clients) none h =
     let stands = subst (λ (o : Option (List ℕ)). ListStands w.sets o c.began c.list) none h.0.stands in
-    ((stands, λ name. few_by_sets w.sets None c.began c.list stands name), clients_stand w clients none h.1)
+    ((stands, (λ name. few_by_sets w.sets None c.began c.list stands name), h.0.seen), clients_stand w clients none h.1)
 
--- what the clients were told stands in the writer's sets
-pub area_told : (slots id : ℕ) (m : Me (Unit {0}) AreaView) (i : ℕ) → m.0.cell ≡ Writer (sets_of m.0.cell) None
-    → Allows AreaHolds slots id m i (λ n. n) (λ n after. (after ≡ m) × EachClientStands (sets_in m.0) m.0.clients)
-area_told slots id m i is s h size here fits =
+-- a seat that has come in is put away, and what the clients were told stands in the writer's sets
+pub area_put_away : (slots id : ℕ) (m : Me (Unit {0}) AreaView) (i : ℕ) → m.0.cell ≡ Writer (sets_of m.0.cell) None
+    → Allows AreaHolds slots id m i (λ n. n) (λ n after. (after ≡ (put_away m.0, m.1)) × EachClientStands (sets_in m.0) m.0.clients × ArrivalHolds m.0)
+area_put_away slots id m i is s h size here fits =
     let v = m.0 in
     let mo = h.moment in
+    let w = world_of s.words mo in
     let view = h.each id v here in
-    let known = mine s.words mo id v (sets_of v.cell) None view is in (
-      v,
+    let known = mine s.words mo id v (sets_of v.cell) None view is in
+    let kept = known.requests in
+    let new : AreaView = put_away v in (
+      new,
       keeps,
       tt,
-      reads s h i id m.1 v view,
+      reads s h i id m.1 new record {
+        width = view.width;
+        trie = view.trie;
+        part = subst (λ (c : CellView). PartHolds w mo id c new) (sym is) (
+          known.writes,
+          known.sets_are,
+          known.making_is,
+          known.adding_is,
+          known.head_is,
+          known.clients,
+          (kept.0, kept.1, kept.2, kept.3, kept.4, none_comes new refl),
+        );
+      },
       (
         refl,
-        subst (λ (x : List Set). EachClientStands x v.clients) (sym known.sets_are) (clients_stand (world_of s.words mo) v.clients (ap name_of (sym known.making_is)) known.clients),
+        subst (λ (x : List Set). EachClientStands x v.clients) (sym known.sets_are) (clients_stand w v.clients (ap name_of (sym known.making_is)) known.clients),
+        kept.5,
       ),
     )
+
+-- what the seat brought that came in
+pub came_in : (seat : ℕ) (v r w : AreaView) → w ≡ arriving seat v r → ArrivalHolds w
+    → (requests_in r.list ≡ requests_of r.who v.log) × (r.opening ≡ v.opening) × (out_seat v.out r.who ≡ suc seat)
+came_in seat v r w is holds =
+    let arrived : Arrival = record { who = r.who; seat = seat; before = v.out; opening = r.opening } in
+    let t = subst ArrivalHolds is holds arrived refl in (ap requests_in (sym (list_first (client_of r) (others_in v.clients r.who))) ∙ t.2, t.0, t.1)

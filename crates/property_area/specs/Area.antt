@@ -26,6 +26,7 @@ use Rattle.property_trie.specs.declared.view.TrieView.{TrieView}
 use Rattle.property_area.specs.declared.view.LogOpening.{LogOpening}
 use Rattle.property_area.specs.declared.view.LogEntry.{LogEntry}
 use Rattle.property_area.specs.declared.view.Client.{Client}
+use Rattle.property_area.specs.declared.view.Arrival.{Arrival}
 use Rattle.property_area.specs.declared.view.AreaView.{AreaView}
 
 -- the tree, while nodes of a name are added
@@ -120,11 +121,22 @@ abbrev pub ClientsHold : World → List Client → Type 0
 ClientsHold w [] = Unit {0}
 ClientsHold w (c ∷ clients) = ListHolds w c.began c.list × ClientsHold w clients
 
--- the writer's view has the record, and the requests of a client that has no seat are those of the log
+-- what a seat brings that comes in: it knows the recorded opening, it is the one that its client had, and the client's list
+-- has the client's requests
+abbrev pub Brings : AreaView → Arrival → Type 0
+Brings v a =
+    (a.opening ≡ v.opening) × (out_seat a.before a.who ≡ suc a.seat) × (requests_in (list_in v.clients a.who) ≡ requests_of a.who v.log)
+
+abbrev pub ArrivalHolds : AreaView → Type 0
+ArrivalHolds v = (a : Arrival) → v.came ≡ Some a → Brings v a
+
+-- the writer's view has the record, the requests of a client that has no seat are those of the log, and so does a seat that
+-- comes in bring them
 abbrev pub RequestsHold : Moment → AreaView → Type 0
 RequestsHold m v =
     (v.out ≡ m.out) × (v.seats ≡ m.seats) × (v.opening ≡ m.opening) × (v.log ≡ m.log)
     × ((who : ℕ) → out_seat m.out who ≡ 0 → requests_in (list_in v.clients who) ≡ requests_of who m.log)
+    × ArrivalHolds v
 
 -- a reader's opening is the recorded one, its client has this seat, and its list has the client's requests. The view that a
 -- seat leaves which was taken in is excepted
@@ -183,6 +195,7 @@ begins words = record {
   clients = [];
   out = [];
   seats = 1;
+  came = None;
   opening = None;
   log = [];
 }

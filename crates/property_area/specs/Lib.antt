@@ -2,5 +2,4 @@ pub mod Area
 pub mod Seats
 pub mod Readers
 pub mod Meaning
-pub mod Stops
 pub mod Kept

@@ -64,6 +64,7 @@ handed who v = let client = client_in v.clients who (sets_in v) in record {
   clients = [];
   out = [];
   seats = 0;
+  came = None;
   opening = v.opening;
   log = [];
 }
@@ -79,6 +80,15 @@ taking v reader = record v {
   out = without v.out reader.who;
 }
 
+-- the view of the writer while the seat comes in, which is this one, and then
+abbrev pub arriving : ℕ → AreaView → AreaView → AreaView
+arriving seat v reader = record (taking v reader) {
+  came = Some (record { who = reader.who; seat = seat; before = v.out; opening = reader.opening });
+}
+
+abbrev pub put_away : AreaView → AreaView
+put_away v = record v { came = None }
+
 abbrev pub spent : ℕ → AreaView
 spent words = record {
   cell = Reader 0 None;
@@ -91,6 +101,7 @@ spent words = record {
   clients = [];
   out = [];
   seats = 0;
+  came = None;
   opening = None;
   log = [];
 }
@@ -126,10 +137,12 @@ Reads v name (AnswerAgain number first second) before out after =
 abbrev pub caught : ℕ → AreaView → AreaView
 caught count v = let seen = max (seen_by v.cell) count in noted (with_cell v (Reader seen None)) (Caught seen)
 
--- what the client was told stands in these sets, and at most two of its reads of a name met a write for each set of the name
--- since its list began
+-- what the client was told stands in these sets, at most two of its reads of a name met a write for each set of the name
+-- since its list began, and it has seen no more sets than there are
 abbrev pub ClientStands : List AcceptedSet → Client → Type 0
-ClientStands sets client = ListStands sets None client.began client.list × FewAgains sets None client.began client.list
+ClientStands sets client =
+    ListStands sets None client.began client.list × FewAgains sets None client.began client.list
+    × (seen_through (length client.began) client.list ≤ length sets)
 
 abbrev pub EachClientStands : List AcceptedSet → List Client → Type 0
 EachClientStands sets [] = Unit {0}

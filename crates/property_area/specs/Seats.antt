@@ -10,7 +10,7 @@ use Rattle.property_area.specs.declared.area.AreaRefusal.{AreaRefusal}
 use Rattle.property_area.specs.declared.area.AreaRefusal.TheVariants.{TooSmall, TooBig}
 use Rattle.init_machine.specs.Props.{Props}
 use Rattle.property_area.specs.Meaning.{props_of}
-use Rattle.property_area.specs.Area.{Settled, with_trie, with_cell}
+use Rattle.property_area.specs.Area.{Linked, Settled, with_trie, with_cell}
 
 -- which area a seat is of, which of its seats it is, and its view
 pub record Seated : Type 0 where
@@ -30,6 +30,10 @@ HasSize table = (64 ≤ table.words) × (table.words ≤ 1048576)
 abbrev pub sets_in : AreaView → List Set
 sets_in v = sets_of v.cell
 
+-- no seat is coming in
+abbrev pub IsStill : AreaView → Type 0
+IsStill v = v.came ≡ None
+
 -- the view of the writer's seat between its calls: no set is being made, and word 0 is the number of sets
 pub record IsWriterView (table : TableId) (v : AreaView) : Type 0 where
   pub writes : v.cell ≡ Writer (sets_of v.cell) None
@@ -37,6 +41,7 @@ pub record IsWriterView (table : TableId) (v : AreaView) : Type 0 where
   pub rests : IsAtRest v.trie
   pub wide : v.words ≡ table.words
   pub few : length (sets_of v.cell) < 2 ^ 55
+  pub still : IsStill v
 
 -- the view of a reader's seat between its calls
 pub record IsReaderView (table : TableId) (v : AreaView) (number : ℕ) : Type 0 where
@@ -74,9 +79,15 @@ IsSameBeside s t =
 abbrev pub IsResting : AreaView → Type 0
 IsResting v = (number : ℕ) × (v.cell ≡ Reader number None)
 
--- it is still that seat of that area, of that client
+-- the seat still knows each cell that it knew
+pub record KnowsStill (v after : AreaView) : Type 0 where
+  pub cells : (name : List ℕ) (place : ℕ) → Linked v name place → Linked after name place
+
+-- it is still that seat of that area, of that client, with the same opening; what it knows of the trie only grows
 abbrev pub IsSameReader : Seated → Seated → Type 0
-IsSameReader s t = (t.table ≡ s.table) × (t.id ≡ s.id) × (t.view.who ≡ s.view.who) × (t.view.began ≡ s.view.began)
+IsSameReader s t =
+    (t.table ≡ s.table) × (t.id ≡ s.id) × (t.view.who ≡ s.view.who) × (t.view.began ≡ s.view.began)
+    × (t.view.opening ≡ s.view.opening) × KnowsStill s.view t.view
 
 -- it is still that seat of that area
 abbrev pub IsSameSeated : Seated → Seated → Type 0

@@ -1,13 +1,14 @@
 //! The writer gives a client a reader's seat, takes one in, tells a client that has none how many sets there are, and records the
 //! history that it serves.
 
-ghost use Rattle.std.specs.Prelude.{◌≡◌, ℕ, [], IsTrue};
+ghost use Rattle.std.specs.Prelude.{◌≡◌, ℕ, [], IsTrue, None};
 ghost use Rattle.init_machine.specs.declared.input.Input.TheVariants.{Boot};
 ghost use Rattle.init_machine.specs.declared.report.Entry.{Entry};
 ghost use Rattle.serial_value.specs.Steps.{IsSameSeat};
 ghost use Rattle.property_area.specs.declared.view.LogOpening.{LogOpening};
-ghost use Rattle.property_area.specs.Seats.{sets_in, IsUnmaking, IsResting};
-ghost use Rattle.property_area.specs.Readers.{IsIn, handing, handed, taking, synced, recording, opening_of, opening_with, ComesNext, EachClientStands};
+ghost use Rattle.property_area.specs.Area.{ArrivalHolds};
+ghost use Rattle.property_area.specs.Seats.{sets_in, IsUnmaking, IsStill, IsResting};
+ghost use Rattle.property_area.specs.Readers.{IsIn, handing, handed, arriving, put_away, synced, recording, opening_of, opening_with, ComesNext, EachClientStands};
 
 use crate::area::Area;
 use crate::view::AreaView;
@@ -16,15 +17,19 @@ use init_base::ClientId;
 use init_machine::{Config, Entry, PolicyView};
 use std::marker::{Brand, PhantomData};
 
-/// What such a step is about, for proofs alone: the client, and how many words the area has.
+/// What such a step is about, for proofs alone: the client, its seat, and how many words the area has.
 pub(crate) trait Handing {
     ghost who: { ℕ };
+
+    ghost seat: { ℕ };
 
     ghost words: { ℕ };
 }
 
 impl Handing for Brand {
     ghost who = { 0 };
+
+    ghost seat = { 0 };
 
     ghost words = { 0 };
 }
@@ -42,15 +47,15 @@ impl<Q: Handing> Split<AreaView> for HandedOut<Q> {
     ghost right = { handed Q.who };
 }
 
-/// A client's seat is taken in.
+/// A client's seat comes in.
 struct TakenIn<Q> {
     marker: PhantomData<Q>,
 }
 
 impl<Q: Handing> Join<AreaView> for TakenIn<Q> {
-    ghost use Rattle.property_area.specs.Readers.{taking, spent};
+    ghost use Rattle.property_area.specs.Readers.{arriving, spent};
 
-    ghost both = { taking };
+    ghost both = { arriving Q.seat };
 
     ghost spent = { spent Q.words };
 }
@@ -67,15 +72,16 @@ impl<Q: Handing> Play<(), AreaView> for Told<Q> {
     ghost then = { λ st m n after. after ≡ (synced Q.who m.0, m.1) };
 }
 
-/// A load that tells what holds of the lists of the clients that have no seat.
-struct Standing;
+/// A load that puts the seat away that has come in, and tells what holds of it and of the lists of the clients that have no seat.
+struct PutAway;
 
-impl Play<(), AreaView> for Standing {
+impl Play<(), AreaView> for PutAway {
     ghost use Rattle.std.specs.Prelude.{◌≡◌};
+    ghost use Rattle.property_area.specs.Area.{ArrivalHolds};
     ghost use Rattle.property_area.specs.Seats.{sets_in};
-    ghost use Rattle.property_area.specs.Readers.{EachClientStands};
+    ghost use Rattle.property_area.specs.Readers.{put_away, EachClientStands};
 
-    ghost then = { λ st m n after. (after ≡ m) × EachClientStands (sets_in m.0) m.0.clients };
+    ghost then = { λ st m n after. (after ≡ (put_away m.0, m.1)) × EachClientStands (sets_in m.0) m.0.clients × ArrivalHolds m.0 };
 }
 
 /// The client's seat, split off the writer's. Which client it is, only the views say.
@@ -86,24 +92,24 @@ pub(crate) fn split_off<Q: Handing>(
 ) -> Seat<(), AreaView>
     requires asked { _who.0 ≡ Q.who }
     requires table { seat.old.table_id ≡ area.now }
-    requires writer { IsUnmaking seat.old.me.0 × IsIn seat.old.me.0 Q.who }
+    requires writer { IsUnmaking seat.old.me.0 × IsStill seat.old.me.0 × IsIn seat.old.me.0 Q.who }
     ensures writer { IsSameSeat seat.old seat.new × (seat.new.me ≡ (handing Q.who seat.old.me.0, seat.old.me.1)) }
     ensures reader { (result.table_id ≡ area.now) × (result.me ≡ (handed Q.who seat.old.me.0, [])) }
 {
     area.table.shared.split_seat::<HandedOut<Q>>(seat)
 }
 
-/// The writer takes the client's seat in.
+/// The client's seat comes in to the writer's. Which seat it is, only the view says.
 pub(crate) fn join_in<Q: Handing>(
     area: &Area,
     seat: &mut Seat<(), AreaView>,
     reader: Seat<(), AreaView>,
 )
     requires table { (seat.old.table_id ≡ area.now) × (reader.table_id ≡ area.now) × (reader.me.1 ≡ []) }
-    requires writer { IsUnmaking seat.old.me.0 × (seat.old.me.0.words ≡ Q.words) }
-    requires reader { IsResting reader.me.0 × IsTrue reader.me.0.trie.live }
+    requires writer { IsUnmaking seat.old.me.0 × IsStill seat.old.me.0 × (seat.old.me.0.words ≡ Q.words) }
+    requires reader { (reader.id ≡ Q.seat) × IsResting reader.me.0 × IsTrue reader.me.0.trie.live }
     ensures seat { IsSameSeat seat.old seat.new }
-    ensures view { seat.new.me ≡ (taking seat.old.me.0 reader.me.0, seat.old.me.1) }
+    ensures view { seat.new.me ≡ (arriving Q.seat seat.old.me.0 reader.me.0, seat.old.me.1) }
 {
     area.table.shared.join_seat::<TakenIn<Q>>(seat, reader);
 }
@@ -112,21 +118,22 @@ pub(crate) fn join_in<Q: Handing>(
 pub(crate) fn tell_count<Q: Handing>(area: &Area, seat: &mut Seat<(), AreaView>, _who: ClientId)
     requires asked { _who.0 ≡ Q.who }
     requires table { seat.old.table_id ≡ area.now }
-    requires writer { IsUnmaking seat.old.me.0 × IsIn seat.old.me.0 Q.who }
+    requires writer { IsUnmaking seat.old.me.0 × IsStill seat.old.me.0 × IsIn seat.old.me.0 Q.who }
     ensures seat { IsSameSeat seat.old seat.new }
     ensures view { seat.new.me ≡ (synced Q.who seat.old.me.0, seat.old.me.1) }
 {
     area.table.shared.load::<Told<Q>>(seat, 0);
 }
 
-/// What the clients that have no seat were told stands.
-pub(crate) fn clients_stand(area: &Area, seat: &mut Seat<(), AreaView>)
+/// The seat that has come in is put away. What it brought holds, and what the clients that have no seat were told stands.
+pub(crate) fn put_in_place(area: &Area, seat: &mut Seat<(), AreaView>)
     requires table { seat.old.table_id ≡ area.now }
     requires writer { IsUnmaking seat.old.me.0 }
-    ensures seat { IsSameSeat seat.old seat.new × (seat.new.me ≡ seat.old.me) }
+    ensures seat { IsSameSeat seat.old seat.new × (seat.new.me ≡ (put_away seat.old.me.0, seat.old.me.1)) }
     ensures stand { EachClientStands (sets_in seat.old.me.0) seat.old.me.0.clients }
+    ensures arrival { ArrivalHolds seat.old.me.0 }
 {
-    area.table.shared.load::<Standing>(seat, 0);
+    area.table.shared.load::<PutAway>(seat, 0);
 }
 
 /// What such a record is about, for proofs alone.
@@ -177,7 +184,7 @@ impl<Q: Opens> Play<(), AreaView> for Opened<Q> {
 pub(crate) fn record_entry<Q: Recording>(area: &Area, seat: &mut Seat<(), AreaView>, _entry: &Entry)
     requires asked { _entry.now ≡ Q.entry }
     requires table { seat.old.table_id ≡ area.now }
-    requires writer { IsUnmaking seat.old.me.0 × ComesNext seat.old.me.0 Q.entry }
+    requires writer { IsUnmaking seat.old.me.0 × IsStill seat.old.me.0 × ComesNext seat.old.me.0 Q.entry }
     ensures seat { IsSameSeat seat.old seat.new }
     ensures view { seat.new.me ≡ (recording seat.old.me.0 Q.entry, seat.old.me.1) }
 {
@@ -193,7 +200,7 @@ pub(crate) fn open_log<P: PolicyView, Q: Opens>(
 )
     requires asked { Q.opening ≡ opening_of _config.now (P.lines _policy.now) seat.old.me.0.words }
     requires table { seat.old.table_id ≡ area.now }
-    requires writer { IsUnmaking seat.old.me.0 × (seat.old.me.0.out ≡ []) }
+    requires writer { IsUnmaking seat.old.me.0 × IsStill seat.old.me.0 × (seat.old.me.0.out ≡ []) }
     ensures seat { IsSameSeat seat.old seat.new }
     ensures view { seat.new.me ≡ (opening_with Q.opening seat.old.me.0, seat.old.me.1) }
 {

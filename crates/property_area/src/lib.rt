@@ -12,8 +12,6 @@ mod head;
 mod reader;
 mod room;
 mod rule;
-#[cfg(test)]
-mod stops;
 mod store;
 #[cfg(test)]
 mod tests;

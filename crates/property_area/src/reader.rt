@@ -3,7 +3,7 @@
 ghost use Rattle.std.specs.Prelude.{◌≡◌, ◌≤◌, [], max, None};
 ghost use Rattle.init_machine.specs.Orderly.{seen_again};
 ghost use Rattle.serial_value.specs.Steps.{IsSameSeat};
-ghost use Rattle.property_area.specs.Seats.{IsReaderView};
+ghost use Rattle.property_area.specs.Seats.{IsReaderView, KnowsStill};
 ghost use Rattle.property_area.specs.Readers.{Reads, seen_in};
 
 use crate::area::Area;
@@ -73,7 +73,7 @@ fn read_once(
     requires reader { (seat.old.table_id ≡ area.now) × (seat.old.me.1 ≡ []) × IsReaderView seat.old.table_id seat.old.me.0 number }
     ensures seat { IsSameSeat seat.old seat.new × (seat.new.me.1 ≡ []) }
     ensures told { Reads seat.old.me.0 name.entry.bytes.now result out.old out.new seat.new.me.0
-        × IsReaderView seat.old.table_id seat.new.me.0 (seen_in result) }
+        × IsReaderView seat.old.table_id seat.new.me.0 (seen_in result) × KnowsStill seat.old.me.0 seat.new.me.0 }
 {
     let Some(at) = find(&area.table, seat, name) else {
         return ReadAnswer::Absent { number };

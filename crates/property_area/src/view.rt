@@ -34,10 +34,18 @@ pub struct Client {
     pub list: LinkedList<ClientItem>,
 }
 
+/// A seat that has just come in: its client, its number, who had which seat before, and the opening that it knows.
+pub struct Arrival {
+    pub who: u64,
+    pub seat: u64,
+    pub before: LinkedList<(u64, u64)>,
+    pub opening: Option<LogOpening>,
+}
+
 /// The writer's part is in `cell`, `head` (the number that word 0 has), `clients` (those that were there and have no seat
-/// now), `out` (those that have one, each with the number of its seat), `seats` (how many seats there were), `opening` and
-/// `log` (the recorded history); a reader's in `cell`, `who` (its client), `began` and `list` (the client's), and `opening`. Of
-/// each seat `trie` is what it knows of the trie, and `words` the number of words.
+/// now), `out` (those that have one, each with the number of its seat), `seats` (how many seats there were), `came` (a seat,
+/// while it comes in), `opening` and `log` (the recorded history); a reader's in `cell`, `who` (its client), `began` and
+/// `list` (the client's), and `opening`. Of each seat `trie` is what it knows of the trie, and `words` the number of words.
 pub struct AreaView {
     pub cell: CellView,
     pub who: u64,
@@ -49,6 +57,7 @@ pub struct AreaView {
     pub clients: LinkedList<Client>,
     pub out: LinkedList<(u64, u64)>,
     pub seats: u64,
+    pub came: Option<Arrival>,
     pub opening: Option<LogOpening>,
     pub log: LinkedList<LogEntry>,
 }

@@ -3,7 +3,7 @@
 ghost use Rattle.std.specs.Prelude.{◌≡◌};
 
 use crate::area::{Area, WriterSeat};
-use crate::handing::{clients_stand, join_in, open_log, record_entry, split_off, tell_count};
+use crate::handing::{join_in, open_log, put_in_place, record_entry, split_off, tell_count};
 use crate::reader::Reader;
 use crate::room::check_room;
 use crate::store::{look_up, need_if_new, set};
@@ -73,7 +73,8 @@ impl<'a> AreaWriter<'a> {
 }
 
 impl<'a> AreaWriter<'a> {
-    ghost use Rattle.std.specs.Prelude.{◌≡◌, [], IsOkAnd, length};
+    ghost use Rattle.std.specs.Prelude.{◌≡◌, [], IsOkAnd, length, suc};
+    ghost use Rattle.property_area.specs.Area.{requests_in, requests_of, out_seat};
     ghost use Rattle.property_area.specs.Seats.{sets_in, IsSameSeated};
     ghost use Rattle.property_area.specs.Readers.{IsIn, handing, handed, taking, synced as with_synced, recording, opening_of, opening_with, ComesNext, IsAnswered, ClientStands, client_of};
 
@@ -89,13 +90,18 @@ impl<'a> AreaWriter<'a> {
         Ok(Reader { seat, who, number })
     }
 
-    /// Takes a client's seat in, and answers which client it is. What the client was told stands in the sets, and at most two
-    /// of its reads of a name met a write for each set of the name since its list began.
+    /// Takes a client's seat in, and answers which client it is. What the client was told stands in the sets, at most two of
+    /// its reads of a name met a write for each set of the name since its list began, and it has seen no more sets than there
+    /// are. The requests in its list are those of the record that are its own, the reader knows the recorded opening, and it
+    /// was the one seat that the client had.
     pub fn take_in(&mut self, reader: Reader) -> ClientId
         requires area { reader.table ≡ self.old.table }
         ensures client { result.0 ≡ reader.view.who }
         ensures writer { IsSameSeated self.old self.new × (self.new.view ≡ taking self.old.view reader.view) }
         ensures stands { ClientStands (sets_in self.old.view) (client_of reader.view) }
+        ensures requests { requests_in reader.view.list ≡ requests_of reader.view.who self.old.view.log }
+        ensures opening { reader.view.opening ≡ self.old.view.opening }
+        ensures only { out_seat self.old.view.out reader.view.who ≡ suc reader.id }
     {
         let Reader {
             seat,
@@ -103,7 +109,7 @@ impl<'a> AreaWriter<'a> {
             number: _,
         } = reader;
         join_in::<Brand>(self.area, &mut self.seat, seat);
-        clients_stand(self.area, &mut self.seat);
+        put_in_place(self.area, &mut self.seat);
         who
     }
 

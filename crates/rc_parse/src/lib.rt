@@ -30,6 +30,3 @@ pub use merging::{Merger, one_service_of_a_name};
 pub use parsed::{Import, Parsed};
 pub use places::{lines_have_their_places, one_meaning};
 pub use sections::parse;
-
-#[cfg(test)]
-mod tests;

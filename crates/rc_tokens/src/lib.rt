@@ -17,6 +17,3 @@ mod tokens;
 pub use line::{Line, LineSlice};
 pub use read::{lines, lines_ascend, one_reading};
 pub use tokens::{TokenRefusal, Tokens};
-
-#[cfg(test)]
-mod tests;

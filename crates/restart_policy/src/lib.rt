@@ -5,8 +5,6 @@
 #![tactic(auto)]
 
 mod exits;
-#[cfg(test)]
-mod tests;
 mod times;
 
 pub use exits::ExitCounts;

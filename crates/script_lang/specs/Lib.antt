@@ -3,6 +3,7 @@ pub mod Statements
 pub mod Script
 pub mod Refusal
 pub mod Inputs
+pub mod Merges
 pub mod Reading
 pub mod Gathering
 pub mod Ordering

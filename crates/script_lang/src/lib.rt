@@ -25,6 +25,3 @@ pub use laws::{
 pub use reader::read;
 pub use refusal::ScriptRefusal;
 pub use script::{Act, Ask, Client, Script};
-
-#[cfg(test)]
-mod tests;

@@ -4,5 +4,4 @@ pub mod Steps
 pub mod World
 pub mod History
 pub mod One
-pub mod Stops
 pub mod Kept

@@ -14,8 +14,6 @@ mod one;
 mod read;
 mod rule;
 mod steps;
-#[cfg(test)]
-mod tests;
 mod view;
 mod words;
 mod write;

@@ -12,6 +12,3 @@ mod table;
 
 pub use operation::step;
 pub use table::Table;
-
-#[cfg(test)]
-mod tests;

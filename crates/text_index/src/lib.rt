@@ -65,6 +65,3 @@ impl TextIndex {
         Ok(place)
     }
 }
-
-#[cfg(test)]
-mod tests;

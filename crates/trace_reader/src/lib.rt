@@ -22,6 +22,3 @@ mod table;
 mod word;
 
 pub use reader::read;
-
-#[cfg(test)]
-mod tests;

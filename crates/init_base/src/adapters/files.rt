@@ -1,10 +1,13 @@
 //! Files over a folder of the machine.
 
-ghost use Rattle.std.specs.Prelude.{◌≡◌, ◌≤◌, None, ℕ, List, IfOk, length};
+ghost use Rattle.std.specs.Prelude.{◌≡◌, ◌≤◌, None, true, ℕ, List, IfOk, length};
+ghost use Rattle.init_base.specs.Resolve.{is_below_root};
 
 use super::count::{count, has_read_failed};
 use super::fault::{Fault, fault_at};
-use super::machine::{MachineRefusal, is_absent, join, open, path_of, read_file};
+use super::machine::{MachineRefusal, is_absent, join, path_of};
+use super::machine_links::{MachineLinks, folder_path, no_way, read_place, resolve_path};
+use super::resolve::{End, resolve};
 use crate::list::List;
 use crate::memory::NoMemory;
 use crate::outside::files::Files;
@@ -19,7 +22,8 @@ use std::marker::Model;
 /// The most names that a directory may list.
 const MAX_NAMES: usize = 1_024;
 
-/// The files below a folder of the machine, its root. A path of the tree is appended to the root's.
+/// The files below a folder of the machine, its root. A path of the tree is resolved as on a device whose root directory
+/// that folder is: no link and no `..` leads out of it.
 #[derive(Drop)]
 pub struct StdFiles<'a, R: fs::Files + AllocGlobal + Clone + Drop> {
     rt: &'a R,
@@ -89,7 +93,11 @@ impl<R: fs::Files + AllocGlobal + Clone + Drop> Files for StdFiles<'_, R> {
     }
 
     fn list(&mut self, alloc: Global, dir: &[u8]) -> Result<Option<List<Text>>, ReadRefusal> {
-        let outcome = match list_folder(self.rt, alloc, &self.root, dir) {
+        let tree = MachineLinks {
+            rt: self.rt,
+            root: &self.root,
+        };
+        let outcome = match list_folder(&tree, alloc, dir) {
             Ok(names) => Ok(Some(names)),
             Err(refusal) => self.refused(alloc, dir, refusal),
         };
@@ -103,7 +111,11 @@ impl<R: fs::Files + AllocGlobal + Clone + Drop> Files for StdFiles<'_, R> {
         path: &[u8],
         limit: usize,
     ) -> Result<Option<Text>, ReadRefusal> {
-        let outcome = match read_plain_file(self.rt, alloc, &self.root, path, limit) {
+        let tree = MachineLinks {
+            rt: self.rt,
+            root: &self.root,
+        };
+        let outcome = match read_plain_file(&tree, alloc, path, limit) {
             Ok(text) => Ok(Some(text)),
             Err(refusal) => self.refused(alloc, path, refusal),
         };
@@ -112,68 +124,63 @@ impl<R: fs::Files + AllocGlobal + Clone + Drop> Files for StdFiles<'_, R> {
     }
 }
 
-/// The path of the root, and then the path of the tree, if a file of the machine can have it: it is absolute, and
-/// UTF-8 with no NUL.
-fn machine_path(alloc: Global, root: &Text, path: &[u8]) -> Result<Text, MachineRefusal> {
-    let can_be = path.starts_with(b"/") && !path.contains(&0) && std::str::from_utf8(path).is_ok();
-    if !can_be {
-        return Err(MachineRefusal::System(Error::from(ErrorKind::NotFound)));
-    }
-    Ok(join(alloc, root.bytes(), path)?)
-}
-
-/// The bytes of a plain file.
+/// The bytes of the plain file to which a path leads.
 fn read_plain_file<R: fs::Files>(
-    rt: &R,
+    tree: &MachineLinks<'_, R>,
     alloc: Global,
-    root: &Text,
     path: &[u8],
     limit: usize,
 ) -> Result<Text, MachineRefusal>
     ensures { IfOk result (λ text. length text ≤ limit) }
 {
-    let path = machine_path(alloc, root, path)?;
-    if !is_plain_file(rt, path_of(&path)?)? {
-        let error = Error::new(ErrorKind::NotFound, "not a plain file");
-        return Err(MachineRefusal::System(error));
+    let lead = resolve_path(tree, alloc, path)?;
+    match lead.end {
+        End::PlainFile => read_place(tree, alloc, &lead.place, limit),
+        End::Directory | End::Other => {
+            let error = Error::new(ErrorKind::NotFound, "not a plain file");
+            Err(MachineRefusal::System(error))
+        }
+        End::Nothing | End::NotDirectory | End::TooManyLinks => Err(no_way(lead.end)),
     }
-    let file = open(rt, &path)?;
-    read_file(alloc, file, limit)
-}
-
-/// Whether a plain file has the path, where something has it.
-fn is_plain_file<R: fs::Files>(rt: &R, path: &str) -> Result<bool, Error> {
-    Ok(rt.metadata(path)?.is_file())
 }
 
 /// The names of the plain files of a folder.
 fn list_folder<R: fs::Files + AllocGlobal + Clone + Drop>(
-    rt: &R,
+    tree: &MachineLinks<'_, R>,
     alloc: Global,
-    root: &Text,
     dir: &[u8],
 ) -> Result<List<Text>, MachineRefusal>
     ensures { IfOk result (λ names. length names ≤ 1024) }
 {
-    let path = machine_path(alloc, root, dir)?;
-    let names = plain_names(rt, alloc, fs::read_dir(rt, path_of(&path)?)?)?;
+    let lead = resolve_path(tree, alloc, dir)?;
+    if !matches!(lead.end, End::Directory) {
+        return Err(no_way(lead.end));
+    }
+    let path = folder_path(tree, alloc, &lead.place)?;
+    let entries = fs::read_dir(tree.rt, path_of(&path)?)?;
+    let names = plain_names(tree, alloc, &lead.place, entries)?;
     if names.len() > MAX_NAMES {
         return Err(MachineRefusal::TooLarge);
     }
     Ok(names)
 }
 
-/// The names of the plain files, at most one more than may be listed.
+/// The names of the plain files among the entries of a folder, as seen through links; at most one more than may be
+/// listed.
 fn plain_names<R: fs::Files + AllocGlobal + Clone + Drop>(
-    rt: &R,
+    tree: &MachineLinks<'_, R>,
     alloc: Global,
+    folder: &List<Text>,
     entries: ReadDir<R, Global>,
-) -> Result<List<Text>, MachineRefusal> {
+) -> Result<List<Text>, MachineRefusal>
+    requires { is_below_root folder.now ≡ true }
+{
     let mut names = List::new(alloc);
     for entry in entries {
         let entry = entry?;
-        if is_listed(rt, entry.path().as_str())? {
-            names.push(Text::of(alloc, entry.file_name().as_bytes())?)?;
+        let name = entry.file_name().as_bytes();
+        if is_listed(tree, alloc, folder, name)? {
+            names.push(Text::of(alloc, name)?)?;
         }
         if names.len() > MAX_NAMES {
             break;
@@ -182,10 +189,19 @@ fn plain_names<R: fs::Files + AllocGlobal + Clone + Drop>(
     Ok(names)
 }
 
-/// Whether an entry of a folder is a plain file. One that is gone, as a link to nothing, is none.
-fn is_listed<R: fs::Files>(rt: &R, path: &str) -> Result<bool, Error> {
-    match is_plain_file(rt, path) {
-        Err(error) if is_absent(&error) => Ok(false),
-        outcome => outcome,
+/// Whether an entry of a folder leads to a plain file. One that is gone, as a link to nothing or in a circle, leads to
+/// none.
+fn is_listed<R: fs::Files>(
+    tree: &MachineLinks<'_, R>,
+    alloc: Global,
+    folder: &List<Text>,
+    name: &[u8],
+) -> Result<bool, MachineRefusal>
+    requires { is_below_root folder.now ≡ true }
+{
+    match resolve(tree, alloc, folder, name) {
+        Ok(lead) => Ok(matches!(lead.end, End::PlainFile)),
+        Err(MachineRefusal::System(error)) if is_absent(&error) => Ok(false),
+        Err(refusal) => Err(refusal),
     }
 }

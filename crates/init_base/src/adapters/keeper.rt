@@ -4,26 +4,33 @@ ghost use Rattle.std.specs.Prelude.{◌≡◌, ◌≤◌, None, ℕ, List, IfOk,
 
 use super::count::{count, has_read_failed, has_write_failed};
 use super::fault::{Fault, fault_at};
-use super::machine::{MachineRefusal, is_absent, join, open, path_of, read_file};
+use super::folders::{make_folders, sync_folder};
+use super::machine::{MachineRefusal, is_absent, join, path_of};
+use super::machine_links::{MachineLinks, folder_path, no_way, read_place, resolve_path};
+use super::resolve::End;
 use crate::memory::NoMemory;
 use crate::outside::keeper::Keeper;
 use crate::outside::refusal::{IoRefusal, ReadRefusal};
 use crate::text::Text;
 use std::alloc::Global;
 use std::fs;
-use std::fs::OpenFile;
-use std::io::{Error, Write};
+use std::fs::{File, OpenFile};
+use std::io::{Error, ErrorKind, Write};
 use std::marker::Model;
 
 /// What stands behind the path of the file that is written before it takes the place of the old one.
 const NEW: &[u8] = b".new";
 
-/// The text of a file of the machine; an absent file is the empty text. A new text is written into a file beside it,
-/// whose name ends in `.new`, and reaches the disk before that file takes the place of the old one. It tells nothing of
-/// a crash.
+/// The text of a file below a folder of the machine, its root; an absent file is the empty text. The file's path is
+/// resolved as on a device whose root directory that folder is: no link and no `..` leads out of it.
+///
+/// A new text is written into a new file beside the old one, whose name ends in `.new`, and reaches the disk before that
+/// file takes the place of the old one, or of a link; then the folder reaches the disk. Folders that lack on the way are
+/// made. It tells nothing of a crash.
 #[derive(Drop)]
 pub struct StdKeeper<'a, R: fs::Files> {
     rt: &'a R,
+    root: Text,
     path: Text,
     faults: u64,
     last_fault: Option<Fault>,
@@ -38,12 +45,29 @@ impl<'a, R: fs::Files> Model for StdKeeper<'a, R> {
 }
 
 impl<'a, R: fs::Files> StdKeeper<'a, R> {
-    /// The file with this path of the machine.
-    pub fn at(rt: &'a R, _alloc: Global, path: &Text) -> Result<StdKeeper<'a, R>, NoMemory>
+    /// The file with this path of the machine, below its folder.
+    pub fn at(rt: &'a R, alloc: Global, path: &Text) -> Result<StdKeeper<'a, R>, NoMemory>
+        ensures { IfOk result (λ keeper. keeper ≡ 0) }
+    {
+        match parted(path.bytes()) {
+            Some((folder, name)) => {
+                let name = join(alloc, b"/", name)?;
+                StdKeeper::below(rt, &Text::of(alloc, folder)?, &name)
+            }
+            None => {
+                let name = join(alloc, b"/", path.bytes())?;
+                StdKeeper::below(rt, &Text::of(alloc, b".")?, &name)
+            }
+        }
+    }
+
+    /// The file with this path of the tree below a folder of the machine.
+    pub fn below(rt: &'a R, root: &Text, path: &Text) -> Result<StdKeeper<'a, R>, NoMemory>
         ensures { IfOk result (λ keeper. keeper ≡ 0) }
     {
         Ok(StdKeeper {
             rt,
+            root: root.share()?,
             path: path.share()?,
             faults: 0,
             last_fault: None,
@@ -60,10 +84,14 @@ impl<'a, R: fs::Files> StdKeeper<'a, R> {
         ensures bound { IfOk result (λ text. length text ≤ limit) }
         ensures count { self.new ≡ self.old }
     {
-        match read_if_there(self.rt, alloc, &self.path, limit) {
+        let tree = MachineLinks {
+            rt: self.rt,
+            root: &self.root,
+        };
+        match read_if_there(&tree, alloc, self.path.bytes(), limit) {
             Ok(text) => Ok(text),
             Err(MachineRefusal::System(error)) => {
-                self.last_fault = fault_at(self.path.share(), error);
+                self.keep_fault(alloc, error);
                 Err(ReadRefusal::Failed)
             }
             Err(MachineRefusal::TooLarge) => Err(ReadRefusal::TooLarge),
@@ -75,14 +103,27 @@ impl<'a, R: fs::Files> StdKeeper<'a, R> {
     fn try_replace(&mut self, alloc: Global, content: &[u8]) -> Result<(), IoRefusal>
         ensures { self.new ≡ self.old }
     {
-        let beside = join(alloc, self.path.bytes(), NEW)?;
-        match replace_file(self.rt, &self.path, &beside, content) {
+        let tree = MachineLinks {
+            rt: self.rt,
+            root: &self.root,
+        };
+        match replace_file(&tree, alloc, self.path.bytes(), content) {
             Ok(()) => Ok(()),
-            Err(error) => {
-                self.last_fault = fault_at(self.path.share(), error);
+            Err(MachineRefusal::NoMemory) => Err(IoRefusal::NoMemory),
+            Err(MachineRefusal::System(error)) => {
+                self.keep_fault(alloc, error);
                 Err(IoRefusal::Failed)
             }
+            // no text is read
+            Err(MachineRefusal::TooLarge) => Err(IoRefusal::Failed),
         }
+    }
+
+    /// Keeps what the system said.
+    fn keep_fault(&mut self, alloc: Global, error: Error)
+        ensures { self.new ≡ self.old }
+    {
+        self.last_fault = fault_at(join(alloc, self.root.bytes(), self.path.bytes()), error);
     }
 }
 
@@ -118,34 +159,72 @@ impl<R: fs::Files> Keeper for StdKeeper<'_, R> {
 
 /// The bytes of a file, or none where nothing has the path.
 fn read_if_there<R: fs::Files>(
-    rt: &R,
+    tree: &MachineLinks<'_, R>,
     alloc: Global,
-    path: &Text,
+    path: &[u8],
     limit: usize,
 ) -> Result<Text, MachineRefusal>
     ensures { IfOk result (λ text. length text ≤ limit) }
 {
-    match open(rt, path) {
-        Ok(file) => read_file(alloc, file, limit),
-        Err(error) if is_absent(&error) => Ok(Text::empty()),
-        Err(error) => Err(MachineRefusal::from(error)),
+    match read_existing(tree, alloc, path, limit) {
+        Err(MachineRefusal::System(error)) if is_absent(&error) => Ok(Text::empty()),
+        outcome => outcome,
     }
 }
 
-/// Writes the content into the file beside, and moves that to the path.
-fn replace_file<R: fs::Files>(
-    rt: &R,
-    path: &Text,
-    beside: &Text,
-    content: &[u8],
-) -> Result<(), Error> {
-    write_file(rt, beside, content)?;
-    fs::rename(rt, path_of(beside)?, path_of(path)?)
+/// The bytes of the file to which a path leads.
+fn read_existing<R: fs::Files>(
+    tree: &MachineLinks<'_, R>,
+    alloc: Global,
+    path: &[u8],
+    limit: usize,
+) -> Result<Text, MachineRefusal>
+    ensures { IfOk result (λ text. length text ≤ limit) }
+{
+    let lead = resolve_path(tree, alloc, path)?;
+    match lead.end {
+        End::PlainFile => read_place(tree, alloc, &lead.place, limit),
+        End::Other => {
+            let error = Error::new(ErrorKind::InvalidInput, "not a plain file");
+            Err(MachineRefusal::System(error))
+        }
+        end => Err(no_way(end)),
+    }
 }
 
-/// Writes a file, and waits until it reaches the disk.
-fn write_file<R: fs::Files>(rt: &R, path: &Text, content: &[u8]) -> Result<(), Error> {
-    let mut file = fs::create(rt, path_of(path)?)?;
+/// The folder and the name of a path. None where it has no folder.
+fn parted(path: &[u8]) -> Option<(&[u8], &[u8])> {
+    let at = path.iter().rposition(|byte| *byte == b'/')?;
+    Some((&path[..at], &path[at + 1..]))
+}
+
+/// Makes the folders that lack, writes the content into a new file, and moves that to the path.
+fn replace_file<R: fs::Files>(
+    tree: &MachineLinks<'_, R>,
+    alloc: Global,
+    path: &[u8],
+    content: &[u8],
+) -> Result<(), MachineRefusal> {
+    let Some((folder, name)) = parted(path) else {
+        return Err(MachineRefusal::System(Error::from(ErrorKind::NotFound)));
+    };
+    let folder = folder_path(tree, alloc, &make_folders(tree, alloc, folder)?)?;
+    let file = join(alloc, folder.bytes(), name)?;
+    let new = join(alloc, file.bytes(), NEW)?;
+    write_new(tree.rt, path_of(&new)?, content)?;
+    fs::rename(tree.rt, path_of(&new)?, path_of(&file)?)?;
+    sync_folder(tree.rt, path_of(&folder)?)?;
+    Ok(())
+}
+
+/// Writes a new file, in place of what an earlier run may have left, and waits until it reaches the disk. A link isn't
+/// followed.
+fn write_new<R: fs::Files>(rt: &R, path: &str, content: &[u8]) -> Result<(), Error> {
+    match fs::remove_file(rt, path) {
+        Err(error) if error.kind() == ErrorKind::NotFound => {}
+        outcome => outcome?,
+    }
+    let mut file = File::create_new(rt, path)?;
     file.write_all(content)?;
     file.sync_all()
 }

@@ -5,6 +5,7 @@ use Rattle.std.proofs.Math.ListN.{drop_of_length-le}
 use Rattle.script_lang.specs.Inputs.{act_inputs}
 use Rattle.script_lang.specs.Laws.{IsAskAmong}
 use Rattle.init_driver.specs.Course.{place_of, told_from}
+use Rattle.init_driver.specs.Keeper.{seen_by}
 use Rattle.init_driver.specs.declared.traced.Traced.{Traced}
 use Rattle.init_driver.proofs.Courses.{Going, act_left, acts_left, gone, going_begins, going_ends, going_on, going_stops, after_same, same_place}
 use Rattle.init_driver.proofs.Reached.{reached_within}
@@ -21,53 +22,53 @@ tell-requires g c =
 
 pub take_act-requires : goal.take_act-requires
 take_act-requires g c =
-    let a = place_of c.args.traced.now (g.K.Sink.taken c.args.out.now) (g.P.Keeper.held c.args.keeper.now) in
+    let a = place_of c.args.traced.now (g.K.Sink.taken c.args.out.now) (seen_by g.P.Keeper.held g.P.Keeper.TellsCrash g.P.Keeper.moment g.P.Keeper.MayLeave c.args.keeper.now) in
     let told : Traced = record { core = c.tell.new.core; printer = c.loop-act.traced.printer } in
     let ok = c.in_ok-tell.ensures in
-    let same = same_place c.loop-act.traced told (g.K.Sink.taken c.loop-act.out) (g.P.Keeper.held c.loop-act.keeper) ok.config ok.policy ok.state refl in
+    let same = same_place c.loop-act.traced told (g.K.Sink.taken c.loop-act.out) (seen_by g.P.Keeper.held g.P.Keeper.TellsCrash g.P.Keeper.moment g.P.Keeper.MayLeave c.loop-act.keeper) ok.config ok.policy ok.state refl in
     let left = flat_map act_inputs (drop c.loop-act.act-index c.args.acts.now) in
-    reached_within (flat_map act_inputs c.args.acts.now) left a (place_of told (g.K.Sink.taken c.loop-act.out) (g.P.Keeper.held c.loop-act.keeper))
+    reached_within (flat_map act_inputs c.args.acts.now) left a (place_of told (g.K.Sink.taken c.loop-act.out) (seen_by g.P.Keeper.held g.P.Keeper.TellsCrash g.P.Keeper.moment g.P.Keeper.MayLeave c.loop-act.keeper))
     (subst (Going (flat_map act_inputs c.args.acts.now) left a) same c.loop-act.invariant.going) c.requires.reached
 
 pub returns-in_err-tell-clause-takes : goal.returns-in_err-tell-clause-takes
 returns-in_err-tell-clause-takes g c =
     let p = err_from_is_err_and c.from_residual.result c.from_residual.ensures.1 in
-    let a = place_of c.args.traced.now (g.K.Sink.taken c.args.out.now) (g.P.Keeper.held c.args.keeper.now) in
+    let a = place_of c.args.traced.now (g.K.Sink.taken c.args.out.now) (seen_by g.P.Keeper.held g.P.Keeper.TellsCrash g.P.Keeper.moment g.P.Keeper.MayLeave c.args.keeper.now) in
     let told : Traced = record { core = c.tell.new.core; printer = c.loop-act.traced.printer } in
     let err = c.in_err-tell.ensures in
-    let same = same_place c.loop-act.traced told (g.K.Sink.taken c.loop-act.out) (g.P.Keeper.held c.loop-act.keeper) err.config err.policy err.state refl in
+    let same = same_place c.loop-act.traced told (g.K.Sink.taken c.loop-act.out) (seen_by g.P.Keeper.held g.P.Keeper.TellsCrash g.P.Keeper.moment g.P.Keeper.MayLeave c.loop-act.keeper) err.config err.policy err.state refl in
     let left = flat_map act_inputs (drop c.loop-act.act-index c.args.acts.now) in
     rw (p.1, p.2)
-    (going_ends (flat_map act_inputs c.args.acts.now) left a (place_of told (g.K.Sink.taken c.loop-act.out) (g.P.Keeper.held c.loop-act.keeper))
+    (going_ends (flat_map act_inputs c.args.acts.now) left a (place_of told (g.K.Sink.taken c.loop-act.out) (seen_by g.P.Keeper.held g.P.Keeper.TellsCrash g.P.Keeper.moment g.P.Keeper.MayLeave c.loop-act.keeper))
     (subst (Going (flat_map act_inputs c.args.acts.now) left a) same c.loop-act.invariant.going))
 
 pub returns-in_err-take_act-clause-takes : goal.returns-in_err-take_act-clause-takes
 returns-in_err-take_act-clause-takes g c =
     let p = err_from_is_err_and c.from_residual-in_err-take_act.result c.from_residual-in_err-take_act.ensures.1 in
-    let a = place_of c.args.traced.now (g.K.Sink.taken c.args.out.now) (g.P.Keeper.held c.args.keeper.now) in
+    let a = place_of c.args.traced.now (g.K.Sink.taken c.args.out.now) (seen_by g.P.Keeper.held g.P.Keeper.TellsCrash g.P.Keeper.moment g.P.Keeper.MayLeave c.args.keeper.now) in
     let told : Traced = record { core = c.tell.new.core; printer = c.loop-act.traced.printer } in
     let ok = c.in_ok-tell.ensures in
-    let same = same_place c.loop-act.traced told (g.K.Sink.taken c.loop-act.out) (g.P.Keeper.held c.loop-act.keeper) ok.config ok.policy ok.state refl in
+    let same = same_place c.loop-act.traced told (g.K.Sink.taken c.loop-act.out) (seen_by g.P.Keeper.held g.P.Keeper.TellsCrash g.P.Keeper.moment g.P.Keeper.MayLeave c.loop-act.keeper) ok.config ok.policy ok.state refl in
     let left = flat_map act_inputs (drop c.loop-act.act-index c.args.acts.now) in
     rw (p.1, p.2)
     (going_stops _ (flat_map act_inputs c.args.acts.now) left (act_inputs c.act-item.result) (flat_map act_inputs (drop (c.loop-act.act-index + 1) c.args.acts.now)) a
-    (place_of told (g.K.Sink.taken c.loop-act.out) (g.P.Keeper.held c.loop-act.keeper)) (place_of c.take_act.new.traced (g.K.Sink.taken c.take_act.new.out) (g.P.Keeper.held c.take_act.new.keeper))
+    (place_of told (g.K.Sink.taken c.loop-act.out) (seen_by g.P.Keeper.held g.P.Keeper.TellsCrash g.P.Keeper.moment g.P.Keeper.MayLeave c.loop-act.keeper)) (place_of c.take_act.new.traced (g.K.Sink.taken c.take_act.new.out) (seen_by g.P.Keeper.held g.P.Keeper.TellsCrash g.P.Keeper.moment g.P.Keeper.MayLeave c.take_act.new.keeper))
     (act_left c.args.acts.now c.loop-act.act-index c.act-item.result c.loop-act-test.true c.act-item.is)
     (subst (Going (flat_map act_inputs c.args.acts.now) left a) same c.loop-act.invariant.going) c.in_err-take_act.ensures.takes)
 
 pub loop-act-preserved : goal.loop-act-preserved
 loop-act-preserved g c =
-    let a = place_of c.args.traced.now (g.K.Sink.taken c.args.out.now) (g.P.Keeper.held c.args.keeper.now) in
+    let a = place_of c.args.traced.now (g.K.Sink.taken c.args.out.now) (seen_by g.P.Keeper.held g.P.Keeper.TellsCrash g.P.Keeper.moment g.P.Keeper.MayLeave c.args.keeper.now) in
     let told : Traced = record { core = c.tell.new.core; printer = c.loop-act.traced.printer } in
     let ok = c.in_ok-tell.ensures in
     let core = c.loop-act.traced.core in
     let takes = c.in_ok-take_act.ensures.takes in
-    let same = same_place c.loop-act.traced told (g.K.Sink.taken c.loop-act.out) (g.P.Keeper.held c.loop-act.keeper) ok.config ok.policy ok.state refl in
+    let same = same_place c.loop-act.traced told (g.K.Sink.taken c.loop-act.out) (seen_by g.P.Keeper.held g.P.Keeper.TellsCrash g.P.Keeper.moment g.P.Keeper.MayLeave c.loop-act.keeper) ok.config ok.policy ok.state refl in
     let left = flat_map act_inputs (drop c.loop-act.act-index c.args.acts.now) in
     record {
       going =
           going_on (flat_map act_inputs c.args.acts.now) left (act_inputs c.act-item.result) (flat_map act_inputs (drop (c.loop-act.act-index + 1) c.args.acts.now)) a
-          (place_of told (g.K.Sink.taken c.loop-act.out) (g.P.Keeper.held c.loop-act.keeper)) (place_of c.take_act.new.traced (g.K.Sink.taken c.take_act.new.out) (g.P.Keeper.held c.take_act.new.keeper))
+          (place_of told (g.K.Sink.taken c.loop-act.out) (seen_by g.P.Keeper.held g.P.Keeper.TellsCrash g.P.Keeper.moment g.P.Keeper.MayLeave c.loop-act.keeper)) (place_of c.take_act.new.traced (g.K.Sink.taken c.take_act.new.out) (seen_by g.P.Keeper.held g.P.Keeper.TellsCrash g.P.Keeper.moment g.P.Keeper.MayLeave c.take_act.new.keeper))
           (act_left c.args.acts.now c.loop-act.act-index c.act-item.result c.loop-act-test.true c.act-item.is)
           (subst (Going (flat_map act_inputs c.args.acts.now) left a) same c.loop-act.invariant.going) takes;
       told =

@@ -5,6 +5,7 @@ use Rattle.init_machine.specs.History.{after_from}
 use Rattle.init_machine.specs.declared.input.Input.TheVariants as Input
 use Rattle.script_lang.specs.Inputs.{act_inputs, InOrder}
 use Rattle.init_driver.specs.Course.{place_of}
+use Rattle.init_driver.specs.Keeper.{seen_by}
 use Rattle.init_driver.proofs.Courses.{leads_then, takes_none, untaken_less, untaken_then}
 use Rattle.init_driver.proofs.Reached.{reached_more}
 use Rattle.init_driver.proofs.Told.{told_of_opened}
@@ -13,8 +14,8 @@ use Rattle.init_driver.proofs.running.take_script.Goals as goal
 pub returns-in_err-parts-clause-takes : goal.returns-in_err-parts-clause-takes
 returns-in_err-parts-clause-takes g c =
     let p = err_from_is_err_and c.from_residual.result c.from_residual.ensures.1 in
-    let a = place_of c.args.traced.now (g.K.Sink.taken c.args.out.now) (g.P.Keeper.held c.args.keeper.now) in
-    rw (p.1, p.2) (takes_none (InOrder c.args.script.now) a a refl)
+    let a = place_of c.args.traced.now (g.K.Sink.taken c.args.out.now) (seen_by g.P.Keeper.held g.P.Keeper.TellsCrash g.P.Keeper.moment g.P.Keeper.MayLeave c.args.keeper.now) in
+    rw (p.1, p.2) (takes_none (InOrder c.args.script.now) a)
 
 pub returns-in_err-take-clause-takes : goal.returns-in_err-take-clause-takes
 returns-in_err-take-clause-takes g c =

@@ -1,15 +1,16 @@
 use Rattle.std.proofs.Common.{◌≡◌, ℕ, List, Option, Some, None, subst, sym, refl, inl}
 use Rattle.std.specs.Prelude.{IfSome}
+use Rattle.init_driver.specs.Keeper.{seen_by}
 use Rattle.init_words.specs.Form.{form_of}
-use Rattle.initsim.specs.Run.{RunLeaves}
+use Rattle.init_words.specs.declared.form.Form.{Form}
 use Rattle.initsim.specs.Script.{ScriptSays}
-use Rattle.initsim.specs.Store.{StoreSays}
 use Rattle.initsim.specs.Top.{CanBeDone}
-use Rattle.initsim.specs.Tree.{TreeSays}
+use Rattle.initsim.specs.Outcome.{Ends, shown_as}
 use Rattle.initsim.specs.declared.status.Status.TheVariants as status
 use Rattle.init_words.specs.declared.form.Form.TheVariants.{Run, Check}
 use Rattle.init_words.specs.declared.reading.WordsRefusal.TheVariants as why
 use Rattle.initsim.proofs.Complete.{complete_check, complete_run}
+use Rattle.initsim.proofs.Ends.{check_ends, left_alone, usage_ends}
 use Rattle.initsim.proofs.top.initsim.Goals as goal
 
 always : {T : Type 0} (o : Option T) (P : T → Type 0) → ((x : T) → P x) → IfSome o P
@@ -29,31 +30,37 @@ returns-in-Err-NoMemory-clause-usage g c =
       λ none. let other : c.in-Err-NoMemory.field-0 ≡ why.Usage = c.in-Err-NoMemory.ensures.refused.1 none in cc,
     )
 
-pub returns-in-Err-NoMemory-clause-script : goal.returns-in-Err-NoMemory-clause-script
-returns-in-Err-NoMemory-clause-script g c = λ form.
+pub returns-in-Err-NoMemory-clause-read : goal.returns-in-Err-NoMemory-clause-read
+returns-in-Err-NoMemory-clause-read g c = λ form.
     let left : Option (List ℕ) = g.S.Source.left c.args.script.now in
     always left (λ bytes. ScriptSays bytes left status.NoMemory) (λ bytes. tt)
 
-pub returns-in-Err-NoMemory-clause-tree : goal.returns-in-Err-NoMemory-clause-tree
-returns-in-Err-NoMemory-clause-tree g c = λ world is.
-    always (form_of c.args.words.now) (λ form. TreeSays form world status.NoMemory) (λ form. tt)
+pub returns-in-Err-NoMemory-clause-ends : goal.returns-in-Err-NoMemory-clause-ends
+returns-in-Err-NoMemory-clause-ends g c = λ told tells.
+    inl (left_alone (g.K.Sink.taken c.args.out.now) (seen_by g.P.Keeper.held g.P.Keeper.TellsCrash g.P.Keeper.moment g.P.Keeper.MayLeave c.args.keeper.now))
 
-pub returns-in-Err-NoMemory-clause-store : goal.returns-in-Err-NoMemory-clause-store
-returns-in-Err-NoMemory-clause-store g c = λ form.
-    always (g.P.Keeper.held c.args.keeper.now) (λ held. StoreSays held status.NoMemory) (λ held. tt)
-
-pub returns-in-Err-NoMemory-clause-run : goal.returns-in-Err-NoMemory-clause-run
-returns-in-Err-NoMemory-clause-run g c = λ form world is.
-    let left : Option (List ℕ) = g.S.Source.left c.args.script.now in
-    let kept : Option (List ℕ) = g.P.Keeper.held c.args.keeper.now in
+pub returns-in-Err-Usage-clause-ends : goal.returns-in-Err-Usage-clause-ends
+returns-in-Err-Usage-clause-ends g c = λ told tells.
+    let is : c.in-Err-Usage.field-0 ≡ why.Usage = cc in
+    let seen = seen_by g.P.Keeper.held g.P.Keeper.TellsCrash g.P.Keeper.moment g.P.Keeper.MayLeave c.args.keeper.now in
     let taken : Option (List ℕ) = g.K.Sink.taken c.args.out.now in
-    always left (λ bytes. IfSome kept (λ held. RunLeaves bytes world held taken taken kept status.NoMemory))
-    (λ bytes. always kept (λ held. RunLeaves bytes world held taken taken kept status.NoMemory) (λ held. inl refl))
+    subst (λ (f : Option Form). Ends f told status.Usage (shown_as taken taken seen seen)) (sym (c.in-Err-Usage.ensures.refused.0 is)) (usage_ends told taken seen)
 
-pub returns-in-Ok-Run-clause-tree : goal.returns-in-Ok-Run-clause-tree
-returns-in-Ok-Run-clause-tree g c = λ world is.
+pub returns-in-Ok-Run-clause-ends : goal.returns-in-Ok-Run-clause-ends
+returns-in-Ok-Run-clause-ends g c = λ told tells.
     let form : form_of c.args.words.now ≡ Some Run = cc c.in-Ok-Run.ensures.ok in
-    subst (λ o. IfSome o (λ f. TreeSays f world c.run_script.result)) (sym form) (c.run_script.ensures.tree world is)
+    let seen = seen_by g.P.Keeper.held g.P.Keeper.TellsCrash g.P.Keeper.moment g.P.Keeper.MayLeave in
+    subst (λ (f : Option Form). Ends f told c.run_script.result (shown_as (g.K.Sink.taken c.args.out.now) (g.K.Sink.taken c.run_script.new.out) (seen c.args.keeper.now) (seen c.run_script.new.keeper)))
+    (sym form) (c.run_script.ensures.ends told tells)
+
+pub returns-in-Ok-Check-clause-ends : goal.returns-in-Ok-Check-clause-ends
+returns-in-Ok-Check-clause-ends g c = λ told tells.
+    let form : form_of c.args.words.now ≡ Some Check = cc c.in-Ok-Check.ensures.ok in
+    let seen = seen_by g.P.Keeper.held g.P.Keeper.TellsCrash g.P.Keeper.moment g.P.Keeper.MayLeave c.args.keeper.now in
+    subst (λ (f : Option Form). Ends f told c.check.result (shown_as (g.K.Sink.taken c.args.out.now) (g.K.Sink.taken c.check.new.out) seen seen))
+    (sym form)
+    (check_ends told (g.K.Sink.taken c.args.out.now) (g.K.Sink.taken c.check.new.out) seen c.check.result c.check.ensures.formed (c.check.ensures.tree told.world tells.world_is)
+    (c.check.ensures.writes told.world tells.world_is))
 
 pub returns-in-Ok-Run-clause-complete : goal.returns-in-Ok-Run-clause-complete
 returns-in-Ok-Run-clause-complete g c = λ world is can.

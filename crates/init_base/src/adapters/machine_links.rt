@@ -1,0 +1,130 @@
+//! The links of a tree of files on the machine. No call on the machine follows one.
+
+ghost use Rattle.std.specs.Prelude.{◌≡◌, ◌≤◌, None, true, ℕ, List, IfOk, length};
+ghost use Rattle.init_base.specs.Resolve.{is_below_root};
+
+use super::links::{LinkTree, Standing};
+use super::machine::{MachineRefusal, join, open, path_of, read_file};
+use super::resolve::{End, Lead, path_to, resolve};
+use crate::list::List;
+use crate::memory::NoMemory;
+use crate::text::Text;
+use std::alloc::Global;
+use std::fs;
+use std::fs::FileType;
+use std::io::{Error, ErrorKind};
+
+/// The system's numbers of errors (Linux, errno(3)), whose words are told where a walk doesn't end as it was to.
+const NO_SUCH_FILE: i32 = 2;
+
+const NOT_A_DIRECTORY: i32 = 20;
+
+const IS_A_DIRECTORY: i32 = 21;
+
+const NAME_TOO_LONG: i32 = 36;
+
+const TOO_MANY_LINKS: i32 = 40;
+
+/// The most bytes of a path that the system takes.
+const MAX_PATH: usize = 4_095;
+
+/// The tree below a folder of the machine.
+#[derive(Drop)]
+pub(crate) struct MachineLinks<'a, R: fs::Files> {
+    pub(crate) rt: &'a R,
+    pub(crate) root: &'a Text,
+}
+
+impl<R: fs::Files> LinkTree for MachineLinks<'_, R> {
+    ghost standing = { λ _. None };
+
+    fn look_up(&self, alloc: Global, path: &[u8]) -> Result<Standing, MachineRefusal> {
+        let path = join(alloc, self.root.bytes(), path)?;
+        let path = path_of(&path)?;
+        let kind = match self.rt.symlink_metadata(path) {
+            Ok(metadata) => metadata.file_type(),
+            Err(error) if error.kind() == ErrorKind::NotFound => return Ok(Standing::Nothing),
+            Err(error) => return Err(MachineRefusal::from(error)),
+        };
+        if kind.is_symlink() {
+            return link_at(self.rt, alloc, path);
+        }
+        Ok(standing_of(kind))
+    }
+}
+
+/// A link of the machine. One whose target isn't UTF-8 leads nowhere, as no file has such a path.
+fn link_at<R: fs::Files>(rt: &R, alloc: Global, path: &str) -> Result<Standing, MachineRefusal> {
+    match rt.read_link(alloc, path) {
+        Ok(target) => Ok(Standing::Link(Text::of(alloc, target.as_str().as_bytes())?)),
+        Err(error) if error.kind() == ErrorKind::InvalidFilename => Ok(Standing::Nothing),
+        Err(error) => Err(MachineRefusal::from(error)),
+    }
+}
+
+/// What stands where no link does.
+fn standing_of(kind: FileType) -> Standing {
+    if kind.is_dir() {
+        Standing::Directory
+    } else if kind.is_file() {
+        Standing::PlainFile
+    } else {
+        Standing::Other
+    }
+}
+
+/// Where a path of the tree leads, if it is the path of a file: it is absolute, and UTF-8 with no NUL.
+pub(crate) fn resolve_path<R: fs::Files>(
+    tree: &MachineLinks<'_, R>,
+    alloc: Global,
+    path: &[u8],
+) -> Result<Lead, MachineRefusal>
+    ensures { IfOk result (λ lead. is_below_root lead.place ≡ true) }
+{
+    let can_be = path.starts_with(b"/") && !path.contains(&0) && std::str::from_utf8(path).is_ok();
+    if !can_be {
+        return Err(MachineRefusal::System(Error::from(ErrorKind::NotFound)));
+    }
+    if path.len() > MAX_PATH {
+        return Err(said(NAME_TOO_LONG));
+    }
+    resolve(tree, alloc, &List::new(alloc), path)
+}
+
+/// The bytes of the plain file at a place.
+pub(crate) fn read_place<R: fs::Files>(
+    tree: &MachineLinks<'_, R>,
+    alloc: Global,
+    place: &List<Text>,
+    limit: usize,
+) -> Result<Text, MachineRefusal>
+    ensures { IfOk result (λ text. length text ≤ limit) }
+{
+    let path = join(alloc, tree.root.bytes(), path_to(alloc, place)?.bytes())?;
+    read_file(alloc, open(tree.rt, &path)?, limit)
+}
+
+/// The path of the machine of the folder at a place, with a slash at its end.
+pub(crate) fn folder_path<R: fs::Files>(
+    tree: &MachineLinks<'_, R>,
+    alloc: Global,
+    place: &List<Text>,
+) -> Result<Text, NoMemory> {
+    let path = join(alloc, tree.root.bytes(), path_to(alloc, place)?.bytes())?;
+    join(alloc, path.bytes(), b"/")
+}
+
+/// What the system says of a walk that didn't end as it was to.
+pub(crate) fn no_way(end: End) -> MachineRefusal {
+    match end {
+        End::Directory => said(IS_A_DIRECTORY),
+        End::PlainFile | End::Other | End::NotDirectory => said(NOT_A_DIRECTORY),
+        End::Nothing => said(NO_SUCH_FILE),
+        End::TooManyLinks => said(TOO_MANY_LINKS),
+    }
+}
+
+/// What the system says by this number.
+fn said(number: i32) -> MachineRefusal {
+    MachineRefusal::System(Error::from_raw_os_error(number))
+}

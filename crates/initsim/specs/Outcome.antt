@@ -1,0 +1,143 @@
+-- What words, script, tree and store come to, where all is told, and how a call of the program ends.
+use Rattle.std.specs.Prelude.{◌≡◌, ℕ, ◌<◌, ◌≤◌, ◌⊎◌, ⊤, List, [], length, Option, Some, None, Err}
+use Rattle.std.specs.Io.KnownBytes.{append_known}
+use Rattle.init_base.specs.Tree.{file_at}
+use Rattle.init_driver.specs.Keeper.{KeeperView, Risks, Took}
+use Rattle.init_driver.specs.Run.{LeavesPart, given_in}
+use Rattle.init_driver.specs.declared.refusal.DriveRefusal.{DriveRefusal}
+use Rattle.init_driver.specs.declared.refusal.DriveRefusal.TheVariants as refusal
+use Rattle.init_machine.specs.declared.config.Config.{Config}
+use Rattle.init_machine.specs.declared.diagnostic.Diagnostic.{Diagnostic}
+use Rattle.init_machine.specs.declared.limit.Limit.{Limit}
+use Rattle.init_machine.specs.declared.limit.Limit.TheVariants as limits
+use Rattle.init_trace.specs.Report.{DiagnosticsText}
+use Rattle.init_trace.specs.Written.{TakesFront}
+use Rattle.init_words.specs.declared.form.Form.{Form}
+use Rattle.init_words.specs.declared.form.Form.TheVariants as form
+use Rattle.persist_file.specs.Store.{IsUnfitAt}
+use Rattle.rc_import.specs.Limits.{loaded as rc_files_of}
+use Rattle.rc_import.specs.Order.{root_file}
+use Rattle.rc_import.specs.World.{World}
+use Rattle.rc_import.specs.declared.loaded.LoadRefusal.{LoadRefusal}
+use Rattle.script_lang.specs.Refusal.{IsBadAt, IsTooLarge}
+use Rattle.initsim.specs.Policy.{HasPolicy, IsBadPolicyAt, IsPolicyTooLarge}
+use Rattle.initsim.specs.Run.{Course, IsCourseOf, due_of_course, run_text}
+use Rattle.initsim.specs.Script.{HasScript}
+use Rattle.initsim.specs.Texts.{Tree}
+use Rattle.initsim.specs.Tree.{AreBuildFilesShort, AreBuildFilesTooLarge, IsLoadOf, IsLoadable, IsWorldOf, PassesLimit}
+use Rattle.initsim.specs.declared.status.Status.{Status}
+use Rattle.initsim.specs.declared.status.Status.TheVariants as status
+use Rattle.init_words.specs.Form.{form_of}
+
+-- what is told as a call begins: the script's bytes, the tree with the meaning of its rc files, and the store's text
+pub record Told : Type 0 where
+  pub script : List ℕ
+  pub world : World
+  pub held : List ℕ
+
+-- the source, the files and the keeper tell this
+pub record Tell (left : Option (List ℕ)) (tree : Option Tree) (held : Option (List ℕ)) (told : Told) : Type 0 where
+  pub script_is : left ≡ Some told.script
+  pub world_is : IsWorldOf tree told.world
+  pub held_is : held ≡ Some told.held
+
+-- ---- what each reader refuses, and with which status
+
+abbrev pub ScriptRefuses : List ℕ → Status → Type 0
+ScriptRefuses bytes (status.BadScript line) = IsBadAt bytes line
+ScriptRefuses bytes (status.TooLarge limit number) = IsTooLarge bytes limit number
+ScriptRefuses bytes _ = ⊥
+
+abbrev pub PolicyRefuses : Tree → Status → Type 0
+PolicyRefuses tree (status.BadPolicy allow line) = IsBadPolicyAt tree allow line
+PolicyRefuses tree (status.TooLarge limit number) = IsPolicyTooLarge tree limit number
+PolicyRefuses tree _ = ⊥
+
+-- the rc files pass a limit
+pub record PassRcLimit (world : World) (limit : Limit) (number : ℕ) : Type 0 where
+  pub refusal : LoadRefusal
+  pub refused : rc_files_of world ≡ Err refusal
+  pub passes : PassesLimit refusal limit number
+
+-- the build files are read before the rc files
+abbrev pub FilesRefuse : World → Status → Type 0
+FilesRefuse world status.NoInit = AreBuildFilesShort world.tree × (file_at world.tree root_file ≡ None)
+FilesRefuse world (status.TooLarge limit number) =
+    AreBuildFilesTooLarge world.tree limit number ⊎ (AreBuildFilesShort world.tree × PassRcLimit world limit number)
+FilesRefuse world _ = ⊥
+
+abbrev pub StoreRefuses : List ℕ → Status → Type 0
+StoreRefuses held (status.BadStore line) = (length held ≤ 33554432) × IsUnfitAt held line
+StoreRefuses held (status.TooLarge limit number) = (limit ≡ limits.StoreBytes) × (33554432 < length held) × (number ≡ 33554433)
+StoreRefuses held _ = ⊥
+
+-- a run reads the script, the policy, the files and the store, and the first refusal ends it
+abbrev pub RunRefused : Told → Status → Type 0
+RunRefused told why =
+    ScriptRefuses told.script why
+    ⊎ (HasScript told.script × (PolicyRefuses told.world.tree why
+    ⊎ (HasPolicy told.world.tree × (FilesRefuse told.world why
+    ⊎ (IsLoadable told.world × StoreRefuses told.held why)))))
+
+-- ---- the outcome
+
+-- the words have no form; or nothing is begun, with this status; or these diagnostics are told; or this course is run
+pub data Outcome : Type 0 where
+  Unformed : Outcome
+  Refused : Status → Outcome
+  Checked : List Diagnostic → Outcome
+  Ran : Course → Outcome
+
+-- what the words of a form come to, or words of none; a check reads the files alone
+abbrev pub ComesTo : Option Form → Told → Outcome → Type 0
+ComesTo None told Unformed = ⊤
+ComesTo (Some form.Run) told (Refused why) = RunRefused told why
+ComesTo (Some form.Run) told (Ran course) = IsCourseOf told.script told.world told.held course
+ComesTo (Some form.Check) told (Refused why) = FilesRefuse told.world why
+ComesTo (Some form.Check) told (Checked diagnostics) = (config : Config) × IsLoadOf told.world config diagnostics
+ComesTo form told outcome = ⊥
+
+abbrev pub status_of_outcome : Outcome → Status
+status_of_outcome Unformed = status.Usage
+status_of_outcome (Refused why) = why
+status_of_outcome (Checked diagnostics) = status.Done
+status_of_outcome (Ran course) = status.Done
+
+-- ---- how a call ends
+
+-- what a sink and a keeper show of a call
+pub record Shown : Type 1 where
+  pub old : Option (List ℕ)
+  pub new : Option (List ℕ)
+  pub keeper : KeeperView
+  pub kept : KeeperView
+
+abbrev pub shown_as : Option (List ℕ) → Option (List ℕ) → KeeperView → KeeperView → Shown
+shown_as old new keeper kept = record { old = old; new = new; keeper = keeper; kept = kept }
+
+-- nothing is written, and the keeper stands
+pub record Untouched (shown : Shown) : Type 0 where
+  pub written : shown.new ≡ shown.old
+  pub held : shown.kept.held ≡ shown.keeper.held
+  pub crash : shown.keeper.TellsCrash → Risks shown.keeper shown.kept [] []
+
+-- the outcome's text is written whole, and the keeper took what a run gives it
+abbrev pub Shows : Outcome → Shown → Type 0
+Shows Unformed shown = Untouched shown
+Shows (Refused why) shown = Untouched shown
+Shows (Checked diagnostics) shown = (shown.new ≡ append_known shown.old (DiagnosticsText diagnostics)) × Took shown.keeper shown.kept []
+Shows (Ran course) shown = (shown.new ≡ append_known shown.old (run_text course)) × Took shown.keeper shown.kept (given_in course.opening course.script)
+
+-- its text is cut short: by a fault of the sink or of the keeper, or for want of memory
+abbrev pub CutShort : DriveRefusal → Outcome → Shown → Type 0
+CutShort why (Ran course) shown = LeavesPart why shown.old shown.new shown.keeper shown.kept (due_of_course course)
+CutShort refusal.Keeper (Checked diagnostics) shown = ⊥
+CutShort why (Checked diagnostics) shown = TakesFront shown.old shown.new (DiagnosticsText diagnostics) × Took shown.keeper shown.kept []
+CutShort why outcome shown = ⊥
+
+-- How a call ends. A fault of what is read, and want of memory, come before anything is written, or in the run.
+abbrev pub Ends : Option Form → Told → Status → Shown → Type 0
+Ends form told status.ReadFault shown = Untouched shown ⊎ ((outcome : Outcome) × ComesTo form told outcome × CutShort refusal.Keeper outcome shown)
+Ends form told status.WriteFault shown = (outcome : Outcome) × ComesTo form told outcome × CutShort refusal.Write outcome shown
+Ends form told status.NoMemory shown = Untouched shown ⊎ ((outcome : Outcome) × ComesTo form told outcome × CutShort refusal.NoMemory outcome shown)
+Ends form told how shown = (outcome : Outcome) × ComesTo form told outcome × (how ≡ status_of_outcome outcome) × Shows outcome shown

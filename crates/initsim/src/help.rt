@@ -1,0 +1,34 @@
+//! The help text.
+
+use init_base::Text;
+
+/// What is written behind the usage line where help is asked for.
+const HELP: &str = "
+Runs Android's init over a modelled kernel, and writes command by command what it does with a tree of rc files.
+
+  run ROOT SCRIPT   boots the tree, does what SCRIPT says, and writes the trace
+    reads           the rc files of ROOT, the build files, property_contexts, property_allow and
+                    data/property/persist.txt, and SCRIPT
+    writes          the trace to standard output, and data/property/persist.txt where a property is saved
+    for example     initsim run examples/device/tree examples/device/script
+
+  check ROOT        writes the mistakes in the rc files and the build files, one a line
+    reads           the rc files of ROOT and the build files
+    writes          the mistakes to standard output
+    for example     initsim check examples/diagnostics/tree
+
+ROOT is the folder that holds system/etc/init/hw/init.rc; tools/take-product makes one from a product's build.
+The rc files are those of /system, /system_ext, /vendor, /odm and /product (etc/init) with what they import, the
+build files /system/build.prop and /vendor/build.prop.
+The status is 0 where the whole text is written, and from 1 to 9 where not: README.md has the table.
+docs/FORMATS.md has the words of a script and each line of a trace, docs/DIAGNOSTICS.md each mistake.";
+
+/// Whether a first word asks for help.
+pub fn is_help(word: &Text) -> bool {
+    word.is(b"help") || word.is(b"-h") || word.is(b"--help")
+}
+
+/// Prints the help text.
+pub fn tell_help(rt: &HostRuntime) -> std::io::Result<()> {
+    eprintln!(rt; "{HELP}")
+}

@@ -1,0 +1,9 @@
+pub mod DiskModel
+pub mod Finding
+pub mod Image
+pub mod Keeping
+pub mod Record
+pub mod Refusing
+pub mod Reopening
+pub mod Replacing
+pub mod Zeros

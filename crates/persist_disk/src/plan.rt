@@ -1,0 +1,67 @@
+//! Which calls fail.
+
+ghost use Rattle.std.specs.Prelude.{◌≡◌, ◌==◌};
+ghost use Rattle.std.specs.List.{list_any};
+ghost use Rattle.init_base.specs.Memory.{after_call, fails_next};
+
+use init_base::List;
+use std::marker::Model;
+
+/// The numbers of the calls that fail, from 1, and the counts of calls and faults.
+#[derive(Debug, Drop)]
+pub(crate) struct FailPlan {
+    fail: List<u64>,
+    made: u64,
+    faults: u64,
+}
+
+impl Model for FailPlan {
+    ghost use Rattle.init_base.specs.Memory.{Calls};
+
+    ghost Value = { Calls };
+
+    ghost view = { λ p. record { fail = p.fail; made = p.made; faults = p.faults } };
+}
+
+impl FailPlan {
+    pub(crate) fn new(fail: List<u64>) -> FailPlan
+        ensures { result ≡ record { fail = fail; made = 0; faults = 0 } }
+    {
+        FailPlan {
+            fail,
+            made: 0,
+            faults: 0,
+        }
+    }
+
+    pub(crate) fn made(&self) -> u64
+        ensures { result ≡ self.now.made }
+    {
+        self.made
+    }
+
+    pub(crate) fn faults(&self) -> u64
+        ensures { result ≡ self.now.faults }
+    {
+        self.faults
+    }
+
+    /// Counts one call more, and says whether it fails. A fault is counted too.
+    pub(crate) fn fails(&mut self) -> bool
+        ensures answer { result ≡ fails_next self.old }
+        ensures calls { self.new ≡ after_call self.old }
+    {
+        self.made = self.made.saturating_add(1);
+        let failed = has_number(self.fail.items(), self.made);
+        if failed {
+            self.faults = self.faults.saturating_add(1);
+        }
+        failed
+    }
+}
+
+fn has_number(numbers: &[u64], number: u64) -> bool
+    ensures { result ≡ list_any (λ other. other == number) numbers.now }
+{
+    numbers.iter().any(|other| *other == number)
+}

@@ -1,0 +1,10 @@
+pub mod Lefts
+pub mod Merging
+pub mod FirstLeft
+pub mod MergeFaults
+pub mod Values
+pub mod Listing
+pub mod Holding
+pub mod Legality
+pub mod Verdicts
+pub mod Indexing

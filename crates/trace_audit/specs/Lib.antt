@@ -1,0 +1,6 @@
+pub mod Differences
+pub mod Progress
+pub mod Audited
+pub mod Indexed
+pub mod Lists
+pub mod Legality

@@ -1,0 +1,105 @@
+"""The files of a product's output folder by their paths on the device."""
+import os
+import posixpath
+import stat
+
+from product.texts import UNREADABLE, Stop
+
+# What is mounted on a device, and stands right below OUT. All else of the device's root stands below OUT/root.
+PARTITIONS = {"system", "system_ext", "system_dlkm", "vendor", "vendor_dlkm", "odm", "odm_dlkm", "product", "oem"}
+# The folder in which init keeps the properties of the boot image, and where the build has them.
+RENAMED = {"second_stage_resources": "ramdisk"}
+MOST_LINKS = 40
+
+
+def parts_of(path):
+    return [it for it in path.split("/") if it not in ("", ".")]
+
+
+def normal(path):
+    """The path with its empty parts, `.` and `..` taken away, as it stands in ROOT."""
+    return "/" + posixpath.normpath(path).lstrip("/") if path.startswith("/") else path
+
+
+def mode_at(place):
+    """The mode of what stands there, a link not followed; None where nothing does."""
+    try:
+        return os.lstat(place).st_mode
+    except (FileNotFoundError, NotADirectoryError):
+        return None
+    except OSError as why:
+        raise Stop(UNREADABLE, f"{place}: {why.strerror}") from None
+
+
+class Device:
+    """The files of the product by their paths on the device."""
+
+    def __init__(self, out):
+        self.out = out
+        beside = os.path.join(out, "root")
+        self.rest = beside if os.path.isdir(beside) else out
+
+    def place_of(self, parts):
+        """Where in OUT a path of the device stands, if no part of it is a link."""
+        if not parts:
+            return self.rest
+        first = RENAMED.get(parts[0], parts[0])
+        base = os.path.join(self.out, first)
+        if parts[0] not in PARTITIONS and parts[0] not in RENAMED or mode_at(base) is None:
+            base = os.path.join(self.rest, first)
+        return os.path.join(base, *parts[1:])
+
+    def follow(self, path):
+        """Where in OUT the path leads, links followed as on the device; None where nothing is there."""
+        todo, at, links = parts_of(path)[::-1], [], 0
+        while todo:
+            part = todo.pop()
+            if part == "..":
+                del at[-1:]
+                continue
+            place = self.place_of([*at, part])
+            mode = mode_at(place)
+            if mode is None:
+                return None
+            if not stat.S_ISLNK(mode):
+                at.append(part)
+                continue
+            links += 1
+            if links > MOST_LINKS:
+                return None
+            target = os.readlink(place)
+            at = [] if target.startswith("/") else at
+            todo += parts_of(target)[::-1]
+        return self.place_of(at)
+
+    def is_folder(self, path):
+        place = self.follow(path)
+        return place is not None and stat.S_ISDIR(mode_at(place) or 0)
+
+    def read(self, path):
+        """A file's bytes; None where nothing is at the path."""
+        place = self.follow(path)
+        return None if place is None else read_plain(place, UNREADABLE)
+
+    def entries(self, path):
+        """The names of a folder with their modes, in byte order; None where there is no folder."""
+        if not self.is_folder(path):
+            return None
+        place = self.follow(path)
+        try:
+            names = sorted(os.listdir(place), key=os.fsencode)
+        except OSError as why:
+            raise Stop(UNREADABLE, f"{place}: {why.strerror}") from None
+        return [(it, mode_at(os.path.join(place, it)) or 0) for it in names]
+
+
+def read_plain(place, status):
+    """The bytes of a plain file, else Stop with this status."""
+    try:
+        # (a pipe or a device would be waited for)
+        if not stat.S_ISREG(os.stat(place).st_mode):
+            raise Stop(status, f"{place}: it is no plain file")
+        with open(place, "rb") as file:
+            return file.read()
+    except OSError as why:
+        raise Stop(status, f"{place}: {why.strerror}") from None

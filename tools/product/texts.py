@@ -1,0 +1,84 @@
+"""What all parts of take-product share: statuses, the report, texts, names, and the expansion of properties."""
+import re
+
+USAGE, NO_OUT, NO_PRODUCT, UNREADABLE, ROOT_THERE, UNWRITABLE, BAD_GIVEN = range(1, 8)
+
+MOST_NAME_BYTES = 255
+MOST_VALUE_BYTES = 91
+
+
+class Stop(Exception):
+    """Why ROOT isn't made: the status, and the line that says it."""
+
+    def __init__(self, status, line):
+        super().__init__(line)
+        self.status = status
+
+
+class Report:
+    """What was taken, left and found lacking, a line each."""
+
+    def __init__(self):
+        self.lines = []
+
+    def took(self, what):
+        self.lines.append(f"took: {what}")
+
+    def left(self, what):
+        self.lines.append(f"left: {what}")
+
+    def lacks(self, what):
+        self.lines.append(f"lacks: {what}")
+
+
+def text_of(content):
+    """A file's bytes as text, which encodes to the same bytes."""
+    return content.decode("utf-8", "surrogateescape")
+
+
+def bytes_of(text):
+    return text.encode("utf-8", "surrogateescape")
+
+
+def printable(text):
+    """The text in one line, with control characters, and bytes that aren't UTF-8, written as \\x0a."""
+    shown = bytes_of(text).decode("utf-8", "backslashreplace")
+    return "".join(it if it.isprintable() else it.encode("unicode_escape").decode() for it in shown)
+
+
+def is_legal_name(name):
+    if not 1 <= len(name) <= MOST_NAME_BYTES or name[0] == "." or name[-1] == "." or ".." in name:
+        return False
+    return re.fullmatch(r"[A-Za-z0-9.\-_@:]+", name) is not None
+
+
+def is_utf8(text):
+    try:
+        text.encode("utf-8")
+        return True
+    except UnicodeEncodeError:
+        return False
+
+
+def counted(number, one, many):
+    return f"{number} {one if number == 1 else many}"
+
+
+def expand(text, held):
+    """The text with its properties put in, and the failure: None, the name that has no value, or the empty text for a bad form."""
+    made, rest = "", text
+    while "$" in rest:
+        front, _, rest = rest.partition("$")
+        made += front
+        if rest.startswith("$"):
+            made, rest = made + "$", rest[1:]
+            continue
+        inside, brace, rest = rest[1:].partition("}") if rest.startswith("{") else ("", "", "")
+        name, has_default, default = inside.partition(":-")
+        if not brace or not is_legal_name(name):
+            return None, ""
+        value = held.get(name) or (default if has_default else "")
+        if not value and not has_default:
+            return None, name
+        made += value
+    return made + rest, None
