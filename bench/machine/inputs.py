@@ -300,8 +300,11 @@ SHAPES = dict([
 
 
 def main():
-    if len(sys.argv) < 2 or set(sys.argv[2:]) - set(SHAPES):
-        sys.exit("inputs.py FOLDER [SHAPE..], of " + " ".join(SHAPES))
+    unknown = [it for it in sys.argv[2:] if it not in SHAPES]
+    if len(sys.argv) < 2 or unknown:
+        sys.exit(f"bench: {' '.join(unknown) or 'no folder'}: usage: inputs.py FOLDER [SHAPE..], of {' '.join(SHAPES)}")
+    if sys.argv[1] == "--known":
+        return
     for name in sys.argv[2:] or SHAPES:
         SHAPES[name](Shape(sys.argv[1], name))
 

@@ -7,7 +7,7 @@ or a rule that fetches them. Then, in a BUILD file:
 
     rc_check(
         name = "pecan_rc",
-        files = glob(["pecan/root/**"]),
+        files = glob(["pecan/root/**", "pecan/baseline"]),
         product = "pecan",
         script = "pecan/script",
         check = ":check-product",
@@ -47,7 +47,7 @@ _TOOL = {"executable": True, "cfg": "exec", "allow_single_file": True, "mandator
 rc_check = rule(
     implementation = _rc_check_impl,
     attrs = {
-        "files": attr.label_list(allow_files = True, mandatory = True, doc = "the files below PRODUCT/root"),
+        "files": attr.label_list(allow_files = True, mandatory = True, doc = "the files below PRODUCT/root, and PRODUCT/baseline where there is one"),
         "product": attr.string(mandatory = True, doc = "the folder of root and script, below the package"),
         "script": attr.label(allow_single_file = True, mandatory = True, doc = "PRODUCT/script"),
         "check": attr.label(**_TOOL),

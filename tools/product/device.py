@@ -1,4 +1,5 @@
 """The files of a product's output folder by their paths on the device."""
+import errno
 import os
 import posixpath
 import stat
@@ -6,10 +7,12 @@ import stat
 from product.texts import UNREADABLE, Stop
 
 # What is mounted on a device, and stands right below OUT. All else of the device's root stands below OUT/root.
-PARTITIONS = {"system", "system_ext", "system_dlkm", "vendor", "vendor_dlkm", "odm", "odm_dlkm", "product", "oem"}
+PARTITIONS = {"system", "system_ext", "system_dlkm", "vendor", "vendor_dlkm", "odm", "odm_dlkm", "product", "oem", "apex"}
 # The folder in which init keeps the properties of the boot image, and where the build has them.
 RENAMED = {"second_stage_resources": "ramdisk"}
 MOST_LINKS = 40
+# The most bytes of all files that initsim reads.
+MOST_BYTES = 33_554_432
 
 
 def parts_of(path):
@@ -22,12 +25,14 @@ def normal(path):
 
 
 def mode_at(place):
-    """The mode of what stands there, a link not followed; None where nothing does."""
+    """The mode of what stands there, a link not followed; None where nothing does, or could."""
+    if "\0" in place:
+        return None
     try:
         return os.lstat(place).st_mode
-    except (FileNotFoundError, NotADirectoryError):
-        return None
     except OSError as why:
+        if why.errno in (errno.ENOENT, errno.ENOTDIR, errno.ENAMETOOLONG):
+            return None
         raise Stop(UNREADABLE, f"{place}: {why.strerror}") from None
 
 
@@ -97,8 +102,11 @@ def read_plain(place, status):
     """The bytes of a plain file, else Stop with this status."""
     try:
         # (a pipe or a device would be waited for)
-        if not stat.S_ISREG(os.stat(place).st_mode):
+        found = os.stat(place)
+        if not stat.S_ISREG(found.st_mode):
             raise Stop(status, f"{place}: it is no plain file")
+        if found.st_size > MOST_BYTES:
+            raise Stop(status, f"{place}: it has {found.st_size} bytes, and {MOST_BYTES} is the most")
         with open(place, "rb") as file:
             return file.read()
     except OSError as why:

@@ -1,48 +1,36 @@
 """The build files of all partitions, merged into the two that are read."""
 from typing import NamedTuple
 
-from product.texts import counted, expand, text_of
+from product.derived import BOOT_PROPS, Pair, derived
+from product.texts import MOST_VALUE_BYTES, bytes_of, counted, expand, is_legal_name, is_utf8, text_of
 
 # The build files in the order in which init loads them (PropertyLoadBootDefaults of its property_service.cpp), as those that
 # become /system/build.prop and those that become /vendor/build.prop. Of one name the last pair holds.
 SYSTEM_PROPS = ("/second_stage_resources/system/etc/ramdisk/build.prop", "/system/build.prop", "system_ext", "/system_dlkm/etc/build.prop")
 VENDOR_PROPS = ("/vendor/default.prop", "/vendor/build.prop", "/vendor_dlkm/etc/build.prop", "/odm_dlkm/etc/build.prop", "odm", "product")
+# What Android 11 and earlier ones have before these: the first that is there.
+DEFAULT_PROPS = ("/system/etc/prop.default", "/prop.default", "/default.prop")
 # A partition's etc/build.prop; where it isn't there, default.prop and build.prop, up to this version of its SDK.
 LEGACY_UNTIL = {"system_ext": 30, "odm": 28, "product": 30}
 MOST_IMPORTS = 16
 NOT_IN_FILES = {"sys.powerctl", "selinux.restorecon_recursive"}
 
-# What init makes of the bootloader's properties (ExportKernelBootProps).
-BOOT_PROPS = {
-    "ro.boot.serialno": "ro.serialno",
-    "ro.boot.mode": "ro.bootmode",
-    "ro.boot.baseband": "ro.baseband",
-    "ro.boot.bootloader": "ro.bootloader",
-    "ro.boot.hardware": "ro.hardware",
-    "ro.boot.revision": "ro.revision",
-}
-# The properties that init takes from those of the partitions, where no file has them, in this order.
-PRODUCT_PROPS = ("brand", "device", "manufacturer", "model", "name")
-PRODUCT_SOURCES = ("product", "odm", "vendor", "system_ext", "system")
-
-
-class Pair(NamedTuple):
-    name: str
-    value: str
-    place: str  # FILE:LINE, for people
-
 
 def pair_of(line, place, report):
-    """The pair of a line of a build file, as init reads it; None where it has none."""
+    """The pair of a line of a build file, as init reads it. A line that is none stays in ROOT, so that rc-lint tells it."""
     name, equals, value = line.partition("=")
     name, value = name.strip(), value.strip()
-    if not equals:
-        report.left(f"{place}: the line has no =")
-    elif name.startswith("ctl.") or name in NOT_IN_FILES:
-        report.left(f"{place}: {name} may not stand in a build file")
-    else:
+    if equals and not name.startswith("ctl.") and name not in NOT_IN_FILES:
         return Pair(name, value, place)
-    return None
+    what = f"{name} may not stand in a build file" if equals else "the line has no ="
+    report.left(f"{place}: {what}, and says nothing")
+    # (this machine would take the names that only init itself knows)
+    return Pair(None, f"# {line}" if name in NOT_IN_FILES else line, place)
+
+
+def named(loaded):
+    """The pairs of all these build files, in their order."""
+    return [pair for _, pairs in loaded for pair in pairs if pair.name is not None]
 
 
 def passes(name, only):
@@ -64,7 +52,7 @@ def pairs_in(device, path, given, report, only="", depth=0):
             pairs += imported_pairs(device, line.split()[1:], given, report, place, depth)
             continue
         pair = pair_of(line, place, report)
-        if pair and passes(pair.name, only):
+        if passes(pair.name or "", only):
             pairs.append(pair)
     return pairs
 
@@ -72,7 +60,10 @@ def pairs_in(device, path, given, report, only="", depth=0):
 def imported_pairs(device, words, given, report, place, depth):
     """The pairs of a file that a build file imports, by a line `import PATH` or `import PATH FILTER`."""
     wanted, only = (*words, "", "")[:2]
-    path, _ = expand(wanted, given)
+    path, lacking = expand(wanted, given)
+    if lacking:
+        report.lacks(f"{lacking}, by which {place} imports {wanted}: give it by --prop {lacking}=VALUE")
+        return []
     found = None
     if path and path.startswith("/") and depth < MOST_IMPORTS:
         found = pairs_in(device, path, given, report, only, depth + 1)
@@ -93,6 +84,10 @@ def is_too_new(partition, pairs):
     return version.isdigit() and int(version) > LEGACY_UNTIL[partition]
 
 
+def default_props(device):
+    return [it for it in DEFAULT_PROPS if device.follow(it)][:1]
+
+
 def load_props(device, wanted, given, report):
     """The build files that are there, each with its pairs, in the order in which init loads them."""
     loaded = []
@@ -102,7 +97,7 @@ def load_props(device, wanted, given, report):
             pairs = pairs_in(device, path, given, report)
             if pairs is None:
                 continue
-            report.took(f"{path}: {counted(len(pairs), 'property', 'properties')}")
+            report.took(f"{path}: {counted(len(named([(path, pairs)])), 'property', 'properties')}")
             if len(paths) > 1 and is_too_new(it, pairs):
                 report.lacks(f"/{it}/etc/build.prop: init stops where so new a partition has its properties in {path}")
             loaded.append((path, pairs))
@@ -118,23 +113,26 @@ def exported(given):
 def tell_early(loaded, given, report):
     """Says which pairs of files can't hold on a device, since init has set their names of the bootloader's before."""
     sources = {to: it for it, to in BOOT_PROPS.items()}
-    for _, pairs in loaded:
-        for pair in pairs:
-            if pair.name in sources and pair.name not in given:
-                source = sources[pair.name]
-                report.lacks(f"{source}: init makes {pair.name} of it before it reads {pair.place}: give it by --prop {source}=VALUE")
+    for pair in named(loaded):
+        if pair.name in sources and pair.name not in given:
+            source = sources[pair.name]
+            report.lacks(f"{source}: init makes {pair.name} of it before it reads {pair.place}: give it by --prop {source}=VALUE")
 
 
-def product_props(held):
-    """The properties ro.product.* that no file has, from those of the partitions."""
-    named = [it for it in held.get("ro.product.property_source_order", "").split(",") if it]
-    order = named if named and set(named) <= set(PRODUCT_SOURCES) else PRODUCT_SOURCES
-    pairs = []
-    for prop in PRODUCT_PROPS:
-        source = next((it for it in order if held.get(f"ro.product.{it}.{prop}")), None)
-        if source and not held.get(f"ro.product.{prop}"):
-            pairs.append(Pair(f"ro.product.{prop}", held[f"ro.product.{source}.{prop}"], f"ro.product.{source}.{prop}"))
-    return pairs
+def tell_refused(pairs, report):
+    """Says which pairs are set neither here nor, mostly, on a device."""
+    for pair in pairs:
+        size = len(bytes_of(pair.value))
+        if not is_legal_name(pair.name):
+            why = "it is no legal name"
+        elif not is_utf8(pair.value):
+            why = "its value isn't UTF-8"
+        elif size > MOST_VALUE_BYTES:
+            why = f"its value has {size} bytes, and {MOST_VALUE_BYTES} is the most"
+            why += " here; a device takes more for names with ro." if pair.name.startswith("ro.") else ""
+        else:
+            continue
+        report.lacks(f"{pair.name}, of {pair.place}, since a boot refuses to set it: {why}")
 
 
 class Props(NamedTuple):
@@ -145,15 +143,15 @@ class Props(NamedTuple):
 def take_props(device, given, report):
     """The two build files that are read, made of all that init loads."""
     given = exported(given)
-    system = load_props(device, SYSTEM_PROPS, given, report)
+    system = load_props(device, [*default_props(device), *SYSTEM_PROPS], given, report)
     vendor = load_props(device, VENDOR_PROPS, given, report)
     if not any(path == "/system/build.prop" for path, _ in system):
         report.lacks("/system/build.prop")
     tell_early(system + vendor, given, report)
-    vendor.append(("--prop", [Pair(name, value, "--prop") for name, value in sorted(given.items())]))
-    held = {pair.name: pair.value for _, pairs in system + vendor for pair in pairs}
-    vendor.append(("what init makes of the properties of the partitions", product_props(held)))
-    last = {pair.name: pair for _, pairs in system + vendor for pair in pairs}
+    vendor.append(("what the bootloader gives (--prop, --getprop)", [Pair(name, value, "the bootloader's") for name, value in sorted(given.items())]))
+    vendor.append(("what init makes of these", derived({it.name: it.value for it in named(system + vendor)})))
+    last = {pair.name: pair for pair in named(system + vendor)}
+    tell_refused(last.values(), report)
     files = {"/system/build.prop": merged(system, last), "/vendor/build.prop": merged(vendor, last)}
     return Props(files, {name: pair.value for name, pair in last.items()})
 
@@ -165,6 +163,9 @@ def merged(loaded, last):
         if pairs:
             lines.append(f"# -- {path}")
         for pair in pairs:
+            if pair.name is None:
+                lines.append(pair.value)
+                continue
             text = f"{pair.name}={pair.value}"
             lines.append(text if last[pair.name] is pair else f"# {text} (overridden at {last[pair.name].place})")
     return "".join(f"{it}\n" for it in lines)

@@ -4,11 +4,16 @@ import posixpath
 import re
 import stat
 
+from product.apex import APEX_RC, apex_files, tell_packed
+from product.derived import BOOT_PROPS
 from product.device import normal, read_plain
-from product.props import BOOT_PROPS
-from product.texts import BAD_GIVEN, NO_PRODUCT, Stop, counted, expand, is_utf8, text_of
+from product.mounts import MOUNTED_RC, is_early, mounted
+from product.texts import BAD_GIVEN, NO_PRODUCT, Stop, bytes_of, counted, expand, is_utf8, text_of
 
 ROOT_RC = "/system/etc/init/hw/init.rc"
+# What AOSP's root file imports for any product, though few have it.
+OFTEN_ABSENT = "/init.${ro.hardware}.rc"
+EMPTY = b"# The product has no such file. AOSP's root file imports it for any product.\n"
 RC_FOLDERS = [f"/{it}/etc/init" for it in ("system", "system_ext", "vendor", "odm", "product")]
 
 
@@ -89,8 +94,11 @@ class RcFiles:
     def __init__(self, device, held, report):
         self.device, self.held, self.report = device, held, report
         self.files, self.scanned, self.told, self.absent = {}, set(), set(), set()
+        # (each mount_all that isn't early, with its place and the words of its header)
+        self.mounts = []
 
-    def take_all(self, added):
+    def take_all(self, added, data):
+        """Takes all, with rc files of the user's own, and what mount_all does where /data is so encrypted."""
         if not self.take_file(ROOT_RC):
             raise Stop(NO_PRODUCT, f"{self.device.out}: it has no {ROOT_RC}, so it is no product's output folder")
         self.report.took(ROOT_RC)
@@ -103,10 +111,35 @@ class RcFiles:
             self.report.took(f"{folder}: {counted(len(taken), 'rc file', 'rc files')}")
             for path in taken:
                 self.take_imports(path)
+        self.take_apexes()
         for given in added:
             self.add(given)
+        self.add_mounted(data)
         self.tell_left()
         return self.files
+
+    def take_apexes(self):
+        """Takes the rc files of the APEXes, by an rc file that init reads last."""
+        taken = [it for it in apex_files(self.device, self.held) if self.take_file(it)]
+        tell_packed(self.device, self.report)
+        if not taken:
+            return
+        lines = ["# This file belongs to the model: on a device, init reads these at perform_apex_config.", *(f"import {it}" for it in taken)]
+        self.add_own(APEX_RC, "".join(f"{it}\n" for it in lines))
+        self.report.took(f"/apex: {counted(len(taken), 'rc file', 'rc files')}, imported by {APEX_RC}, which belongs to the model")
+        self.take_imports(APEX_RC)
+
+    def add_mounted(self, data):
+        """Adds an rc file for what mount_all would do."""
+        text, place = mounted(self.mounts, data)
+        if data and not text:
+            self.report.lacks(f"mount_all: no rc file that init reads has one for /data, so --data {data} changes nothing")
+        if text:
+            self.add_own(MOUNTED_RC, text)
+            self.report.took(f"--data {data}, as {MOUNTED_RC}, for the mount_all of {place}")
+        for it, _, _ in self.mounts:
+            if it != place:
+                self.report.left(f"{it}: mount_all isn't modelled" + ("" if place else "; --data, or an rc file of your own (--add), says what it queues"))
 
     def add(self, given):
         """Takes an rc file of the user's own."""
@@ -116,6 +149,12 @@ class RcFiles:
         self.files[path] = read_plain(given, BAD_GIVEN)
         self.report.took(f"{given}, as {path}")
         self.take_imports(path)
+
+    def add_own(self, path, text):
+        """Adds an rc file of the model's."""
+        if path in self.files:
+            raise Stop(BAD_GIVEN, f"there is a {path} already, and the model needs one of this name")
+        self.files[path] = bytes_of(text)
 
     def take_file(self, path):
         """Whether the file is there."""
@@ -140,6 +179,8 @@ class RcFiles:
                 self.report.left(f"{path}: its name isn't UTF-8")
             elif stat.S_ISREG(mode) and self.take_file(path):
                 taken.append(path)
+                if not name.endswith(".rc") and folder in RC_FOLDERS:
+                    self.report.took(f"{path}: its name doesn't end in .rc, and init reads it all the same")
         return taken
 
     def take_imports(self, path):
@@ -153,12 +194,17 @@ class RcFiles:
 
     def imported_by(self, path):
         """The files that a file imports, which are taken."""
-        taken = []
+        taken, header = [], []
         for number, words in Scanner(text_of(self.files[path])).lines():
+            place = f"{path}:{number}"
+            if words[0] in ("on", "service", "import"):
+                header = words
             if words[0] == "import" and len(words) == 2:
-                taken += self.take_import(words[1], f"{path}:{number}")
-            elif words[0] == "mount_all":
-                self.report.left(f"{path}:{number}: mount_all isn't modelled; an rc file of your own can trigger what it would (--add)")
+                taken += self.take_import(words[1], place)
+            elif words[0] == "mount_all" and is_early(words):
+                self.report.left(f"{place}: mount_all isn't modelled; with --early it queues nothing")
+            elif words[0] == "mount_all" and header[:1] == ["on"]:
+                self.mounts.append((place, words, header))
         return taken
 
     def take_import(self, wanted, place):
@@ -176,7 +222,10 @@ class RcFiles:
             taken, what = [path], path
         else:
             self.absent.add(path)
-            self.report.lacks(f"{path}, imported at {place}")
+            stands = wanted == OFTEN_ABSENT
+            self.report.lacks(f"{path}, imported at {place}" + ("; an empty file stands for it, as AOSP's root file imports it for any product" if stands else ""))
+            if stands:
+                self.files[path] = EMPTY
             return []
         if path not in self.told and not self.scanned.issuperset(taken):
             self.told.add(path)

@@ -1,4 +1,4 @@
-"""The persistent store, from a device's properties."""
+"""What a dump of a device's properties has for us: the persistent store, and what the bootloader gives."""
 import re
 
 from product.device import read_plain
@@ -27,13 +27,26 @@ def fault_of(name, value):
     return None if is_utf8(value) else "its value isn't UTF-8"
 
 
-def take_store(path, report):
-    """The text of the store of a device whose properties are in this dump."""
-    pairs = {}
-    found = list(dumped(text_of(read_plain(path, BAD_GIVEN))))
+def read_dump(path):
+    """The properties of a device, by what getprop wrote."""
+    found = dict(dumped(text_of(read_plain(path, BAD_GIVEN))))
     if not found:
         raise Stop(BAD_GIVEN, f"{path}: it has no line of getprop's, as in: [persist.sys.timezone]: [Europe/Berlin]")
-    for name, value in found:
+    return found
+
+
+def take_boot(path, found, report):
+    """The properties of the dump that a bootloader gives."""
+    pairs = {name: value for name, value in found.items() if name.startswith("ro.boot.") and not fault_of(name, value)}
+    if pairs:
+        report.took(f"{path}: {counted(len(pairs), 'property', 'properties')} of the bootloader (ro.boot.)")
+    return pairs
+
+
+def take_store(path, found, report):
+    """The text of the store of a device with these properties."""
+    pairs = {}
+    for name, value in found.items():
         why = fault_of(name, value)
         if not name.startswith("persist."):
             continue

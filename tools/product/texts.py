@@ -1,4 +1,5 @@
 """What all parts of take-product share: statuses, the report, texts, names, and the expansion of properties."""
+import os
 import re
 
 USAGE, NO_OUT, NO_PRODUCT, UNREADABLE, ROOT_THERE, UNWRITABLE, BAD_GIVEN = range(1, 8)
@@ -29,6 +30,9 @@ class Report:
 
     def lacks(self, what):
         self.lines.append(f"lacks: {what}")
+
+    def assumed(self, what):
+        self.lines.append(f"assumed: {what}")
 
 
 def text_of(content):
@@ -82,3 +86,28 @@ def expand(text, held):
             return None, name
         made += value
     return made + rest, None
+
+
+def write_out(text):
+    """Writes to standard output, and says where that can't be."""
+    rest = text.encode()
+    try:
+        while rest:
+            rest = rest[os.write(1, rest) :]
+    except OSError as why:
+        raise Stop(UNWRITABLE, f"standard output: {why.strerror}") from None
+
+
+def tell(line):
+    """Writes a line to standard error, where somebody listens there."""
+    try:
+        os.write(2, f"{printable(line)}\n".encode())
+    except OSError:
+        pass
+
+
+def mask():
+    """The bits of a mode that this process takes away."""
+    bits = os.umask(0)
+    os.umask(bits)
+    return bits
