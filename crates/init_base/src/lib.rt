@@ -25,6 +25,7 @@ pub use adapters::source::StdSource;
 pub use fifo::Fifo;
 pub use in_memory::files::{MemFiles, SteadyFiles};
 pub use in_memory::keeper::{MemKeeper, SteadyKeeper};
+pub use in_memory::plan::FailPlan;
 pub use in_memory::sink::{MemSink, SteadySink};
 pub use in_memory::source::{MemSource, SteadySource};
 pub use list::List;

@@ -6,13 +6,10 @@ mod keeper;
 mod laws;
 mod layout;
 mod mem_disk;
-mod plan;
 mod refusal;
 mod reopening;
 mod slots;
 mod std_disk;
-#[cfg(test)]
-mod tests;
 
 pub use disk::Disk;
 pub use keeper::DiskKeeper;

@@ -5,8 +5,7 @@ ghost use Rattle.persist_disk.specs.DiskModel.{written as written_lem};
 ghost use Rattle.persist_disk.specs.Record.{content_after, left_now, reaches_back, read_is_left, unrecorded, LeftSince};
 
 use crate::disk::Disk;
-use crate::plan::FailPlan;
-use init_base::{Failed, IoRefusal, List, NoMemory, Text};
+use init_base::{FailPlan, Failed, IoRefusal, List, NoMemory, Text};
 use std::alloc::Global;
 use std::marker::Model;
 

@@ -7,9 +7,9 @@ ghost use Rattle.init_base.specs.Memory.{after_call, fails_next};
 use crate::list::List;
 use std::marker::Model;
 
-/// The numbers of the calls that fail, from 1, and the counts of calls and faults.
+/// The numbers of the calls of an object that fail, from 1, and the counts of its calls and faults.
 #[derive(Debug, Drop)]
-pub(crate) struct FailPlan {
+pub struct FailPlan {
     fail: List<u64>,
     made: u64,
     faults: u64,
@@ -24,7 +24,8 @@ impl Model for FailPlan {
 }
 
 impl FailPlan {
-    pub(crate) fn new(fail: List<u64>) -> FailPlan
+    /// No call is made yet.
+    pub fn new(fail: List<u64>) -> FailPlan
         ensures { result ≡ record { fail = fail; made = 0; faults = 0 } }
     {
         FailPlan {
@@ -34,14 +35,22 @@ impl FailPlan {
         }
     }
 
-    pub(crate) fn faults(&self) -> u64
+    /// How many calls were made, at most 2^64 - 1.
+    pub fn made(&self) -> u64
+        ensures { result ≡ self.now.made }
+    {
+        self.made
+    }
+
+    /// How many calls failed, at most 2^64 - 1.
+    pub fn faults(&self) -> u64
         ensures { result ≡ self.now.faults }
     {
         self.faults
     }
 
     /// Counts one call more, and says whether it fails. A fault is counted too.
-    pub(crate) fn fails(&mut self) -> bool
+    pub fn fails(&mut self) -> bool
         ensures answer { result ≡ fails_next self.old }
         ensures calls { self.new ≡ after_call self.old }
     {

@@ -1,5 +1,9 @@
-use super::*;
+//! The store on a disk: the steps of a replace, crashes between them, and disks that don't open.
+
 use init_base::{IoRefusal, Keeper, List, MemKeeper, SteadyKeeper, Text};
+use persist_disk::{
+    Disk, DiskKeeper, DiskStep, MemDisk, OpenRefusal, ReopenRefusal, StdDisk, reopen,
+};
 use std::alloc::Global;
 use std::process::Abort;
 use std::test::Fail;
