@@ -2,7 +2,7 @@
 //! properties is to the layers above.
 //!
 //! `specs/` has the definitions of the documented machine over these types: `State`, `Matches`, `Effect`, `Step`,
-//! `After`, `Legal`, `Sets`. A store's meaning is a finite map from names to values and numbers; `put` changes it
+//! `History`. A store's meaning is a finite map from names to values and numbers; `put` changes it
 //! at one name alone, and can't fail behind `room` and `reserve`.
 #![tactic(auto)]
 

@@ -19,4 +19,6 @@ pub enum Limit {
     Steps,
     /// The bytes of the persistent store.
     StoreBytes,
+    /// The bytes of a trace that is audited.
+    TraceBytes,
 }

@@ -1,5 +1,5 @@
 -- What is wrong with words is none exactly where they have a form.
-use Rattle.std.proofs.Common.{◌≡◌, ℕ, Bool, true, false, List, [], ◌∷◌, ◌&&◌, ◌↔◌, length, codes, Option, Some, None, refl, sym, subst}
+use Rattle.std.proofs.Common.{◌≡◌, ℕ, Bool, true, false, List, [], ◌∷◌, ◌&&◌, ◌↔◌, codes, Option, Some, None, refl, sym, subst}
 use Rattle.std.specs.Prelude.{IsSome, ◌==◌, not, if◌then◌else◌, option_map}
 use Rattle.std.specs.Option.{option_map_or, option_or}
 use Rattle.std.specs.Str.{bytes_eq, is_utf8}
@@ -8,10 +8,11 @@ use Rattle.std.proofs.lemmas.Slice.Eq.{bytes_eq-Decides}
 use Rattle.init_words.specs.Form.{form_of, is_path_word}
 use Rattle.init_words.specs.Misuse.{misuse_at, misuse_behind, misuse_of, word_fault}
 use Rattle.init_words.specs.declared.form.Form.{Form}
-use Rattle.init_words.specs.declared.form.Form.TheVariants.{Run, Check}
+use Rattle.init_words.specs.declared.form.Form.TheVariants.{Run, Check, Audit}
 use Rattle.init_words.specs.declared.misuse.Misuse.{Misuse}
 use Rattle.init_words.specs.declared.misuse.Misuse.TheVariants as misuse
 use Rattle.init_words.specs.declared.misuse.Place.{Place}
+use Rattle.init_words.specs.declared.misuse.Place.TheVariants.{Root, Script, Trace}
 use Rattle.init_words.specs.declared.misuse.WordFault.{WordFault}
 use Rattle.init_words.specs.declared.misuse.WordFault.TheVariants as fault
 
@@ -55,50 +56,106 @@ both_none : (a b : Option Misuse) → a ≡ None → b ≡ None → option_or a 
 both_none None b h k = k
 both_none (Some x) b h k = h
 
-apart : (word : List ℕ) → bytes_eq word (codes "run") ≡ true → bytes_eq word (codes "check") ≡ false
-apart word h =
+apart_check : (word : List ℕ) → bytes_eq word (codes "run") ≡ true → bytes_eq word (codes "check") ≡ false
+apart_check word h =
     let named : word ≡ codes "run" = (bytes_eq-Decides word (codes "run")).0 h in
     subst (λ w. bytes_eq w (codes "check") ≡ false) (sym named) refl
 
-two : (run check : Bool) (root : List ℕ) → (run ≡ true → check ≡ false)
-    → (option_map_or (misuse_behind (root ∷ [])) (if run then Some Run else (if check then Some Check else None)) (Some misuse.UnknownForm) ≡ None)
-    ↔ IsSome (if check && is_path_word root then Some Check else None)
-two true true root differ = let bad : false ≡ true = sym (differ refl) in (λ h. cc, λ h. cc)
-two true false root differ = (λ h. cc, λ h. cc)
-two false true root differ = (
+run_or_audit : (word : List ℕ) → bytes_eq word (codes "run") ≡ true → bytes_eq word (codes "audit") ≡ false
+run_or_audit word h =
+    let named : word ≡ codes "run" = (bytes_eq-Decides word (codes "run")).0 h in
+    subst (λ w. bytes_eq w (codes "audit") ≡ false) (sym named) refl
+
+check_or_audit : (word : List ℕ) → bytes_eq word (codes "check") ≡ true → bytes_eq word (codes "audit") ≡ false
+check_or_audit word h =
+    let named : word ≡ codes "check" = (bytes_eq-Decides word (codes "check")).0 h in
+    subst (λ w. bytes_eq w (codes "audit") ≡ false) (sym named) refl
+
+-- the form that the tests of a word's name give
+tested : (run check audit : Bool) → Option Form
+tested run check audit = if run then Some Run else (if check then Some Check else (if audit then Some Audit else None))
+
+-- what is wrong with words behind a name that is tested so
+behind : (run check audit : Bool) (words : List (List ℕ)) → Option Misuse
+behind run check audit words = option_map_or (misuse_behind words) (tested run check audit) (Some misuse.UnknownForm)
+
+two : (run check audit : Bool) (root : List ℕ) → (run ≡ true → check ≡ false)
+    → (behind run check audit (root ∷ []) ≡ None) ↔ IsSome (if check && is_path_word root then Some Check else None)
+unfolding behind tested
+two true true audit root differ = let bad : false ≡ true = sym (differ refl) in (λ h. cc, λ h. cc)
+two true false audit root differ = (λ h. cc, λ h. cc)
+two false true audit root differ = (
   λ h. some_if (is_path_word root) Check ((at_law _ root).0 h),
   λ h. (at_law _ root).1 (some_where (is_path_word root) Check h),
 )
-two false false root differ = (λ h. cc, λ h. cc)
+two false false true root differ = (λ h. cc, λ h. cc)
+two false false false root differ = (λ h. cc, λ h. cc)
 
-three : (run check : Bool) (root script : List ℕ)
-    → (option_map_or (misuse_behind (root ∷ script ∷ [])) (if run then Some Run else (if check then Some Check else None)) (Some misuse.UnknownForm) ≡ None)
+three : (run check audit : Bool) (root script : List ℕ)
+    → (behind run check audit (root ∷ script ∷ []) ≡ None)
     ↔ IsSome (if run && is_path_word root && is_path_word script then Some Run else None)
-three true check root script = (
+unfolding behind tested
+three true check audit root script = (
   λ h. some_if (is_path_word root && is_path_word script) Run
       (and_from (is_path_word root) (is_path_word script) ((at_law _ root).0 (first_none _ _ h)) ((at_law _ script).0 (second_none _ _ h))),
   λ h. let both = and_parts (is_path_word root) (is_path_word script) (some_where (is_path_word root && is_path_word script) Run h) in
       both_none _ _ ((at_law _ root).1 both.0) ((at_law _ script).1 both.1),
 )
-three false true root script = (λ h. cc, λ h. cc)
-three false false root script = (λ h. cc, λ h. cc)
+three false true audit root script = (λ h. cc, λ h. cc)
+three false false true root script = (λ h. cc, λ h. cc)
+three false false false root script = (λ h. cc, λ h. cc)
 
-other_count : (run check : Bool) (words : List (List ℕ)) (a b : Misuse) → misuse_behind words Run ≡ Some a → misuse_behind words Check ≡ Some b
-    → option_map_or (misuse_behind words) (if run then Some Run else (if check then Some Check else None)) (Some misuse.UnknownForm) ≡ None
-    → true ≡ false
-other_count true check words a b e f h = cc
-other_count false true words a b e f h = cc
-other_count false false words a b e f h = cc
+three_paths : (root script trace : List ℕ)
+    → (option_or (misuse_at Root root) (option_or (misuse_at Script script) (misuse_at Trace trace)) ≡ None)
+    ↔ ((is_path_word root && is_path_word script && is_path_word trace) ≡ true)
+three_paths root script trace = (
+  λ h. and_from (is_path_word root && is_path_word script) (is_path_word trace)
+      (and_from (is_path_word root) (is_path_word script)
+      ((at_law _ root).0 (first_none _ _ h)) ((at_law _ script).0 (first_none _ _ (second_none _ _ h))))
+      ((at_law _ trace).0 (second_none _ _ (second_none _ _ h))),
+  λ h. let all = and_parts (is_path_word root && is_path_word script) (is_path_word trace) h in
+      let both = and_parts (is_path_word root) (is_path_word script) all.0 in
+      both_none _ _ ((at_law _ root).1 both.0) (both_none _ _ ((at_law _ script).1 both.1) ((at_law _ trace).1 all.1)),
+)
+
+four : (run check audit : Bool) (root script trace : List ℕ) → (run ≡ true → audit ≡ false) → (check ≡ true → audit ≡ false)
+    → (behind run check audit (root ∷ script ∷ trace ∷ []) ≡ None)
+    ↔ IsSome (if audit && is_path_word root && is_path_word script && is_path_word trace then Some Audit else None)
+unfolding behind tested
+four true check true root script trace run_differs check_differs = let bad : false ≡ true = sym (run_differs refl) in (λ h. cc, λ h. cc)
+four true check false root script trace run_differs check_differs = (λ h. cc, λ h. cc)
+four false true true root script trace run_differs check_differs = let bad : false ≡ true = sym (check_differs refl) in (λ h. cc, λ h. cc)
+four false true false root script trace run_differs check_differs = (λ h. cc, λ h. cc)
+four false false true root script trace run_differs check_differs = (
+  λ h. some_if (is_path_word root && is_path_word script && is_path_word trace) Audit ((three_paths root script trace).0 h),
+  λ h. (three_paths root script trace).1 (some_where (is_path_word root && is_path_word script && is_path_word trace) Audit h),
+)
+four false false false root script trace run_differs check_differs = (λ h. cc, λ h. cc)
+
+other_count : (run check audit : Bool) (words : List (List ℕ)) (a b c : Misuse)
+    → misuse_behind words Run ≡ Some a → misuse_behind words Check ≡ Some b → misuse_behind words Audit ≡ Some c
+    → behind run check audit words ≡ None → true ≡ false
+unfolding behind tested
+other_count true check audit words a b c e f g h = cc
+other_count false true audit words a b c e f g h = cc
+other_count false false true words a b c e f g h = cc
+other_count false false false words a b c e f g h = cc
 
 pub misuse_law : (words : List (List ℕ)) → (misuse_of words ≡ None) ↔ IsSome (form_of words)
+unfolding behind tested
 misuse_law [] = (λ h. cc, λ h. cc)
 misuse_law (word ∷ []) = (
-  λ h. sym (other_count (bytes_eq word (codes "run")) (bytes_eq word (codes "check")) [] _ _ refl refl h),
+  λ h. sym (other_count (bytes_eq word (codes "run")) (bytes_eq word (codes "check")) (bytes_eq word (codes "audit")) [] _ _ _ refl refl refl h),
   λ h. cc,
 )
-misuse_law (word ∷ root ∷ []) = two (bytes_eq word (codes "run")) (bytes_eq word (codes "check")) root (apart word)
-misuse_law (word ∷ root ∷ script ∷ []) = three (bytes_eq word (codes "run")) (bytes_eq word (codes "check")) root script
-misuse_law (word ∷ root ∷ script ∷ more ∷ rest) = (
-  λ h. sym (other_count (bytes_eq word (codes "run")) (bytes_eq word (codes "check")) (root ∷ script ∷ more ∷ rest) _ _ refl refl h),
+misuse_law (word ∷ root ∷ []) =
+    two (bytes_eq word (codes "run")) (bytes_eq word (codes "check")) (bytes_eq word (codes "audit")) root (apart_check word)
+misuse_law (word ∷ root ∷ script ∷ []) =
+    three (bytes_eq word (codes "run")) (bytes_eq word (codes "check")) (bytes_eq word (codes "audit")) root script
+misuse_law (word ∷ root ∷ script ∷ trace ∷ []) =
+    four (bytes_eq word (codes "run")) (bytes_eq word (codes "check")) (bytes_eq word (codes "audit")) root script trace
+    (run_or_audit word) (check_or_audit word)
+misuse_law (word ∷ root ∷ script ∷ trace ∷ more ∷ rest) = (
+  λ h. sym (other_count (bytes_eq word (codes "run")) (bytes_eq word (codes "check")) (bytes_eq word (codes "audit")) (root ∷ script ∷ trace ∷ more ∷ rest) _ _ _ refl refl refl h),
   λ h. cc,
 )

@@ -1,5 +1,5 @@
 -- The command takes words of a form, and they are UTF-8.
-use Rattle.std.proofs.Common.{◌≡◌, ℕ, Bool, true, false, List, [], ◌∷◌, ◌&&◌, codes, Option, Some, None, refl, sym, subst}
+use Rattle.std.proofs.Common.{◌≡◌, ℕ, Bool, true, false, List, [], ◌∷◌, ◌&&◌, codes, Some, None, refl, sym, subst}
 use Rattle.std.specs.Prelude.{IsSome, ◌==◌, not, if◌then◌else◌}
 use Rattle.std.specs.List.{list_all}
 use Rattle.std.specs.Str.{bytes_eq, is_utf8}
@@ -38,6 +38,18 @@ run_taken (byte ∷ rest) (other ∷ more) h k =
     let plain2 = not_dash other more k in
     simp (plain, plain2) refl
 
+audit_taken : (root script trace : List ℕ) → is_path_word root ≡ true → is_path_word script ≡ true → is_path_word trace ≡ true
+    → takes app (codes "audit" ∷ root ∷ script ∷ trace ∷ []) ≡ true
+unfolding clap_on_literals
+audit_taken [] script trace h k l = cc
+audit_taken (byte ∷ rest) [] trace h k l = cc
+audit_taken (byte ∷ rest) (other ∷ more) [] h k l = cc
+audit_taken (byte ∷ rest) (other ∷ more) (third ∷ most) h k l =
+    let plain = not_dash byte rest h in
+    let plain2 = not_dash other more k in
+    let plain3 = not_dash third most l in
+    simp (plain, plain2, plain3) refl
+
 -- the command takes words of a form
 pub form_taken : (words : List (List ℕ)) → IsSome (form_of words) → takes app words ≡ true
 form_taken [] h = cc
@@ -51,7 +63,13 @@ form_taken (word ∷ root ∷ script ∷ []) h =
     let both = and_parts (bytes_eq word (codes "run")) (is_path_word root) all.0 in
     let named : word ≡ codes "run" = (bytes_eq-Decides word (codes "run")).0 both.0 in
     subst (λ w. takes app (w ∷ root ∷ script ∷ []) ≡ true) (sym named) (run_taken root script both.1 all.1)
-form_taken (word ∷ root ∷ script ∷ more ∷ rest) h = cc
+form_taken (word ∷ root ∷ script ∷ trace ∷ []) h =
+    let all = and_parts (bytes_eq word (codes "audit") && is_path_word root && is_path_word script) (is_path_word trace) (some_where _ _ h) in
+    let both = and_parts (bytes_eq word (codes "audit") && is_path_word root) (is_path_word script) all.0 in
+    let first = and_parts (bytes_eq word (codes "audit")) (is_path_word root) both.0 in
+    let named : word ≡ codes "audit" = (bytes_eq-Decides word (codes "audit")).0 first.0 in
+    subst (λ w. takes app (w ∷ root ∷ script ∷ trace ∷ []) ≡ true) (sym named) (audit_taken root script trace first.1 both.1 all.1)
+form_taken (word ∷ root ∷ script ∷ trace ∷ more ∷ rest) h = cc
 
 path_utf8 : (word : List ℕ) → is_path_word word ≡ true → is_utf8 word ≡ true
 path_utf8 [] h = cc
@@ -64,6 +82,10 @@ run_utf8 = refl
 check_utf8 : is_utf8 (codes "check") ≡ true
 unfolding clap_on_literals is_utf8
 check_utf8 = refl
+
+audit_utf8 : is_utf8 (codes "audit") ≡ true
+unfolding clap_on_literals is_utf8
+audit_utf8 = refl
 
 -- words of a form are UTF-8
 pub form_utf8 : (words : List (List ℕ)) → IsSome (form_of words) → list_all is_utf8 words ≡ true
@@ -83,4 +105,14 @@ form_utf8 (word ∷ root ∷ script ∷ []) h =
     let second : is_utf8 root ≡ true = path_utf8 root both.1 in
     let third : is_utf8 script ≡ true = path_utf8 script all.1 in
     rw (first, second, third) refl
-form_utf8 (word ∷ root ∷ script ∷ more ∷ rest) h = cc
+form_utf8 (word ∷ root ∷ script ∷ trace ∷ []) h =
+    let all = and_parts (bytes_eq word (codes "audit") && is_path_word root && is_path_word script) (is_path_word trace) (some_where _ _ h) in
+    let both = and_parts (bytes_eq word (codes "audit") && is_path_word root) (is_path_word script) all.0 in
+    let one = and_parts (bytes_eq word (codes "audit")) (is_path_word root) both.0 in
+    let named : word ≡ codes "audit" = (bytes_eq-Decides word (codes "audit")).0 one.0 in
+    let first : is_utf8 word ≡ true = subst (λ w. is_utf8 w ≡ true) (sym named) audit_utf8 in
+    let second : is_utf8 root ≡ true = path_utf8 root one.1 in
+    let third : is_utf8 script ≡ true = path_utf8 script both.1 in
+    let fourth : is_utf8 trace ≡ true = path_utf8 trace all.1 in
+    rw (first, second, third, fourth) refl
+form_utf8 (word ∷ root ∷ script ∷ trace ∷ more ∷ rest) h = cc

@@ -15,7 +15,11 @@ run_app = with_rule (with_rule (new_app (codes "run")) (path_rule (codes "ROOT")
 abbrev pub check_app : App
 check_app = with_rule (new_app (codes "check")) (path_rule (codes "ROOT"))
 
--- what holds of both: no program's name stands before the words, one of the two is named, and there is neither help nor
+-- `audit ROOT SCRIPT TRACE`
+abbrev pub audit_app : App
+audit_app = with_rule (with_rule (with_rule (new_app (codes "audit")) (path_rule (codes "ROOT"))) (path_rule (codes "SCRIPT"))) (path_rule (codes "TRACE"))
+
+-- what holds of all: no program's name stands before the words, one of them is named, and there is neither help nor
 -- version
 abbrev pub bare_of : App → App
 bare_of a = record a {
@@ -29,4 +33,4 @@ bare_of a = record a {
 }
 
 abbrev pub app : App
-app = with_subcommand (with_subcommand (bare_of (new_app (codes "initsim"))) run_app.top) check_app.top
+app = with_subcommand (with_subcommand (with_subcommand (bare_of (new_app (codes "initsim"))) run_app.top) check_app.top) audit_app.top

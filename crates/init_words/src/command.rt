@@ -18,7 +18,7 @@ pub fn parse<'a>(alloc: Global, words: &'a [&'a str]) -> Result<ArgMatches<'a>, 
     command.try_get_matches_from(words)
 }
 
-/// `run ROOT SCRIPT` and `check ROOT`, without help and version.
+/// `run ROOT SCRIPT`, `check ROOT` and `audit ROOT SCRIPT TRACE`, without help and version.
 fn command<'a>(alloc: Global) -> Result<Command<'a>, Error>
     ensures ok { IfOk result (λ command. app_of command ≡ app) }
     ensures err { IfErr result (λ e. kind_of e ≡ ErrorKind.OutOfMemory) }
@@ -27,13 +27,17 @@ fn command<'a>(alloc: Global) -> Result<Command<'a>, Error>
         .arg(path(alloc, "ROOT"))?
         .arg(path(alloc, "SCRIPT"))?;
     let check = Command::new(alloc, "check").arg(path(alloc, "ROOT"))?;
+    let audit = Command::new(alloc, "audit")
+        .arg(path(alloc, "ROOT"))?
+        .arg(path(alloc, "SCRIPT"))?
+        .arg(path(alloc, "TRACE"))?;
     let bare = Command::new(alloc, "initsim")
         .no_binary_name(true)
         .disable_help_flag(true)
         .disable_help_subcommand(true)
         .disable_version_flag(true)
         .subcommand_required(true);
-    let whole = bare.subcommand(run)?.subcommand(check)?;
+    let whole = bare.subcommand(run)?.subcommand(check)?.subcommand(audit)?;
     Ok(whole)
 }
 

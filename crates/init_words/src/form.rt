@@ -12,6 +12,8 @@ pub enum Form {
     Run,
     /// `check ROOT`: what is wrong in the build files and the rc files is written.
     Check,
+    /// `audit ROOT SCRIPT TRACE`: whether the machine can have written a trace is written.
+    Audit,
 }
 
 /// The form of the words.
@@ -23,6 +25,11 @@ pub fn form_of(words: &List<Text>) -> Option<Form>
         [word, root, script] if word.is(b"run") && is_path_word(root) && is_path_word(script) => {
             Some(Form::Run)
         }
+        [word, root, script, trace]
+            if word.is(b"audit")
+                && is_path_word(root)
+                && is_path_word(script)
+                && is_path_word(trace) => { Some(Form::Audit) }
         _ => None,
     }
 }

@@ -25,6 +25,7 @@ pub enum Misuse {
 pub enum Place {
     Root,
     Script,
+    Trace,
 }
 
 /// Why a word names no path.
@@ -57,6 +58,10 @@ pub fn misuse_of(words: &List<Text>) -> Option<Misuse>
         (Form::Run, [root, script]) => {
             misuse_at(Place::Root, root).or(misuse_at(Place::Script, script))
         }
+        (Form::Audit, [root, script, trace]) => misuse_at(Place::Root, root).or(misuse_at(
+            Place::Script,
+            script,
+        ).or(misuse_at(Place::Trace, trace))),
         _ => Some(Misuse::WrongCount {
             form,
             given: paths.len(),
@@ -72,6 +77,8 @@ fn form_named(word: &Text) -> Option<Form>
         Some(Form::Run)
     } else if word.is(b"check") {
         Some(Form::Check)
+    } else if word.is(b"audit") {
+        Some(Form::Audit)
     } else {
         None
     }

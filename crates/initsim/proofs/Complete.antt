@@ -1,6 +1,6 @@
 -- What can be done is refused by a fault alone, or for want of memory.
 use Rattle.std.proofs.Common.{◌≡◌, ℕ, ◌<◌, ◌≤◌, Bool, true, false, List, length, Option, Some, None, Result, Ok, Err, ap, inl, inr}
-use Rattle.std.specs.Prelude.{IfSome}
+use Rattle.std.specs.Prelude.{IfSome, IsSomeAnd}
 use native.Mathlib.Omega.{arith}
 use Rattle.init_base.specs.Tree.{file_at}
 use Rattle.init_machine.specs.Policy.{PolicyLines}
@@ -20,16 +20,18 @@ use Rattle.script_lang.proofs.OneReading.{script_or_line, within_no_limit}
 use Rattle.initsim.specs.Check.{IsCheckStatus}
 use Rattle.initsim.specs.Counts.{AreCounted, Counts, IsDoneUnlessRisen}
 use Rattle.initsim.specs.Policy.{IsBadLine}
-use Rattle.initsim.specs.Prepared.{IsRunStatus}
+use Rattle.initsim.specs.Endings.{IsAuditStatus, IsRunLimit, IsRunStatus}
+use Rattle.initsim.specs.Outcome.{Sources}
 use Rattle.initsim.specs.Script.{HasScript, ScriptLimitSays, ScriptSays}
 use Rattle.initsim.specs.Store.{HasStore, StoreSays}
 use Rattle.initsim.specs.Texts.{AreShort, IsOneLong, allow_text, contexts_text}
-use Rattle.initsim.specs.Top.{CanBeDone}
+use Rattle.initsim.specs.Top.{CanRun}
+use Rattle.initsim.specs.Trace.{HasTrace, TraceLimitSays, TraceSays}
 use Rattle.initsim.specs.Tree.{HasNoRoot, IsBadPolicyFor, IsFitFor, IsPolicyTooLargeFor, IsTreeTooLarge, TreeSays}
 use Rattle.initsim.specs.declared.status.Status.{Status}
 use Rattle.initsim.specs.declared.status.Status.TheVariants as status
 use Rattle.init_words.specs.declared.form.Form.{Form}
-use Rattle.init_words.specs.declared.form.Form.TheVariants.{Run, Check}
+use Rattle.init_words.specs.declared.form.Form.TheVariants.{Run, Check, Audit}
 
 -- ---- the tree
 
@@ -45,6 +47,8 @@ no_policy_limit : (form : Form) (world : World) (limit : Limit) (number : ℕ)
 no_policy_limit Run world limit number fit large =
     none_long (contexts_text world.tree) (allow_text world.tree) fit.0.1.short large.0
 no_policy_limit Check world limit number fit large = large
+no_policy_limit Audit world limit number fit large =
+    none_long (contexts_text world.tree) (allow_text world.tree) fit.0.1.short large.0
 
 ok_or_err : (result : Result Loaded LoadRefusal) (loaded : Loaded) (why : LoadRefusal) → result ≡ Ok loaded → result ≡ Err why → ⊥
 ok_or_err result loaded why is refused = cc
@@ -80,6 +84,8 @@ no_bad_policy : (form : Form) (world : World) (in_allow : Bool) (line : ℕ)
 no_bad_policy Run world in_allow line fit bad =
     no_bad_line (contexts_text world.tree) (allow_text world.tree) fit.0.0 in_allow line fit.0.1.policy_is bad.bad
 no_bad_policy Check world in_allow line fit bad = bad
+no_bad_policy Audit world in_allow line fit bad =
+    no_bad_line (contexts_text world.tree) (allow_text world.tree) fit.0.0 in_allow line fit.0.1.policy_is bad.bad
 
 -- ---- a check
 
@@ -93,6 +99,7 @@ check_limit world limits.ScriptBytes number is says fit = is
 check_limit world limits.ScriptLines number is says fit = is
 check_limit world limits.Steps number is says fit = is
 check_limit world limits.StoreBytes number is says fit = is
+check_limit world limits.TraceBytes number is says fit = is
 
 pub complete_check : (how : Status) (world : World) (before now : Counts)
     → IsCheckStatus how → TreeSays Check world how → AreCounted how before now → IsFitFor Check world → IsDoneUnlessRisen how before now
@@ -106,27 +113,29 @@ complete_check status.NoInit world before now is says counted fit = root_is_ther
 complete_check (status.TooLarge limit number) world before now is says counted fit = check_limit world limit number is says fit
 complete_check (status.BadPolicy allow line) world before now is says counted fit = is
 complete_check (status.BadStore line) world before now is says counted fit = is
+complete_check status.BadTrace world before now is says counted fit = is
 
 -- ---- a run
 
 no_script_limit : (bytes : List ℕ) (left : Option (List ℕ)) (world : World) (held : List ℕ) (limit : Limit) (number : ℕ)
-    → ScriptLimitSays bytes left limit number → TreeSays Run world (status.TooLarge limit number) → StoreSays held (status.TooLarge limit number)
+    → IsRunLimit limit → ScriptLimitSays bytes left limit number → TreeSays Run world (status.TooLarge limit number) → StoreSays held (status.TooLarge limit number)
     → HasScript bytes → IsFitFor Run world → HasStore held → ⊥
-no_script_limit bytes left world held limits.ScriptBytes number script tree store has fit stored =
+no_script_limit bytes left world held limits.ScriptBytes number is script tree store has fit stored =
     within_no_limit bytes limits.ScriptBytes number has.1.within script
-no_script_limit bytes left world held limits.ScriptLines number script tree store has fit stored =
+no_script_limit bytes left world held limits.ScriptLines number is script tree store has fit stored =
     within_no_limit bytes limits.ScriptLines number has.1.within script
-no_script_limit bytes left world held limits.Steps number script tree store has fit stored =
+no_script_limit bytes left world held limits.Steps number is script tree store has fit stored =
     within_no_limit bytes limits.Steps number has.1.within script
-no_script_limit bytes left world held limits.FileBytes number script tree store has fit stored =
+no_script_limit bytes left world held limits.FileBytes number is script tree store has fit stored =
     no_tree_limit Run world limits.FileBytes number fit tree
-no_script_limit bytes left world held limits.Files number script tree store has fit stored =
+no_script_limit bytes left world held limits.Files number is script tree store has fit stored =
     no_tree_limit Run world limits.Files number fit tree
-no_script_limit bytes left world held limits.Names number script tree store has fit stored =
+no_script_limit bytes left world held limits.Names number is script tree store has fit stored =
     no_tree_limit Run world limits.Names number fit tree
-no_script_limit bytes left world held limits.RcBytes number script tree store has fit stored =
+no_script_limit bytes left world held limits.RcBytes number is script tree store has fit stored =
     no_tree_limit Run world limits.RcBytes number fit tree
-no_script_limit bytes left world held limits.StoreBytes number script tree store has fit stored =
+no_script_limit bytes left world held limits.TraceBytes number is script tree store has fit stored = absurd is
+no_script_limit bytes left world held limits.StoreBytes number is script tree store has fit stored =
     not_more (length held) stored.1.short store.0
   where
     not_more : (size : ℕ) → size ≤ 33554432 → 33554432 < size → ⊥
@@ -144,16 +153,64 @@ done (status.BadScript line) bytes left world held before now is script tree sto
     script_or_line bytes has.0 line has.1 script
 done status.NoInit bytes left world held before now is script tree store counted has fit stored = root_is_there Run world fit tree
 done (status.TooLarge limit number) bytes left world held before now is script tree store counted has fit stored =
-    no_script_limit bytes left world held limit number script tree store has fit stored
+    no_script_limit bytes left world held limit number is script tree store has fit stored
 done (status.BadPolicy allow line) bytes left world held before now is script tree store counted has fit stored =
     no_bad_policy Run world allow line fit tree
 done (status.BadStore line) bytes left world held before now is script tree store counted has fit stored =
     store_or_line held stored.0 line stored.1.pairs store.1
+done status.BadTrace bytes left world held before now is script tree store counted has fit stored = is
 
-pub complete_run : (how : Status) (script left held : Option (List ℕ)) (world : World) (before now : Counts)
+run_is_done : (how : Status) (script left held : Option (List ℕ)) (world : World) (before now : Counts)
     → IsRunStatus how → IfSome script (λ bytes. ScriptSays bytes left how) → TreeSays Run world how → IfSome held (λ text. StoreSays text how)
-    → AreCounted how before now → CanBeDone (Some Run) script world held → IsDoneUnlessRisen how before now
-complete_run how None left held world before now is says tree store counted can = absurd can.0
-complete_run how (Some bytes) left None world before now is says tree store counted can = absurd can.2
-complete_run how (Some bytes) left (Some held) world before now is says tree store counted can =
-    done how bytes left world held before now is says tree store counted can.0 can.1 can.2
+    → AreCounted how before now → IsSomeAnd script HasScript → IsFitFor Run world → IsSomeAnd held HasStore → IsDoneUnlessRisen how before now
+run_is_done how None left held world before now is says tree store counted has fit stored = absurd has
+run_is_done how (Some bytes) left None world before now is says tree store counted has fit stored = absurd stored
+run_is_done how (Some bytes) left (Some held) world before now is says tree store counted has fit stored =
+    done how bytes left world held before now is says tree store counted has fit stored
+
+pub complete_run : (how : Status) (sources : Sources) (left : Option (List ℕ)) (world : World) (before now : Counts)
+    → IsRunStatus how → IfSome sources.script (λ bytes. ScriptSays bytes left how) → TreeSays Run world how
+    → IfSome sources.held (λ text. StoreSays text how) → AreCounted how before now → CanRun sources world → IsDoneUnlessRisen how before now
+complete_run how sources left world before now is says tree store counted can =
+    run_is_done how sources.script left sources.held world before now is says tree store counted can.script can.world_is_fit can.store
+
+-- ---- an audit: with a trace that can be read, it ends as a run may
+
+not_more_trace : (size : ℕ) → size ≤ 67108864 → 67108864 < size → ⊥
+not_more_trace size short more = omega (arith, short, more)
+
+limit_of_run : (limit : Limit) (number : ℕ) (bytes : List ℕ) → TraceLimitSays bytes limit number → HasTrace bytes → IsRunLimit limit
+limit_of_run limits.TraceBytes number bytes says has = not_more_trace (length bytes) has.1.short says.0
+limit_of_run limits.ScriptBytes number bytes says has = tt
+limit_of_run limits.ScriptLines number bytes says has = tt
+limit_of_run limits.Steps number bytes says has = tt
+limit_of_run limits.FileBytes number bytes says has = tt
+limit_of_run limits.Files number bytes says has = tt
+limit_of_run limits.Names number bytes says has = tt
+limit_of_run limits.RcBytes number bytes says has = tt
+limit_of_run limits.StoreBytes number bytes says has = tt
+
+ends_as_run : (how : Status) (bytes : List ℕ) (left : Option (List ℕ)) → IsAuditStatus how → TraceSays bytes left how → HasTrace bytes → IsRunStatus how
+ends_as_run status.Done bytes left is says has = tt
+ends_as_run status.Usage bytes left is says has = is
+ends_as_run status.ReadFault bytes left is says has = tt
+ends_as_run status.WriteFault bytes left is says has = tt
+ends_as_run status.NoMemory bytes left is says has = tt
+ends_as_run (status.BadScript line) bytes left is says has = tt
+ends_as_run status.NoInit bytes left is says has = tt
+ends_as_run (status.TooLarge limit number) bytes left is says has = limit_of_run limit number bytes says has
+ends_as_run (status.BadPolicy allow line) bytes left is says has = tt
+ends_as_run (status.BadStore line) bytes left is says has = tt
+ends_as_run status.BadTrace bytes left is says has = says.none has.0 has.1.text
+
+told_ends_as_run : (how : Status) (trace left : Option (List ℕ)) → IsAuditStatus how → IfSome trace (λ bytes. TraceSays bytes left how)
+    → IsSomeAnd trace HasTrace → IsRunStatus how
+told_ends_as_run how None left is says has = absurd has
+told_ends_as_run how (Some bytes) left is says has = ends_as_run how bytes left is says has
+
+pub complete_audit : (how : Status) (sources : Sources) (left behind : Option (List ℕ)) (world : World) (before now : Counts)
+    → IsAuditStatus how → IfSome sources.script (λ bytes. ScriptSays bytes left how) → TreeSays Run world how
+    → IfSome sources.held (λ text. StoreSays text how) → IfSome sources.trace (λ bytes. TraceSays bytes behind how)
+    → AreCounted how before now → CanRun sources world → IsSomeAnd sources.trace HasTrace → IsDoneUnlessRisen how before now
+complete_audit how sources left behind world before now is says tree store trace counted can has =
+    complete_run how sources left world before now (told_ends_as_run how sources.trace behind is trace has) says tree store counted can

@@ -1,6 +1,6 @@
 -- How a call ends, by what its parts say of the objects.
 use Rattle.std.specs.Io.KnownBytes.{append_known}
-use Rattle.std.proofs.Common.{◌≡◌, ℕ, ◌⊎◌, inl, inr, List, [], ◌∷◌, Option, Some, None, refl, sym, ap, ◌∙◌, subst}
+use Rattle.std.proofs.Common.{◌≡◌, ℕ, inl, inr, List, [], Option, Some, None, refl, ap, ◌∙◌, subst}
 use Rattle.init_driver.specs.Keeper.{KeeperView, Risks, Took}
 use Rattle.init_driver.specs.Run.{Due, KeepsPart, LeavesPart, given_in}
 use Rattle.init_driver.specs.declared.refusal.DriveRefusal.{DriveRefusal}
@@ -10,17 +10,20 @@ use Rattle.init_machine.specs.declared.limit.Limit.{Limit}
 use Rattle.init_machine.specs.declared.limit.Limit.TheVariants as limits
 use Rattle.init_trace.specs.Written.{TakesFront}
 use Rattle.init_words.specs.declared.form.Form.{Form}
-use Rattle.init_words.specs.declared.form.Form.TheVariants.{Run, Check}
-use Rattle.rc_import.specs.World.{World}
+use Rattle.init_words.specs.declared.form.Form.TheVariants.{Run, Check, Audit}
 use Rattle.initsim.specs.Check.{CheckWrites, IsCheckStatus}
-use Rattle.initsim.specs.Outcome.{ComesTo, Ends, FilesRefuse, Outcome, RunRefused, Shown, Shows, Told, Untouched, shown_as, status_of_outcome}
-use Rattle.initsim.specs.Outcome.Outcome.{Checked, Ran, Refused, Unformed}
-use Rattle.initsim.specs.Prepared.{Performs}
+use Rattle.initsim.specs.Endings.{IsRunLimit, IsRunStatus}
+use Rattle.initsim.specs.Outcome.{AuditRefused, CanBeRun, ComesTo, Ends, FilesRefuse, IsJudged, Outcome, RunRefused, Shows, Told, Untouched, shown_as, status_of_outcome}
+use Rattle.initsim.specs.Outcome.Outcome.{Checked, Judged, Ran, Refused, Unformed}
+use Rattle.initsim.specs.Prepared.{Performs, WritesText}
 use Rattle.initsim.specs.Run.{Course, IsCourseOf, due_of_course}
-use Rattle.initsim.specs.Script.{HasScript, ScriptLimitSays, ScriptSays}
+use Rattle.initsim.specs.Script.{HasScript, IsReadWhole, ScriptLimitSays, ScriptSays}
 use Rattle.initsim.specs.Stops.{status_of}
-use Rattle.initsim.specs.Store.{StoreLimitSays, StoreSays}
-use Rattle.initsim.specs.Tree.{AreRcFilesTooLarge, IsTreeTooLarge, TreeLimitSays, TreeSays}
+use Rattle.initsim.specs.Store.{HasStore, StoreLimitSays, StoreSays}
+use Rattle.initsim.specs.Trace.{TraceLimitSays, TraceSays}
+use Rattle.initsim.specs.Tree.{IsFitFor, IsTreeTooLarge, TreeLimitSays, TreeSays}
+use Rattle.initsim.specs.Verdict.{verdict_text}
+use Rattle.trace_audit.specs.declared.verdict.Verdict.{Verdict}
 use Rattle.initsim.specs.declared.status.Status.{Status}
 use Rattle.initsim.specs.declared.status.Status.TheVariants as status
 use Rattle.initsim.specs.declared.stop.Stop.{Stop}
@@ -45,16 +48,17 @@ tree_limit told limit number has (inr (inl build)) = inr (has, inr (build.0, inl
 tree_limit told limit number has (inr (inr rc)) =
     inr (has, inr (rc.policy, inl (inr (rc.build_files, record { refusal = rc.refusal; refused = rc.refused; passes = rc.passes }))))
 
-limit_refused : (told : Told) (left : Option (List ℕ)) (limit : Limit) (number : ℕ) → ScriptLimitSays told.script left limit number
+limit_refused : (told : Told) (left : Option (List ℕ)) (limit : Limit) (number : ℕ) → IsRunLimit limit → ScriptLimitSays told.script left limit number
     → TreeLimitSays Run told.world limit number → StoreLimitSays told.held limit number → RunRefused told (status.TooLarge limit number)
-limit_refused told left limits.ScriptBytes number script tree store = inl script
-limit_refused told left limits.ScriptLines number script tree store = inl script
-limit_refused told left limits.Steps number script tree store = inl script
-limit_refused told left limits.FileBytes number script tree store = tree_limit told limits.FileBytes number script.0 tree
-limit_refused told left limits.Files number script tree store = tree_limit told limits.Files number script.0 tree
-limit_refused told left limits.Names number script tree store = tree_limit told limits.Names number script.0 tree
-limit_refused told left limits.RcBytes number script tree store = tree_limit told limits.RcBytes number script.0 tree
-limit_refused told left limits.StoreBytes number script tree store = inr (script.0, inr (tree.0, inr (tree.1, (refl, store.0, store.1))))
+limit_refused told left limits.ScriptBytes number is script tree store = inl script
+limit_refused told left limits.ScriptLines number is script tree store = inl script
+limit_refused told left limits.Steps number is script tree store = inl script
+limit_refused told left limits.FileBytes number is script tree store = tree_limit told limits.FileBytes number script.0 tree
+limit_refused told left limits.Files number is script tree store = tree_limit told limits.Files number script.0 tree
+limit_refused told left limits.Names number is script tree store = tree_limit told limits.Names number script.0 tree
+limit_refused told left limits.RcBytes number is script tree store = tree_limit told limits.RcBytes number script.0 tree
+limit_refused told left limits.StoreBytes number is script tree store = inr (script.0, inr (tree.0, inr (tree.1, (refl, store.0, store.1))))
+limit_refused told left limits.TraceBytes number is script tree store = absurd is
 
 refused : (form : Form) (told : Told) (why : Status) (old : Option (List ℕ)) (a b : KeeperView) → ComesTo (Some form) told (Refused why)
     → b.held ≡ a.held → (a.TellsCrash → Risks a b [] [])
@@ -62,20 +66,73 @@ refused : (form : Form) (told : Told) (why : Status) (old : Option (List ℕ)) (
 refused form told why old a b comes held crash = (Refused why, comes, refl, untouched old a b held crash)
 
 -- a run that isn't begun
-pub stop_ends : (why : Stop) (told : Told) (left old : Option (List ℕ)) (a b : KeeperView) → ScriptSays told.script left (status_of why)
+pub stop_ends : (why : Stop) (told : Told) (left old : Option (List ℕ)) (a b : KeeperView) → IsRunStatus (status_of why) → ScriptSays told.script left (status_of why)
     → TreeSays Run told.world (status_of why) → StoreSays told.held (status_of why) → b.held ≡ a.held → (a.TellsCrash → Risks a b [] [])
     → Ends (Some Run) told (status_of why) (shown_as old old a b)
-stop_ends stop.ReadFault told left old a b script tree store held crash = inl (untouched old a b held crash)
-stop_ends stop.NoMemory told left old a b script tree store held crash = inl (untouched old a b held crash)
-stop_ends (stop.BadScript line) told left old a b script tree store held crash = refused Run told (status.BadScript line) old a b (inl script) held crash
-stop_ends stop.NoInit told left old a b script tree store held crash =
+stop_ends stop.ReadFault told left old a b is script tree store held crash = inl (untouched old a b held crash)
+stop_ends stop.NoMemory told left old a b is script tree store held crash = inl (untouched old a b held crash)
+stop_ends (stop.BadScript line) told left old a b is script tree store held crash = refused Run told (status.BadScript line) old a b (inl script) held crash
+stop_ends stop.NoInit told left old a b is script tree store held crash =
     refused Run told status.NoInit old a b (inr (script.0, inr (tree.policy, inl (tree.build_files, tree.absent)))) held crash
-stop_ends (stop.TooLarge limit number) told left old a b script tree store held crash =
-    refused Run told (status.TooLarge limit number) old a b (limit_refused told left limit number script tree store) held crash
-stop_ends (stop.BadPolicy allow line) told left old a b script tree store held crash =
+stop_ends (stop.TooLarge limit number) told left old a b is script tree store held crash =
+    refused Run told (status.TooLarge limit number) old a b (limit_refused told left limit number is script tree store) held crash
+stop_ends (stop.BadPolicy allow line) told left old a b is script tree store held crash =
     refused Run told (status.BadPolicy allow line) old a b (inr (script.0, inl tree)) held crash
-stop_ends (stop.BadStore line) told left old a b script tree store held crash =
+stop_ends (stop.BadStore line) told left old a b is script tree store held crash =
     refused Run told (status.BadStore line) old a b (inr (script.0, inr (tree.0, inr (tree.1, store)))) held crash
+stop_ends stop.BadTrace told left old a b is script tree store held crash = absurd is
+
+-- ---- why nothing is judged
+
+can_be_run : (told : Told) (left : Option (List ℕ)) → IsReadWhole told.script left → IsFitFor Run told.world → HasStore told.held → CanBeRun told
+can_be_run told left script tree store = record { script = script.0; policy = tree.0; files = tree.1; store = store }
+
+audit_limit : (told : Told) (left behind : Option (List ℕ)) (limit : Limit) (number : ℕ) → ScriptLimitSays told.script left limit number
+    → TreeLimitSays Run told.world limit number → StoreLimitSays told.held limit number → TraceLimitSays told.trace limit number
+    → AuditRefused told (status.TooLarge limit number)
+audit_limit told left behind limits.TraceBytes number script tree store trace = inr (can_be_run told left script tree store, (refl, trace))
+audit_limit told left behind limits.ScriptBytes number script tree store trace = inl (limit_refused told left limits.ScriptBytes number tt script tree store)
+audit_limit told left behind limits.ScriptLines number script tree store trace = inl (limit_refused told left limits.ScriptLines number tt script tree store)
+audit_limit told left behind limits.Steps number script tree store trace = inl (limit_refused told left limits.Steps number tt script tree store)
+audit_limit told left behind limits.FileBytes number script tree store trace = inl (limit_refused told left limits.FileBytes number tt script tree store)
+audit_limit told left behind limits.Files number script tree store trace = inl (limit_refused told left limits.Files number tt script tree store)
+audit_limit told left behind limits.Names number script tree store trace = inl (limit_refused told left limits.Names number tt script tree store)
+audit_limit told left behind limits.RcBytes number script tree store trace = inl (limit_refused told left limits.RcBytes number tt script tree store)
+audit_limit told left behind limits.StoreBytes number script tree store trace = inl (limit_refused told left limits.StoreBytes number tt script tree store)
+
+-- an audit that isn't begun
+pub audit_stop_ends : (why : Stop) (told : Told) (left behind old : Option (List ℕ)) (a b : KeeperView) → ScriptSays told.script left (status_of why)
+    → TreeSays Run told.world (status_of why) → StoreSays told.held (status_of why) → TraceSays told.trace behind (status_of why)
+    → b.held ≡ a.held → (a.TellsCrash → Risks a b [] []) → Ends (Some Audit) told (status_of why) (shown_as old old a b)
+audit_stop_ends stop.ReadFault told left behind old a b script tree store trace held crash = inl (untouched old a b held crash)
+audit_stop_ends stop.NoMemory told left behind old a b script tree store trace held crash = inl (untouched old a b held crash)
+audit_stop_ends (stop.BadScript line) told left behind old a b script tree store trace held crash =
+    refused Audit told (status.BadScript line) old a b (inl (inl script)) held crash
+audit_stop_ends stop.NoInit told left behind old a b script tree store trace held crash =
+    refused Audit told status.NoInit old a b (inl (inr (script.0, inr (tree.policy, inl (tree.build_files, tree.absent))))) held crash
+audit_stop_ends (stop.TooLarge limit number) told left behind old a b script tree store trace held crash =
+    refused Audit told (status.TooLarge limit number) old a b (audit_limit told left behind limit number script tree store trace) held crash
+audit_stop_ends (stop.BadPolicy allow line) told left behind old a b script tree store trace held crash =
+    refused Audit told (status.BadPolicy allow line) old a b (inl (inr (script.0, inl tree))) held crash
+audit_stop_ends (stop.BadStore line) told left behind old a b script tree store trace held crash =
+    refused Audit told (status.BadStore line) old a b (inl (inr (script.0, inr (tree.0, inr (tree.1, store))))) held crash
+audit_stop_ends stop.BadTrace told left behind old a b script tree store trace held crash =
+    refused Audit told status.BadTrace old a b (inr (can_be_run told left script tree store, trace)) held crash
+
+-- a trace that was judged
+pub judged_ends : (verdict : Verdict) (told : Told) (old new : Option (List ℕ)) (a b : KeeperView) (how : Status) → Took a b []
+    → IsJudged told verdict → WritesText (verdict_text verdict) old new how → Ends (Some Audit) told how (shown_as old new a b)
+judged_ends verdict told old new a b status.Done asked is h = (Judged verdict, is, refl, (h, asked))
+judged_ends verdict told old new a b status.WriteFault asked is h = (Judged verdict, is, (h, asked))
+judged_ends verdict told old new a b status.ReadFault asked is h = absurd h
+judged_ends verdict told old new a b status.NoMemory asked is h = inr (Judged verdict, is, (h, asked))
+judged_ends verdict told old new a b status.Usage asked is h = absurd h
+judged_ends verdict told old new a b (status.BadScript line) asked is h = absurd h
+judged_ends verdict told old new a b status.NoInit asked is h = absurd h
+judged_ends verdict told old new a b (status.TooLarge limit number) asked is h = absurd h
+judged_ends verdict told old new a b (status.BadPolicy allow line) asked is h = absurd h
+judged_ends verdict told old new a b (status.BadStore line) asked is h = absurd h
+judged_ends verdict told old new a b status.BadTrace asked is h = absurd h
 
 -- ---- a run
 
@@ -109,6 +166,7 @@ performed_ends course told old new a b c status.NoInit asked is h = absurd h
 performed_ends course told old new a b c (status.TooLarge limit number) asked is h = absurd h
 performed_ends course told old new a b c (status.BadPolicy allow line) asked is h = absurd h
 performed_ends course told old new a b c (status.BadStore line) asked is h = absurd h
+performed_ends course told old new a b c status.BadTrace asked is h = absurd h
 
 -- ---- a check
 
@@ -130,6 +188,7 @@ check_limit told limit number is says = by limit is says
     by limits.ScriptLines is says = absurd is
     by limits.Steps is says = absurd is
     by limits.StoreBytes is says = absurd is
+    by limits.TraceBytes is says = absurd is
 
 pub check_ends : (told : Told) (old new : Option (List ℕ)) (a : KeeperView) (how : Status) → IsCheckStatus how → TreeSays Check told.world how
     → CheckWrites told.world old new how → Ends (Some Check) told how (shown_as old new a a)
@@ -150,6 +209,7 @@ check_ends told old new a (status.TooLarge limit number) is tree writes =
     (Refused (status.TooLarge limit number), check_limit told limit number is tree, refl, nothing_new old new a writes)
 check_ends told old new a (status.BadPolicy allow line) is tree writes = absurd is
 check_ends told old new a (status.BadStore line) is tree writes = absurd is
+check_ends told old new a status.BadTrace is tree writes = absurd is
 
 -- ---- the words
 

@@ -5,5 +5,6 @@ pub mod Written
 pub mod WellFormed
 pub mod Prepared
 pub mod Performed
+pub mod Judged
 pub mod Ends
 pub mod Complete

@@ -1,8 +1,7 @@
 -- Reading the rc files.
-use Rattle.std.proofs.Common.{◌≡◌, ℕ, Bool, true, false, ◌==◌, List, [], ◌∷◌, ◌++◌, Option, Some, None, Result, Ok, Err, refl, sym, subst, inl, inr, ap, ◌∙◌}
+use Rattle.std.proofs.Common.{◌≡◌, ℕ, Bool, true, false, ◌==◌, List, [], ◌∷◌, ◌++◌, Option, Some, None, Result, Ok, Err, refl, subst, inr, ap, ◌∙◌}
 use Rattle.std.specs.Prelude.{if◌then◌else◌}
 use Rattle.init_base.specs.Tree.{file_at}
-use Rattle.init_machine.specs.declared.config.Config.{Config}
 use Rattle.init_machine.specs.declared.config.Pair.{Pair}
 use Rattle.init_machine.specs.declared.diagnostic.Diagnostic.{Diagnostic}
 use Rattle.init_machine.specs.declared.limit.Limit.{Limit}
@@ -19,7 +18,7 @@ use Rattle.rc_import.specs.declared.loaded.LoadRefusal.TheVariants as refusal
 use Rattle.initsim.specs.Check.{IsCheckStatus, IsTreeLimit}
 use Rattle.initsim.specs.Stops.{AreBuildFiles, GivesLoad, load_stop, status_of}
 use Rattle.initsim.specs.Texts.{Tree, pairs_of}
-use Rattle.initsim.specs.Tree.{AreBuildFilesShort, AreRcFilesTooLarge, IsLoadOf, IsTreeTooLarge, IsWorldOf, PassesLimit, TreeLimitSays, limit_of}
+use Rattle.initsim.specs.Tree.{AreBuildFilesShort, IsLoadOf, IsTreeTooLarge, IsWorldOf, PassesLimit, TreeLimitSays, limit_of}
 use Rattle.init_words.specs.declared.form.Form.TheVariants.{Check}
 
 -- ---- the world
@@ -115,6 +114,7 @@ limit_says world limits.ScriptBytes number is large = absurd is
 limit_says world limits.ScriptLines number is large = absurd is
 limit_says world limits.Steps number is large = absurd is
 limit_says world limits.StoreBytes number is large = absurd is
+limit_says world limits.TraceBytes number is large = absurd is
 
 one_of : (b c : Bool) → IsTreeLimit (if b then limits.FileBytes else if c then limits.Names else limits.RcBytes)
 one_of true c = tt

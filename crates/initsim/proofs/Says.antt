@@ -7,8 +7,10 @@ use Rattle.rc_import.specs.World.{World}
 use Rattle.initsim.specs.Check.{IsCheckStatus, IsTreeLimit}
 use Rattle.initsim.specs.Policy.{HasPolicy}
 use Rattle.initsim.specs.Script.{IsReadWhole, ScriptLimitSays, ScriptSays}
-use Rattle.initsim.specs.Stops.{IsOfScript, IsOfStore, IsOfTree, IsScriptLimit, IsStoreLimit, status_of}
-use Rattle.initsim.specs.Store.{StoreLimitSays, StoreSays}
+use Rattle.initsim.specs.Endings.{IsRunLimit, IsRunStatus}
+use Rattle.initsim.specs.Stops.{IsOfScript, IsOfStore, IsOfTrace, IsOfTree, IsScriptLimit, IsStoreLimit, IsTraceLimit, status_of}
+use Rattle.initsim.specs.Store.{HasStore, StoreLimitSays, StoreSays}
+use Rattle.initsim.specs.Trace.{TraceLimitSays, TraceSays}
 use Rattle.initsim.specs.Tree.{AreRcFilesTooLarge, HasNoRoot, IsFitFor, IsTreeTooLarge, TreeLimitSays, TreeSays}
 use Rattle.initsim.specs.declared.stop.Stop.{Stop}
 use Rattle.initsim.specs.declared.stop.Stop.TheVariants as stop
@@ -42,6 +44,7 @@ script_limit_tree form world limits.Files number is = absurd is
 script_limit_tree form world limits.Names number is = absurd is
 script_limit_tree form world limits.RcBytes number is = absurd is
 script_limit_tree form world limits.StoreBytes number is = absurd is
+script_limit_tree form world limits.TraceBytes number is = absurd is
 
 pub script_stop_tree : (form : Form) (world : World) (why : Stop) → IsOfScript why → TreeSays form world (status_of why)
 script_stop_tree form world stop.ReadFault is = tt
@@ -51,6 +54,7 @@ script_stop_tree form world stop.NoInit is = absurd is
 script_stop_tree form world (stop.TooLarge limit number) is = script_limit_tree form world limit number is
 script_stop_tree form world (stop.BadPolicy allow line) is = absurd is
 script_stop_tree form world (stop.BadStore line) is = absurd is
+script_stop_tree form world stop.BadTrace is = absurd is
 
 script_limit_store : (held : List ℕ) (limit : Limit) (number : ℕ) → IsScriptLimit limit → StoreLimitSays held limit number
 script_limit_store held limits.ScriptBytes number is = tt
@@ -61,6 +65,7 @@ script_limit_store held limits.Files number is = absurd is
 script_limit_store held limits.Names number is = absurd is
 script_limit_store held limits.RcBytes number is = absurd is
 script_limit_store held limits.StoreBytes number is = absurd is
+script_limit_store held limits.TraceBytes number is = absurd is
 
 pub script_stop_store : (held : List ℕ) (why : Stop) → IsOfScript why → StoreSays held (status_of why)
 script_stop_store held stop.ReadFault is = tt
@@ -70,6 +75,7 @@ script_stop_store held stop.NoInit is = absurd is
 script_stop_store held (stop.TooLarge limit number) is = script_limit_store held limit number is
 script_stop_store held (stop.BadPolicy allow line) is = absurd is
 script_stop_store held (stop.BadStore line) is = absurd is
+script_stop_store held stop.BadTrace is = absurd is
 
 -- ---- the tree's
 
@@ -81,6 +87,7 @@ of_check stop.NoInit is = tt
 of_check (stop.TooLarge limit number) is = is
 of_check (stop.BadPolicy allow line) is = tt
 of_check (stop.BadStore line) is = absurd is
+of_check stop.BadTrace is = absurd is
 
 tree_limit_script : (bytes : List ℕ) (left : Option (List ℕ)) (limit : Limit) (number : ℕ)
     → IsTreeLimit limit → IsReadWhole bytes left → ScriptLimitSays bytes left limit number
@@ -92,6 +99,7 @@ tree_limit_script bytes left limits.Files number is read = read
 tree_limit_script bytes left limits.Names number is read = read
 tree_limit_script bytes left limits.RcBytes number is read = read
 tree_limit_script bytes left limits.StoreBytes number is read = absurd is
+tree_limit_script bytes left limits.TraceBytes number is read = absurd is
 
 pub tree_stop_script : (bytes : List ℕ) (left : Option (List ℕ)) (why : Stop)
     → IsOfTree why → IsReadWhole bytes left → ScriptSays bytes left (status_of why)
@@ -102,6 +110,7 @@ tree_stop_script bytes left stop.NoInit is read = read
 tree_stop_script bytes left (stop.TooLarge limit number) is read = tree_limit_script bytes left limit number is read
 tree_stop_script bytes left (stop.BadPolicy allow line) is read = read
 tree_stop_script bytes left (stop.BadStore line) is read = absurd is
+tree_stop_script bytes left stop.BadTrace is read = absurd is
 
 tree_limit_store : (held : List ℕ) (limit : Limit) (number : ℕ) → IsTreeLimit limit → StoreLimitSays held limit number
 tree_limit_store held limits.ScriptBytes number is = absurd is
@@ -112,6 +121,7 @@ tree_limit_store held limits.Files number is = tt
 tree_limit_store held limits.Names number is = tt
 tree_limit_store held limits.RcBytes number is = tt
 tree_limit_store held limits.StoreBytes number is = absurd is
+tree_limit_store held limits.TraceBytes number is = absurd is
 
 pub tree_stop_store : (held : List ℕ) (why : Stop) → IsOfTree why → StoreSays held (status_of why)
 tree_stop_store held stop.ReadFault is = tt
@@ -121,6 +131,7 @@ tree_stop_store held stop.NoInit is = tt
 tree_stop_store held (stop.TooLarge limit number) is = tree_limit_store held limit number is
 tree_stop_store held (stop.BadPolicy allow line) is = tt
 tree_stop_store held (stop.BadStore line) is = absurd is
+tree_stop_store held stop.BadTrace is = absurd is
 
 -- ---- the store's
 
@@ -134,6 +145,7 @@ store_limit_script bytes left limits.Files number is read = absurd is
 store_limit_script bytes left limits.Names number is read = absurd is
 store_limit_script bytes left limits.RcBytes number is read = absurd is
 store_limit_script bytes left limits.StoreBytes number is read = read
+store_limit_script bytes left limits.TraceBytes number is read = absurd is
 
 pub store_stop_script : (bytes : List ℕ) (left : Option (List ℕ)) (why : Stop)
     → IsOfStore why → IsReadWhole bytes left → ScriptSays bytes left (status_of why)
@@ -144,6 +156,7 @@ store_stop_script bytes left stop.NoInit is read = absurd is
 store_stop_script bytes left (stop.TooLarge limit number) is read = store_limit_script bytes left limit number is read
 store_stop_script bytes left (stop.BadPolicy allow line) is read = absurd is
 store_stop_script bytes left (stop.BadStore line) is read = read
+store_stop_script bytes left stop.BadTrace is read = absurd is
 
 store_limit_tree : (form : Form) (world : World) (limit : Limit) (number : ℕ)
     → IsStoreLimit limit → IsFitFor form world → TreeLimitSays form world limit number
@@ -155,6 +168,7 @@ store_limit_tree form world limits.Files number is fit = absurd is
 store_limit_tree form world limits.Names number is fit = absurd is
 store_limit_tree form world limits.RcBytes number is fit = absurd is
 store_limit_tree form world limits.StoreBytes number is fit = fit
+store_limit_tree form world limits.TraceBytes number is fit = absurd is
 
 pub store_stop_tree : (form : Form) (world : World) (why : Stop)
     → IsOfStore why → IsFitFor form world → TreeSays form world (status_of why)
@@ -165,6 +179,159 @@ store_stop_tree form world stop.NoInit is fit = absurd is
 store_stop_tree form world (stop.TooLarge limit number) is fit = store_limit_tree form world limit number is fit
 store_stop_tree form world (stop.BadPolicy allow line) is fit = absurd is
 store_stop_tree form world (stop.BadStore line) is fit = fit
+store_stop_tree form world stop.BadTrace is fit = absurd is
+
+-- ---- the trace's
+
+trace_limit_script : (bytes : List ℕ) (left : Option (List ℕ)) (limit : Limit) (number : ℕ) → IsTraceLimit limit → IsReadWhole bytes left → ScriptLimitSays bytes left limit number
+trace_limit_script bytes left limits.ScriptBytes number is read = absurd is
+trace_limit_script bytes left limits.ScriptLines number is read = absurd is
+trace_limit_script bytes left limits.Steps number is read = absurd is
+trace_limit_script bytes left limits.FileBytes number is read = absurd is
+trace_limit_script bytes left limits.Files number is read = absurd is
+trace_limit_script bytes left limits.Names number is read = absurd is
+trace_limit_script bytes left limits.RcBytes number is read = absurd is
+trace_limit_script bytes left limits.StoreBytes number is read = absurd is
+trace_limit_script bytes left limits.TraceBytes number is read = read
+
+pub trace_stop_script : (bytes : List ℕ) (left : Option (List ℕ)) (why : Stop) → IsOfTrace why → IsReadWhole bytes left → ScriptSays bytes left (status_of why)
+trace_stop_script bytes left stop.ReadFault is read = tt
+trace_stop_script bytes left stop.NoMemory is read = tt
+trace_stop_script bytes left (stop.BadScript line) is read = absurd is
+trace_stop_script bytes left stop.NoInit is read = absurd is
+trace_stop_script bytes left (stop.TooLarge limit number) is read = trace_limit_script bytes left limit number is read
+trace_stop_script bytes left (stop.BadPolicy allow line) is read = absurd is
+trace_stop_script bytes left (stop.BadStore line) is read = absurd is
+trace_stop_script bytes left stop.BadTrace is read = read
+
+trace_limit_tree : (form : Form) (world : World) (limit : Limit) (number : ℕ) → IsTraceLimit limit → IsFitFor form world → TreeLimitSays form world limit number
+trace_limit_tree form world limits.ScriptBytes number is fit = absurd is
+trace_limit_tree form world limits.ScriptLines number is fit = absurd is
+trace_limit_tree form world limits.Steps number is fit = absurd is
+trace_limit_tree form world limits.FileBytes number is fit = absurd is
+trace_limit_tree form world limits.Files number is fit = absurd is
+trace_limit_tree form world limits.Names number is fit = absurd is
+trace_limit_tree form world limits.RcBytes number is fit = absurd is
+trace_limit_tree form world limits.StoreBytes number is fit = absurd is
+trace_limit_tree form world limits.TraceBytes number is fit = fit
+
+pub trace_stop_tree : (form : Form) (world : World) (why : Stop) → IsOfTrace why → IsFitFor form world → TreeSays form world (status_of why)
+trace_stop_tree form world stop.ReadFault is fit = tt
+trace_stop_tree form world stop.NoMemory is fit = tt
+trace_stop_tree form world (stop.BadScript line) is fit = absurd is
+trace_stop_tree form world stop.NoInit is fit = absurd is
+trace_stop_tree form world (stop.TooLarge limit number) is fit = trace_limit_tree form world limit number is fit
+trace_stop_tree form world (stop.BadPolicy allow line) is fit = absurd is
+trace_stop_tree form world (stop.BadStore line) is fit = absurd is
+trace_stop_tree form world stop.BadTrace is fit = fit
+
+trace_limit_store : (held : List ℕ) (limit : Limit) (number : ℕ) → IsTraceLimit limit → HasStore held → StoreLimitSays held limit number
+trace_limit_store held limits.ScriptBytes number is stored = absurd is
+trace_limit_store held limits.ScriptLines number is stored = absurd is
+trace_limit_store held limits.Steps number is stored = absurd is
+trace_limit_store held limits.FileBytes number is stored = absurd is
+trace_limit_store held limits.Files number is stored = absurd is
+trace_limit_store held limits.Names number is stored = absurd is
+trace_limit_store held limits.RcBytes number is stored = absurd is
+trace_limit_store held limits.StoreBytes number is stored = absurd is
+trace_limit_store held limits.TraceBytes number is stored = stored
+
+pub trace_stop_store : (held : List ℕ) (why : Stop) → IsOfTrace why → HasStore held → StoreSays held (status_of why)
+trace_stop_store held stop.ReadFault is stored = tt
+trace_stop_store held stop.NoMemory is stored = tt
+trace_stop_store held (stop.BadScript line) is stored = absurd is
+trace_stop_store held stop.NoInit is stored = absurd is
+trace_stop_store held (stop.TooLarge limit number) is stored = trace_limit_store held limit number is stored
+trace_stop_store held (stop.BadPolicy allow line) is stored = absurd is
+trace_stop_store held (stop.BadStore line) is stored = absurd is
+trace_stop_store held stop.BadTrace is stored = stored
+
+-- what a run is refused by says nothing of the trace
+run_limit_trace : (bytes : List ℕ) (limit : Limit) (number : ℕ) → IsRunLimit limit → TraceLimitSays bytes limit number
+run_limit_trace bytes limits.ScriptBytes number is = tt
+run_limit_trace bytes limits.ScriptLines number is = tt
+run_limit_trace bytes limits.Steps number is = tt
+run_limit_trace bytes limits.FileBytes number is = tt
+run_limit_trace bytes limits.Files number is = tt
+run_limit_trace bytes limits.Names number is = tt
+run_limit_trace bytes limits.RcBytes number is = tt
+run_limit_trace bytes limits.StoreBytes number is = tt
+run_limit_trace bytes limits.TraceBytes number is = absurd is
+
+pub run_stop_trace : (bytes : List ℕ) (left : Option (List ℕ)) (why : Stop) → IsRunStatus (status_of why) → TraceSays bytes left (status_of why)
+run_stop_trace bytes left stop.ReadFault is = tt
+run_stop_trace bytes left stop.NoMemory is = tt
+run_stop_trace bytes left (stop.BadScript line) is = tt
+run_stop_trace bytes left stop.NoInit is = tt
+run_stop_trace bytes left (stop.TooLarge limit number) is = run_limit_trace bytes limit number is
+run_stop_trace bytes left (stop.BadPolicy allow line) is = tt
+run_stop_trace bytes left (stop.BadStore line) is = tt
+run_stop_trace bytes left stop.BadTrace is = absurd is
+
+-- ---- which refusals are of a run: those of its script, its tree and its store
+
+script_limit_of_run : (limit : Limit) → IsScriptLimit limit → IsRunLimit limit
+script_limit_of_run limits.ScriptBytes is = tt
+script_limit_of_run limits.ScriptLines is = tt
+script_limit_of_run limits.Steps is = tt
+script_limit_of_run limits.FileBytes is = absurd is
+script_limit_of_run limits.Files is = absurd is
+script_limit_of_run limits.Names is = absurd is
+script_limit_of_run limits.RcBytes is = absurd is
+script_limit_of_run limits.StoreBytes is = absurd is
+script_limit_of_run limits.TraceBytes is = absurd is
+
+pub script_stop_of_run : (why : Stop) → IsOfScript why → IsRunStatus (status_of why)
+script_stop_of_run stop.ReadFault is = tt
+script_stop_of_run stop.NoMemory is = tt
+script_stop_of_run (stop.BadScript line) is = tt
+script_stop_of_run stop.NoInit is = absurd is
+script_stop_of_run (stop.TooLarge limit number) is = script_limit_of_run limit is
+script_stop_of_run (stop.BadPolicy allow line) is = absurd is
+script_stop_of_run (stop.BadStore line) is = absurd is
+script_stop_of_run stop.BadTrace is = absurd is
+
+tree_limit_of_run : (limit : Limit) → IsTreeLimit limit → IsRunLimit limit
+tree_limit_of_run limits.ScriptBytes is = absurd is
+tree_limit_of_run limits.ScriptLines is = absurd is
+tree_limit_of_run limits.Steps is = absurd is
+tree_limit_of_run limits.FileBytes is = tt
+tree_limit_of_run limits.Files is = tt
+tree_limit_of_run limits.Names is = tt
+tree_limit_of_run limits.RcBytes is = tt
+tree_limit_of_run limits.StoreBytes is = absurd is
+tree_limit_of_run limits.TraceBytes is = absurd is
+
+pub tree_stop_of_run : (why : Stop) → IsOfTree why → IsRunStatus (status_of why)
+tree_stop_of_run stop.ReadFault is = tt
+tree_stop_of_run stop.NoMemory is = tt
+tree_stop_of_run (stop.BadScript line) is = absurd is
+tree_stop_of_run stop.NoInit is = tt
+tree_stop_of_run (stop.TooLarge limit number) is = tree_limit_of_run limit is
+tree_stop_of_run (stop.BadPolicy allow line) is = tt
+tree_stop_of_run (stop.BadStore line) is = absurd is
+tree_stop_of_run stop.BadTrace is = absurd is
+
+store_limit_of_run : (limit : Limit) → IsStoreLimit limit → IsRunLimit limit
+store_limit_of_run limits.ScriptBytes is = absurd is
+store_limit_of_run limits.ScriptLines is = absurd is
+store_limit_of_run limits.Steps is = absurd is
+store_limit_of_run limits.FileBytes is = absurd is
+store_limit_of_run limits.Files is = absurd is
+store_limit_of_run limits.Names is = absurd is
+store_limit_of_run limits.RcBytes is = absurd is
+store_limit_of_run limits.StoreBytes is = tt
+store_limit_of_run limits.TraceBytes is = absurd is
+
+pub store_stop_of_run : (why : Stop) → IsOfStore why → IsRunStatus (status_of why)
+store_stop_of_run stop.ReadFault is = tt
+store_stop_of_run stop.NoMemory is = tt
+store_stop_of_run (stop.BadScript line) is = absurd is
+store_stop_of_run stop.NoInit is = absurd is
+store_stop_of_run (stop.TooLarge limit number) is = store_limit_of_run limit is
+store_stop_of_run (stop.BadPolicy allow line) is = absurd is
+store_stop_of_run (stop.BadStore line) is = tt
+store_stop_of_run stop.BadTrace is = absurd is
 
 -- ---- a run's tree: a policy, and else what a check reads
 
@@ -194,6 +361,7 @@ limit_with_policy world limits.Files number policy says = too_large world limits
 limit_with_policy world limits.Names number policy says = too_large world limits.Names number policy says
 limit_with_policy world limits.RcBytes number policy says = too_large world limits.RcBytes number policy says
 limit_with_policy world limits.StoreBytes number policy says = (policy, says.1)
+limit_with_policy world limits.TraceBytes number policy says = (policy, says.1)
 
 no_root : (world : World) → HasPolicy world.tree → HasNoRoot Check world → HasNoRoot Run world
 no_root world policy none = record { policy = policy; build_files = none.build_files; absent = none.absent }
@@ -207,3 +375,4 @@ with_policy world stop.NoInit policy says = no_root world policy says
 with_policy world (stop.TooLarge limit number) policy says = limit_with_policy world limit number policy says
 with_policy world (stop.BadPolicy allow line) policy says = absurd says
 with_policy world (stop.BadStore line) policy says = (policy, says.1)
+with_policy world stop.BadTrace policy says = (policy, says.1)

@@ -1,5 +1,5 @@
 -- Reading the texts of a tree that aren't rc files.
-use Rattle.std.proofs.Common.{◌≡◌, ℕ, ◌+◌, ◌<◌, ◌≤◌, ◌⊎◌, List, ◌++◌, length, Option, Some, None, Ok, Err, true, false, refl, sym, subst, inl, inr, ◌∙◌}
+use Rattle.std.proofs.Common.{◌≡◌, ℕ, ◌<◌, ◌≤◌, ◌⊎◌, List, ◌++◌, length, Option, Some, None, Ok, Err, true, false, refl, sym, subst, inl, inr, ◌∙◌}
 use Rattle.std.specs.Prelude.{IfSome, IsSomeAnd}
 use Rattle.init_base.specs.Outside.{ReadsFile}
 use Rattle.init_base.specs.Tree.{file_at}
@@ -84,6 +84,7 @@ policy_text world text stop.NoInit says gives = absurd gives
 policy_text world text (stop.TooLarge limit number) says gives = large_policy world text limit number says gives
 policy_text world text (stop.BadPolicy allow line) says gives = absurd gives
 policy_text world text (stop.BadStore line) says gives = absurd gives
+policy_text world text stop.BadTrace says gives = absurd gives
 
 pub unread_contexts : (world : World) (why : Stop) → GivesText (contexts_text world.tree) (Err why) → GivesPolicy world (Err why)
 unread_contexts world why gives =
@@ -139,6 +140,7 @@ long_build_file tree text stop.NoInit says gives = absurd gives
 long_build_file tree text (stop.TooLarge limit number) says gives = (says gives.0, gives.1, gives.2)
 long_build_file tree text (stop.BadPolicy allow line) says gives = absurd gives
 long_build_file tree text (stop.BadStore line) says gives = absurd gives
+long_build_file tree text stop.BadTrace says gives = absurd gives
 
 pub unread_system : (tree : Tree) (why : Stop)
     → GivesBuildFile system_path (build_text tree system_path) (Err why) → GivesBuildFiles tree (Err why)

@@ -5,7 +5,7 @@ use Rattle.init_machine.specs.declared.diagnostic.Diagnostic.{Diagnostic}
 use Rattle.init_trace.specs.Report.{DiagnosticsText}
 use Rattle.rc_import.specs.World.{World}
 use Rattle.initsim.specs.Check.{CheckWrites, IsCheckText}
-use Rattle.initsim.specs.Prepared.{WritesDiagnostics}
+use Rattle.initsim.specs.Prepared.{WritesText}
 use Rattle.initsim.specs.Tree.{IsFitFor, IsLoadOf, TreeSays}
 use Rattle.initsim.specs.declared.status.Status.{Status}
 use Rattle.initsim.specs.declared.status.Status.TheVariants as status
@@ -17,7 +17,7 @@ loadable : (world : World) (config : Config) (diagnostics : List Diagnostic) →
 loadable world config diagnostics load = (tt, (load.short, (load.loaded, load.rc_files)))
 
 pub check_says : (world : World) (config : Config) (diagnostics : List Diagnostic) (old new : Option (List ℕ)) (how : Status)
-    → IsLoadOf world config diagnostics → WritesDiagnostics diagnostics old new how → TreeSays Check world how
+    → IsLoadOf world config diagnostics → WritesText (DiagnosticsText diagnostics) old new how → TreeSays Check world how
 check_says world config diagnostics old new status.Done load writes = loadable world config diagnostics load
 check_says world config diagnostics old new status.WriteFault load writes = loadable world config diagnostics load
 check_says world config diagnostics old new status.NoMemory load writes = tt
@@ -28,13 +28,14 @@ check_says world config diagnostics old new status.NoInit load writes = absurd w
 check_says world config diagnostics old new (status.TooLarge limit number) load writes = absurd writes
 check_says world config diagnostics old new (status.BadPolicy allow line) load writes = absurd writes
 check_says world config diagnostics old new (status.BadStore line) load writes = absurd writes
+check_says world config diagnostics old new status.BadTrace load writes = absurd writes
 
 check_text : (world : World) (config : Config) (diagnostics : List Diagnostic)
     → IsLoadOf world config diagnostics → IsCheckText world (DiagnosticsText diagnostics)
 check_text world config diagnostics load = record { config = config; diagnostics = diagnostics; load = load; printed = refl }
 
 pub check_writes : (world : World) (config : Config) (diagnostics : List Diagnostic) (old new : Option (List ℕ)) (how : Status)
-    → IsLoadOf world config diagnostics → WritesDiagnostics diagnostics old new how → CheckWrites world old new how
+    → IsLoadOf world config diagnostics → WritesText (DiagnosticsText diagnostics) old new how → CheckWrites world old new how
 check_writes world config diagnostics old new status.Done load writes =
     (DiagnosticsText diagnostics, check_text world config diagnostics load, writes)
 check_writes world config diagnostics old new status.WriteFault load writes =
@@ -48,3 +49,4 @@ check_writes world config diagnostics old new status.NoInit load writes = absurd
 check_writes world config diagnostics old new (status.TooLarge limit number) load writes = absurd writes
 check_writes world config diagnostics old new (status.BadPolicy allow line) load writes = absurd writes
 check_writes world config diagnostics old new (status.BadStore line) load writes = absurd writes
+check_writes world config diagnostics old new status.BadTrace load writes = absurd writes

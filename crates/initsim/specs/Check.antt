@@ -31,6 +31,7 @@ CheckWrites world old new (status.BadPolicy allow line) = new ≡ old
 CheckWrites world old new status.NoInit = new ≡ old
 CheckWrites world old new (status.TooLarge limit number) = new ≡ old
 CheckWrites world old new (status.BadStore line) = new ≡ old
+CheckWrites world old new status.BadTrace = new ≡ old
 
 -- a limit of the files of a tree
 abbrev pub IsTreeLimit : Limit → Type 0
@@ -42,8 +43,9 @@ IsTreeLimit limits.ScriptBytes = ⊥
 IsTreeLimit limits.ScriptLines = ⊥
 IsTreeLimit limits.Steps = ⊥
 IsTreeLimit limits.StoreBytes = ⊥
+IsTreeLimit limits.TraceBytes = ⊥
 
--- a status that a check may have: it reads no script, no policy and no store
+-- a status that a check may have: it reads no script, no policy, no store and no trace
 abbrev pub IsCheckStatus : Status → Type 0
 IsCheckStatus status.Done = ⊤
 IsCheckStatus status.Usage = ⊥
@@ -55,3 +57,4 @@ IsCheckStatus status.NoInit = ⊤
 IsCheckStatus (status.TooLarge limit number) = IsTreeLimit limit
 IsCheckStatus (status.BadPolicy allow line) = ⊥
 IsCheckStatus (status.BadStore line) = ⊥
+IsCheckStatus status.BadTrace = ⊥

@@ -7,12 +7,17 @@ use Rattle.initsim.specs.declared.status.Status.TheVariants as status
 pub record Counts : Type 0 where
   pub files : ℕ
   pub script : ℕ
+  pub trace : ℕ
   pub keeper : ℕ
   pub out : ℕ
 
+abbrev pub counts_of : ℕ → ℕ → ℕ → ℕ → ℕ → Counts
+counts_of files script trace keeper out = record { files = files; script = script; trace = trace; keeper = keeper; out = out }
+
 -- the count of something that is read, or of the keeper, rose
 abbrev pub SomeReadRose : Counts → Counts → Type 0
-SomeReadRose before now = Rose before.files now.files ⊎ (Rose before.script now.script ⊎ Rose before.keeper now.keeper)
+SomeReadRose before now =
+    Rose before.files now.files ⊎ (Rose before.script now.script ⊎ (Rose before.trace now.trace ⊎ Rose before.keeper now.keeper))
 
 -- The counts over a call that ends with a status: a fault comes only where a count of its objects rose, and the others are
 -- as before.
@@ -27,6 +32,7 @@ AreCounted status.NoInit before now = now ≡ before
 AreCounted (status.TooLarge limit number) before now = now ≡ before
 AreCounted (status.BadPolicy allow line) before now = now ≡ before
 AreCounted (status.BadStore line) before now = now ≡ before
+AreCounted status.BadTrace before now = now ≡ before
 
 -- Done or want of memory, unless a count rose
 abbrev pub IsDoneUnlessRisen : Status → Counts → Counts → Type 0
@@ -40,3 +46,4 @@ IsDoneUnlessRisen status.NoInit before now = ⊥
 IsDoneUnlessRisen (status.TooLarge limit number) before now = ⊥
 IsDoneUnlessRisen (status.BadPolicy allow line) before now = ⊥
 IsDoneUnlessRisen (status.BadStore line) before now = ⊥
+IsDoneUnlessRisen status.BadTrace before now = ⊥

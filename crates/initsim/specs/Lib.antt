@@ -6,8 +6,12 @@ pub mod Policy
 pub mod Tree
 pub mod Store
 pub mod Run
+pub mod Trace
+pub mod Verdict
+pub mod Endings
 pub mod Check
 pub mod Outcome
 pub mod Top
 pub mod Stops
+pub mod Judging
 pub mod Prepared

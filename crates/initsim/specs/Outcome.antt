@@ -1,4 +1,4 @@
--- What words, script, tree and store come to, where all is told, and how a call of the program ends.
+-- What words, script, tree, store and trace come to, where it is told what their form reads, and how a call of the program ends.
 use Rattle.std.specs.Prelude.{◌≡◌, ℕ, ◌<◌, ◌≤◌, ◌⊎◌, ⊤, List, [], length, Option, Some, None, Err}
 use Rattle.std.specs.Io.KnownBytes.{append_known}
 use Rattle.init_base.specs.Tree.{file_at}
@@ -23,23 +23,45 @@ use Rattle.script_lang.specs.Refusal.{IsBadAt, IsTooLarge}
 use Rattle.initsim.specs.Policy.{HasPolicy, IsBadPolicyAt, IsPolicyTooLarge}
 use Rattle.initsim.specs.Run.{Course, IsCourseOf, due_of_course, run_text}
 use Rattle.initsim.specs.Script.{HasScript}
+use Rattle.initsim.specs.Store.{HasStore}
 use Rattle.initsim.specs.Texts.{Tree}
+use Rattle.initsim.specs.Trace.{IsNoTrace, IsTraceTooLarge}
+use Rattle.initsim.specs.Verdict.{IsVerdictOn, verdict_text}
+use Rattle.trace_audit.specs.declared.verdict.Verdict.{Verdict}
 use Rattle.initsim.specs.Tree.{AreBuildFilesShort, AreBuildFilesTooLarge, IsLoadOf, IsLoadable, IsWorldOf, PassesLimit}
 use Rattle.initsim.specs.declared.status.Status.{Status}
 use Rattle.initsim.specs.declared.status.Status.TheVariants as status
-use Rattle.init_words.specs.Form.{form_of}
 
--- what is told as a call begins: the script's bytes, the tree with the meaning of its rc files, and the store's text
+-- what is told as a call begins: the script's bytes, the tree with the meaning of its rc files, the store's text, and the
+-- trace's bytes
 pub record Told : Type 0 where
   pub script : List ℕ
   pub world : World
   pub held : List ℕ
+  pub trace : List ℕ
 
--- the source, the files and the keeper tell this
-pub record Tell (left : Option (List ℕ)) (tree : Option Tree) (held : Option (List ℕ)) (told : Told) : Type 0 where
-  pub script_is : left ≡ Some told.script
-  pub world_is : IsWorldOf tree told.world
-  pub held_is : held ≡ Some told.held
+-- what the objects of a call tell
+pub record Sources : Type 0 where
+  pub script : Option (List ℕ)
+  pub tree : Option Tree
+  pub held : Option (List ℕ)
+  pub trace : Option (List ℕ)
+
+abbrev pub sources_of : Option (List ℕ) → Option Tree → Option (List ℕ) → Option (List ℕ) → Sources
+sources_of script tree held trace = record { script = script; tree = tree; held = held; trace = trace }
+
+-- they tell what a run reads: script, tree and store
+pub record TellRun (sources : Sources) (told : Told) : Type 0 where
+  pub script_is : sources.script ≡ Some told.script
+  pub world_is : IsWorldOf sources.tree told.world
+  pub held_is : sources.held ≡ Some told.held
+
+-- They tell what a form reads: a check the tree alone, an audit what a run does and the trace, and words of no form nothing.
+abbrev pub Tell : Option Form → Sources → Told → Type 0
+Tell None sources told = ⊤
+Tell (Some form.Run) sources told = TellRun sources told
+Tell (Some form.Check) sources told = IsWorldOf sources.tree told.world
+Tell (Some form.Audit) sources told = TellRun sources told × (sources.trace ≡ Some told.trace)
 
 -- ---- what each reader refuses, and with which status
 
@@ -79,22 +101,48 @@ RunRefused told why =
     ⊎ (HasPolicy told.world.tree × (FilesRefuse told.world why
     ⊎ (IsLoadable told.world × StoreRefuses told.held why)))))
 
+abbrev pub TraceRefuses : List ℕ → Status → Type 0
+TraceRefuses trace status.BadTrace = IsNoTrace trace
+TraceRefuses trace (status.TooLarge limit number) = (limit ≡ limits.TraceBytes) × IsTraceTooLarge trace number
+TraceRefuses trace _ = ⊥
+
+-- nothing of what a run reads is refused
+pub record CanBeRun (told : Told) : Type 0 where
+  pub script : HasScript told.script
+  pub policy : HasPolicy told.world.tree
+  pub files : IsLoadable told.world
+  pub store : HasStore told.held
+
+-- an audit reads what a run does, and then the trace
+abbrev pub AuditRefused : Told → Status → Type 0
+AuditRefused told why = RunRefused told why ⊎ (CanBeRun told × TraceRefuses told.trace why)
+
+-- a verdict on the trace, by the course that is told
+pub record IsJudged (told : Told) (verdict : Verdict) : Type 0 where
+  pub course : Course
+  pub course_is : IsCourseOf told.script told.world told.held course
+  pub said : IsVerdictOn course told.trace verdict
+
 -- ---- the outcome
 
--- the words have no form; or nothing is begun, with this status; or these diagnostics are told; or this course is run
+-- The words have no form; or nothing is begun, with this status; or these diagnostics are told; or this course is run; or this
+-- is the verdict on the trace.
 pub data Outcome : Type 0 where
   Unformed : Outcome
   Refused : Status → Outcome
   Checked : List Diagnostic → Outcome
   Ran : Course → Outcome
+  Judged : Verdict → Outcome
 
--- what the words of a form come to, or words of none; a check reads the files alone
+-- what the words of a form come to, or words of none
 abbrev pub ComesTo : Option Form → Told → Outcome → Type 0
 ComesTo None told Unformed = ⊤
 ComesTo (Some form.Run) told (Refused why) = RunRefused told why
 ComesTo (Some form.Run) told (Ran course) = IsCourseOf told.script told.world told.held course
 ComesTo (Some form.Check) told (Refused why) = FilesRefuse told.world why
 ComesTo (Some form.Check) told (Checked diagnostics) = (config : Config) × IsLoadOf told.world config diagnostics
+ComesTo (Some form.Audit) told (Refused why) = AuditRefused told why
+ComesTo (Some form.Audit) told (Judged verdict) = IsJudged told verdict
 ComesTo form told outcome = ⊥
 
 abbrev pub status_of_outcome : Outcome → Status
@@ -102,6 +150,7 @@ status_of_outcome Unformed = status.Usage
 status_of_outcome (Refused why) = why
 status_of_outcome (Checked diagnostics) = status.Done
 status_of_outcome (Ran course) = status.Done
+status_of_outcome (Judged verdict) = status.Done
 
 -- ---- how a call ends
 
@@ -127,12 +176,15 @@ Shows Unformed shown = Untouched shown
 Shows (Refused why) shown = Untouched shown
 Shows (Checked diagnostics) shown = (shown.new ≡ append_known shown.old (DiagnosticsText diagnostics)) × Took shown.keeper shown.kept []
 Shows (Ran course) shown = (shown.new ≡ append_known shown.old (run_text course)) × Took shown.keeper shown.kept (given_in course.opening course.script)
+Shows (Judged verdict) shown = (shown.new ≡ append_known shown.old (verdict_text verdict)) × Took shown.keeper shown.kept []
 
 -- its text is cut short: by a fault of the sink or of the keeper, or for want of memory
 abbrev pub CutShort : DriveRefusal → Outcome → Shown → Type 0
 CutShort why (Ran course) shown = LeavesPart why shown.old shown.new shown.keeper shown.kept (due_of_course course)
 CutShort refusal.Keeper (Checked diagnostics) shown = ⊥
 CutShort why (Checked diagnostics) shown = TakesFront shown.old shown.new (DiagnosticsText diagnostics) × Took shown.keeper shown.kept []
+CutShort refusal.Keeper (Judged verdict) shown = ⊥
+CutShort why (Judged verdict) shown = TakesFront shown.old shown.new (verdict_text verdict) × Took shown.keeper shown.kept []
 CutShort why outcome shown = ⊥
 
 -- How a call ends. A fault of what is read, and want of memory, come before anything is written, or in the run.

@@ -1,5 +1,5 @@
 -- What is prepared of a run, before the machine starts.
-use Rattle.std.specs.Prelude.{◌≡◌, ℕ, ⊤, List, [], map, Option, Some, Result, Ok, Err}
+use Rattle.std.specs.Prelude.{◌≡◌, ℕ, List, [], map, Option, Some, Result, Ok, Err}
 use Rattle.std.specs.Io.KnownBytes.{append_known}
 use Rattle.init_driver.specs.Keeper.{KeeperView, Risks, Took}
 use Rattle.init_driver.specs.Run.{LeavesPart, given_in}
@@ -7,8 +7,6 @@ use Rattle.init_driver.specs.declared.refusal.DriveRefusal.TheVariants as refusa
 use Rattle.init_driver.specs.declared.running.Setup.{Setup}
 use Rattle.init_machine.specs.WellFormed.{IsWellFormed}
 use Rattle.init_machine.specs.declared.config.Pair.{Pair}
-use Rattle.init_machine.specs.declared.diagnostic.Diagnostic.{Diagnostic}
-use Rattle.init_trace.specs.Report.{DiagnosticsText}
 use Rattle.init_trace.specs.Written.{TakesFront}
 use Rattle.rc_import.specs.World.{World}
 use Rattle.script_lang.specs.Laws.{MeetsConditions}
@@ -100,20 +98,16 @@ abbrev pub IsAsked : {T : Type 0} → Result T Stop → KeeperView → KeeperVie
 IsAsked (Ok value) keeper kept = Took keeper kept []
 IsAsked (Err why) keeper kept = (kept.held ≡ keeper.held) × (keeper.TellsCrash → Risks keeper kept [] [])
 
--- the diagnostics alone are written
-abbrev pub WritesDiagnostics : List Diagnostic → Option (List ℕ) → Option (List ℕ) → Status → Type 0
-WritesDiagnostics diagnostics old new status.Done = new ≡ append_known old (DiagnosticsText diagnostics)
-WritesDiagnostics diagnostics old new status.WriteFault = TakesFront old new (DiagnosticsText diagnostics)
-WritesDiagnostics diagnostics old new status.NoMemory = TakesFront old new (DiagnosticsText diagnostics)
-WritesDiagnostics diagnostics old new status.ReadFault = ⊥
-WritesDiagnostics diagnostics old new status.Usage = ⊥
-WritesDiagnostics diagnostics old new (status.BadScript line) = ⊥
-WritesDiagnostics diagnostics old new status.NoInit = ⊥
-WritesDiagnostics diagnostics old new (status.TooLarge limit number) = ⊥
-WritesDiagnostics diagnostics old new (status.BadPolicy allow line) = ⊥
-WritesDiagnostics diagnostics old new (status.BadStore line) = ⊥
-
--- a run's status
-abbrev pub IsRunStatus : Status → Type 0
-IsRunStatus status.Usage = ⊥
-IsRunStatus _ = ⊤
+-- a text is written whole, or a front of it
+abbrev pub WritesText : List ℕ → Option (List ℕ) → Option (List ℕ) → Status → Type 0
+WritesText text old new status.Done = new ≡ append_known old text
+WritesText text old new status.WriteFault = TakesFront old new text
+WritesText text old new status.NoMemory = TakesFront old new text
+WritesText text old new status.ReadFault = ⊥
+WritesText text old new status.Usage = ⊥
+WritesText text old new (status.BadScript line) = ⊥
+WritesText text old new status.NoInit = ⊥
+WritesText text old new (status.TooLarge limit number) = ⊥
+WritesText text old new (status.BadPolicy allow line) = ⊥
+WritesText text old new (status.BadStore line) = ⊥
+WritesText text old new status.BadTrace = ⊥

@@ -26,6 +26,7 @@ ScriptLimitSays bytes left limits.Files number = IsReadWhole bytes left
 ScriptLimitSays bytes left limits.Names number = IsReadWhole bytes left
 ScriptLimitSays bytes left limits.RcBytes number = IsReadWhole bytes left
 ScriptLimitSays bytes left limits.StoreBytes number = IsReadWhole bytes left
+ScriptLimitSays bytes left limits.TraceBytes number = IsReadWhole bytes left
 
 -- What a status says of the bytes of a script, and of what is left of them. The script is read before all else, so what
 -- comes later says that the bytes are a script.
@@ -38,5 +39,6 @@ ScriptSays bytes left (status.TooLarge limit number) = ScriptLimitSays bytes lef
 ScriptSays bytes left (status.BadPolicy allow line) = IsReadWhole bytes left
 ScriptSays bytes left status.NoInit = IsReadWhole bytes left
 ScriptSays bytes left (status.BadStore line) = IsReadWhole bytes left
+ScriptSays bytes left status.BadTrace = IsReadWhole bytes left
 ScriptSays bytes left status.WriteFault = IsReadWhole bytes left
 ScriptSays bytes left status.Done = IsReadWhole bytes left

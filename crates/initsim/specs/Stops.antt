@@ -1,10 +1,11 @@
--- Why nothing is run or checked, and what each reader gives: what it reads, or why it gives nothing.
+-- Why nothing is run, checked or judged, and what each reader gives: what it reads, or why it gives nothing.
 use Rattle.std.specs.Prelude.{◌≡◌, ℕ, ◌+◌, ◌<◌, ◌≤◌, ⊤, Bool, true, false, List, [], length, Option, Some, Result, Ok, Err}
 use Rattle.init_base.specs.declared.outside.refusal.ReadRefusal.{ReadRefusal}
 use Rattle.init_base.specs.declared.outside.refusal.ReadRefusal.TheVariants as reading
 use Rattle.init_machine.specs.Policy.{PolicyLines}
 use Rattle.init_machine.specs.declared.config.Pair.{Pair}
 use Rattle.init_machine.specs.declared.limit.Limit.{Limit}
+use Rattle.init_machine.specs.declared.report.Report.{Report}
 use Rattle.init_machine.specs.declared.limit.Limit.TheVariants as limits
 use Rattle.persist_file.specs.declared.refusal.StoreRefusal.{StoreRefusal}
 use Rattle.persist_file.specs.declared.refusal.StoreRefusal.TheVariants as store
@@ -24,6 +25,7 @@ use Rattle.initsim.specs.Policy.{IsPolicyOf}
 use Rattle.initsim.specs.Script.{ScriptSays}
 use Rattle.initsim.specs.Store.{IsStoreOf, StoreSays}
 use Rattle.initsim.specs.Texts.{Tree, faults_of, pairs_of}
+use Rattle.initsim.specs.Trace.{IsTraceOf, TraceSays}
 use Rattle.initsim.specs.Tree.{AreBuildFilesShort, AreBuildFilesTooLarge, IsLoadOf, TreeSays, limit_of}
 use Rattle.rc_import.specs.declared.loaded.Loaded.{Loaded}
 use Rattle.initsim.specs.declared.status.Status.{Status}
@@ -40,6 +42,7 @@ status_of stop.NoInit = status.NoInit
 status_of (stop.TooLarge limit number) = status.TooLarge limit number
 status_of (stop.BadPolicy allow line) = status.BadPolicy allow line
 status_of (stop.BadStore line) = status.BadStore line
+status_of stop.BadTrace = status.BadTrace
 
 -- ---- each reader's own refusal
 
@@ -81,6 +84,7 @@ is_read_fault stop.NoInit = false
 is_read_fault (stop.TooLarge limit number) = false
 is_read_fault (stop.BadPolicy allow line) = false
 is_read_fault (stop.BadStore line) = false
+is_read_fault stop.BadTrace = false
 
 abbrev pub has_read_fault : {T : Type 0} → Result T Stop → Bool
 has_read_fault (Ok value) = false
@@ -100,6 +104,7 @@ GivesText text (Err stop.NoInit) = ⊥
 GivesText text (Err (stop.TooLarge limit number)) = (1048576 < length text) × (limit ≡ limits.FileBytes) × (number ≡ 1048577)
 GivesText text (Err (stop.BadPolicy allow line)) = ⊥
 GivesText text (Err (stop.BadStore line)) = ⊥
+GivesText text (Err stop.BadTrace) = ⊥
 
 -- what a build file of this path and text says
 abbrev pub GivesBuildFile : List ℕ → List ℕ → Result BuildProps Stop → Type 0
@@ -121,6 +126,7 @@ GivesBuildFiles tree (Err stop.NoInit) = ⊥
 GivesBuildFiles tree (Err (stop.TooLarge limit number)) = AreBuildFilesTooLarge tree limit number
 GivesBuildFiles tree (Err (stop.BadPolicy allow line)) = ⊥
 GivesBuildFiles tree (Err (stop.BadStore line)) = ⊥
+GivesBuildFiles tree (Err stop.BadTrace) = ⊥
 
 abbrev pub GivesPolicy : World → Result PolicyLines Stop → Type 0
 GivesPolicy world (Ok policy) = IsPolicyOf world.tree policy
@@ -134,6 +140,10 @@ abbrev pub GivesStore : List ℕ → Result (List Pair) Stop → Type 0
 GivesStore held (Ok saved) = IsStoreOf held saved
 GivesStore held (Err why) = StoreSays held (status_of why)
 
+abbrev pub GivesTrace : List ℕ → Option (List ℕ) → Result Report Stop → Type 0
+GivesTrace bytes left (Ok report) = IsTraceOf bytes report × (left ≡ Some [])
+GivesTrace bytes left (Err why) = TraceSays bytes left (status_of why)
+
 -- ---- which reader stops so: each stops by a fault and for want of memory, and else in its own ways
 
 abbrev pub IsScriptLimit : Limit → Type 0
@@ -145,6 +155,7 @@ IsScriptLimit limits.Files = ⊥
 IsScriptLimit limits.Names = ⊥
 IsScriptLimit limits.RcBytes = ⊥
 IsScriptLimit limits.StoreBytes = ⊥
+IsScriptLimit limits.TraceBytes = ⊥
 
 abbrev pub IsOfScript : Stop → Type 0
 IsOfScript stop.ReadFault = ⊤
@@ -154,6 +165,7 @@ IsOfScript stop.NoInit = ⊥
 IsOfScript (stop.TooLarge limit number) = IsScriptLimit limit
 IsOfScript (stop.BadPolicy allow line) = ⊥
 IsOfScript (stop.BadStore line) = ⊥
+IsOfScript stop.BadTrace = ⊥
 
 abbrev pub IsOfTree : Stop → Type 0
 IsOfTree stop.ReadFault = ⊤
@@ -163,6 +175,7 @@ IsOfTree stop.NoInit = ⊤
 IsOfTree (stop.TooLarge limit number) = IsTreeLimit limit
 IsOfTree (stop.BadPolicy allow line) = ⊤
 IsOfTree (stop.BadStore line) = ⊥
+IsOfTree stop.BadTrace = ⊥
 
 abbrev pub IsStoreLimit : Limit → Type 0
 IsStoreLimit limits.StoreBytes = ⊤
@@ -173,6 +186,7 @@ IsStoreLimit limits.FileBytes = ⊥
 IsStoreLimit limits.Files = ⊥
 IsStoreLimit limits.Names = ⊥
 IsStoreLimit limits.RcBytes = ⊥
+IsStoreLimit limits.TraceBytes = ⊥
 
 abbrev pub IsOfStore : Stop → Type 0
 IsOfStore stop.ReadFault = ⊤
@@ -182,3 +196,25 @@ IsOfStore stop.NoInit = ⊥
 IsOfStore (stop.TooLarge limit number) = IsStoreLimit limit
 IsOfStore (stop.BadPolicy allow line) = ⊥
 IsOfStore (stop.BadStore line) = ⊤
+IsOfStore stop.BadTrace = ⊥
+
+abbrev pub IsTraceLimit : Limit → Type 0
+IsTraceLimit limits.TraceBytes = ⊤
+IsTraceLimit limits.StoreBytes = ⊥
+IsTraceLimit limits.ScriptBytes = ⊥
+IsTraceLimit limits.ScriptLines = ⊥
+IsTraceLimit limits.Steps = ⊥
+IsTraceLimit limits.FileBytes = ⊥
+IsTraceLimit limits.Files = ⊥
+IsTraceLimit limits.Names = ⊥
+IsTraceLimit limits.RcBytes = ⊥
+
+abbrev pub IsOfTrace : Stop → Type 0
+IsOfTrace stop.ReadFault = ⊤
+IsOfTrace stop.NoMemory = ⊤
+IsOfTrace (stop.BadScript line) = ⊥
+IsOfTrace stop.NoInit = ⊥
+IsOfTrace (stop.TooLarge limit number) = IsTraceLimit limit
+IsOfTrace (stop.BadPolicy allow line) = ⊥
+IsOfTrace (stop.BadStore line) = ⊥
+IsOfTrace stop.BadTrace = ⊤

@@ -16,7 +16,7 @@ pub record IsStoreOf (held : List ℕ) (saved : List Pair) : Type 0 where
 abbrev pub HasStore : List ℕ → Type 0
 HasStore held = (saved : List Pair) × IsStoreOf held saved
 
--- The limit of the store is passed. Where another limit is passed, the store wasn't read yet.
+-- The limit of the store is passed. Where that of a trace is, the store was read before; where another one is, it wasn't read yet.
 abbrev pub StoreLimitSays : List ℕ → Limit → ℕ → Type 0
 StoreLimitSays held limits.StoreBytes number = (33554432 < length held) × (number ≡ 33554433)
 StoreLimitSays held limits.ScriptBytes number = ⊤
@@ -26,9 +26,10 @@ StoreLimitSays held limits.FileBytes number = ⊤
 StoreLimitSays held limits.Files number = ⊤
 StoreLimitSays held limits.Names number = ⊤
 StoreLimitSays held limits.RcBytes number = ⊤
+StoreLimitSays held limits.TraceBytes number = HasStore held
 
 -- What a status says of the text that is held as the call begins. It is read after script and tree, so their refusals say
--- nothing of it, and a run says that it is a store.
+-- nothing of it, and what comes later says that it is a store.
 abbrev pub StoreSays : List ℕ → Status → Type 0
 StoreSays held status.Usage = ⊤
 StoreSays held status.ReadFault = ⊤
@@ -38,5 +39,6 @@ StoreSays held (status.BadPolicy allow line) = ⊤
 StoreSays held status.NoInit = ⊤
 StoreSays held (status.TooLarge limit number) = StoreLimitSays held limit number
 StoreSays held (status.BadStore line) = (length held ≤ 33554432) × IsUnfitAt held line
+StoreSays held status.BadTrace = HasStore held
 StoreSays held status.WriteFault = HasStore held
 StoreSays held status.Done = HasStore held

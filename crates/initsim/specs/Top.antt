@@ -1,9 +1,11 @@
 -- What the top call leaves alone, and what it can do.
-use Rattle.std.specs.Prelude.{◌≡◌, ℕ, ⊤, ◌⊎◌, List, Option, Some, None, IsSomeAnd}
+use Rattle.std.specs.Prelude.{◌≡◌, ℕ, ⊤, ◌⊎◌, Option, Some, None, IsSomeAnd}
 use Rattle.init_base.specs.Faults.{Rose}
+use Rattle.initsim.specs.Outcome.{Sources}
 use Rattle.initsim.specs.Script.{HasScript}
 use Rattle.initsim.specs.Store.{HasStore}
 use Rattle.rc_import.specs.World.{World}
+use Rattle.initsim.specs.Trace.{HasTrace}
 use Rattle.initsim.specs.Tree.{IsFitFor}
 use Rattle.initsim.specs.declared.status.Status.{Status}
 use Rattle.initsim.specs.declared.status.Status.TheVariants as status
@@ -22,10 +24,24 @@ IsAsBefore old new status.NoInit before now = new ≡ old
 IsAsBefore old new (status.TooLarge limit number) before now = new ≡ old
 IsAsBefore old new (status.BadPolicy allow line) before now = new ≡ old
 IsAsBefore old new (status.BadStore line) before now = new ≡ old
+IsAsBefore old new status.BadTrace before now = new ≡ old
 
--- What is told can be done: the script's bytes are a script, the world can be run or checked, and the text that the keeper
--- holds is a store. A check asks for the world alone.
-abbrev pub CanBeDone : Option Form → Option (List ℕ) → World → Option (List ℕ) → Type 0
-CanBeDone None script world held = ⊥
-CanBeDone (Some form.Run) script world held = IsSomeAnd script HasScript × IsFitFor form.Run world × IsSomeAnd held HasStore
-CanBeDone (Some form.Check) script world held = IsFitFor form.Check world
+-- What is told can be run: the script's bytes are a script, the world can be run, and the text that the keeper holds is a store.
+pub record CanRun (sources : Sources) (world : World) : Type 0 where
+  pub script : IsSomeAnd sources.script HasScript
+  pub world_is_fit : IsFitFor form.Run world
+  pub store : IsSomeAnd sources.held HasStore
+
+-- What is told can be done. A check asks for the world alone, and an audit for what a run does and for a trace.
+abbrev pub CanBeDone : Option Form → Sources → World → Type 0
+CanBeDone None sources world = ⊥
+CanBeDone (Some form.Run) sources world = CanRun sources world
+CanBeDone (Some form.Check) sources world = IsFitFor form.Check world
+CanBeDone (Some form.Audit) sources world = CanRun sources world × IsSomeAnd sources.trace HasTrace
+
+-- a form that reads a script
+abbrev pub ReadsScript : Option Form → Type 0
+ReadsScript None = ⊥
+ReadsScript (Some form.Run) = ⊤
+ReadsScript (Some form.Check) = ⊥
+ReadsScript (Some form.Audit) = ⊤

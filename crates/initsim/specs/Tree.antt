@@ -67,14 +67,17 @@ PassesLimit refusal.NoMemory limit number = ⊥
 abbrev pub HasPolicyFor : Form → Tree → Type 0
 HasPolicyFor form.Run tree = HasPolicy tree
 HasPolicyFor form.Check tree = ⊤
+HasPolicyFor form.Audit tree = HasPolicy tree
 
 abbrev pub IsPolicyTooLargeFor : Form → Tree → Limit → ℕ → Type 0
 IsPolicyTooLargeFor form.Run tree limit number = IsPolicyTooLarge tree limit number
 IsPolicyTooLargeFor form.Check tree limit number = ⊥
+IsPolicyTooLargeFor form.Audit tree limit number = IsPolicyTooLarge tree limit number
 
 abbrev pub IsBadPolicyFor : Form → Tree → Bool → ℕ → Type 0
 IsBadPolicyFor form.Run tree allow line = IsBadPolicyAt tree allow line
 IsBadPolicyFor form.Check tree allow line = ⊥
+IsBadPolicyFor form.Audit tree allow line = IsBadPolicyAt tree allow line
 
 -- ---- statuses
 
@@ -102,7 +105,8 @@ IsTreeTooLarge form world limit number =
     IsPolicyTooLargeFor form world.tree limit number
     ⊎ ((HasPolicyFor form world.tree × AreBuildFilesTooLarge world.tree limit number) ⊎ AreRcFilesTooLarge form world limit number)
 
--- A limit of trees is passed. Where a limit of scripts is, the tree wasn't read yet, and where that of the store is, it was.
+-- A limit of trees is passed. Where a limit of scripts is, the tree wasn't read yet, and where that of the store or of a trace
+-- is, it was.
 abbrev pub TreeLimitSays : Form → World → Limit → ℕ → Type 0
 TreeLimitSays form world limits.FileBytes number = IsTreeTooLarge form world limits.FileBytes number
 TreeLimitSays form world limits.Files number = IsTreeTooLarge form world limits.Files number
@@ -112,6 +116,7 @@ TreeLimitSays form world limits.ScriptBytes number = ⊤
 TreeLimitSays form world limits.ScriptLines number = ⊤
 TreeLimitSays form world limits.Steps number = ⊤
 TreeLimitSays form world limits.StoreBytes number = IsFitFor form world
+TreeLimitSays form world limits.TraceBytes number = IsFitFor form world
 
 -- What a status says of a world. The tree is read after the script and before the store, so the script's refusals say
 -- nothing of it, and what comes later says that it can be run, or checked.
@@ -124,5 +129,6 @@ TreeSays form world (status.BadPolicy allow line) = IsBadPolicyFor form world.tr
 TreeSays form world status.NoInit = HasNoRoot form world
 TreeSays form world (status.TooLarge limit number) = TreeLimitSays form world limit number
 TreeSays form world (status.BadStore line) = IsFitFor form world
+TreeSays form world status.BadTrace = IsFitFor form world
 TreeSays form world status.WriteFault = IsFitFor form world
 TreeSays form world status.Done = IsFitFor form world

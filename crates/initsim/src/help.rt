@@ -17,10 +17,15 @@ Runs Android's init over a modelled kernel, and writes command by command what i
     writes          the mistakes to standard output
     for example     initsim check examples/diagnostics/tree
 
+  audit ROOT SCRIPT TRACE   says whether a run of the tree and SCRIPT can have written TRACE, and if not, what is wrong first
+    reads           what run reads, and TRACE
+    writes          yes, or no WHY NUMBER, to standard output
+    for example     initsim audit examples/device/tree examples/device/script examples/device/stdout
+
 ROOT is the folder that holds system/etc/init/hw/init.rc; tools/take-product makes one from a product's build.
 The rc files are those of /system, /system_ext, /vendor, /odm and /product (etc/init) with what they import, the
 build files /system/build.prop and /vendor/build.prop.
-The status is 0 where the whole text is written, and from 1 to 9 where not: README.md has the table.
+The status is 0 where the whole text is written, and from 1 to 12 where not: README.md has the table.
 docs/FORMATS.md has the words of a script and each line of a trace, docs/DIAGNOSTICS.md each mistake.";
 
 /// Whether a first word asks for help.

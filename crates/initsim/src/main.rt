@@ -1,9 +1,11 @@
-//! `initsim`: Android's first process over a modelled kernel, for a tree of rc files and a script.
+//! `initsim`: Android's first process over a modelled kernel, for a tree of rc files and a script, and the audit of its traces.
 //!
-//! `top` has the call that does all that the program does, with its promise. `main` makes the real files, script and
-//! output, and makes that call.
+//! `top` has the call that does all that the program does, with its promise. `main` makes the real files, script,
+//! trace and output, and makes that call.
 #![tactic(auto)]
 
+mod auditing;
+mod causes;
 mod command_line;
 mod help;
 mod loading;
@@ -14,7 +16,9 @@ mod stop;
 mod telling;
 mod texts;
 mod top;
+mod verdict;
 
+use causes::tell_cause;
 use command_line::words_of;
 use help::{is_help, tell_help};
 use init_base::{
@@ -43,6 +47,7 @@ fn run(rt: &HostRuntime) -> Result<Status, NoMemory> {
     let path = word_at(&words, 2)?;
     let mut files = StdFiles::at(rt, alloc, &root)?;
     let mut script = StdSource::at(rt, alloc, &path)?;
+    let mut trace = StdSource::at(rt, alloc, &word_at(&words, 3)?)?;
     let mut keeper = StdKeeper::below(rt, &root, &Text::of(alloc, STORE_PATH)?)?;
     let mut out = StdSink::stdout(rt);
     let status = initsim(
@@ -50,11 +55,13 @@ fn run(rt: &HostRuntime) -> Result<Status, NoMemory> {
         &words,
         &mut files,
         &mut script,
+        &mut trace,
         &mut keeper,
         &mut out,
     );
-    let fault = fault_behind(status, &script, &files, &keeper, &out);
+    let fault = fault_behind(status, &script, &trace, &files, &keeper, &out);
     let _ = tell(rt, status, fault);
+    tell_cause(rt, status, &words);
     if status == Status::Usage {
         let _ = tell_usage(rt, &words);
     }
@@ -77,14 +84,17 @@ fn tell_usage(rt: &HostRuntime, words: &List<Text>) -> std::io::Result<()> {
 fn fault_behind<'a>(
     status: Status,
     script: &'a StdSource<'_, HostRuntime>,
+    trace: &'a StdSource<'_, HostRuntime>,
     files: &'a StdFiles<'_, HostRuntime>,
     keeper: &'a StdKeeper<'_, HostRuntime>,
     out: &'a StdSink<'_, HostRuntime>,
 ) -> Option<&'a Fault> {
     let has_script_failed = script.faults() > 0;
+    let has_trace_failed = trace.faults() > 0;
     let has_keeper_failed = keeper.faults() > 0;
     match status {
         Status::ReadFault if has_script_failed => script.last_fault(),
+        Status::ReadFault if has_trace_failed => trace.last_fault(),
         Status::ReadFault if has_keeper_failed => keeper.last_fault(),
         Status::ReadFault | Status::NoInit => files.last_fault(),
         Status::WriteFault => out.last_fault(),

@@ -1,11 +1,13 @@
-//! What is to be run: the script, the tree and the store are read, in this order, and the first refusal ends it.
+//! What is to be run, or is what a trace is held against: the script, the tree and the store are read, in this order, and the first refusal ends it.
 
-ghost use Rattle.std.specs.Prelude.{◌≡◌, [], map, IfErr, IfOk, IfSome};
+ghost use Rattle.std.specs.Prelude.{◌≡◌, ℕ, [], map, IfErr, IfOk, IfSome};
 ghost use Rattle.init_base.specs.Faults.{Counted};
 ghost use Rattle.init_driver.specs.Keeper.{seen_by};
 ghost use Rattle.init_machine.specs.WellFormed.{IsWellFormed};
+ghost use Rattle.initsim.specs.Counts.{counts_of};
+ghost use Rattle.initsim.specs.Endings.{IsRunStatus};
 ghost use Rattle.initsim.specs.Prepared.{ArePrepared, GivesSaved, GivesSetup, GivesTree, IsAsked, IsFit, IsJobFor, ScriptOfJob};
-ghost use Rattle.initsim.specs.Stops.{IsOfTree, has_read_fault};
+ghost use Rattle.initsim.specs.Stops.{IsOfTree, has_read_fault, status_of};
 ghost use Rattle.initsim.specs.Tree.{IsWorldOf};
 ghost use Rattle.rc_import.specs.World.{World};
 
@@ -114,9 +116,10 @@ pub fn prepare<F: Files, S: Source, P: Keeper>(
     ensures fit { IfOk result IsFit }
     ensures held { P.held keeper.new ≡ P.held keeper.old }
     ensures asked { let seen = seen_by P.held P.TellsCrash P.moment P.MayLeave in IsAsked result (seen keeper.old) (seen keeper.new) }
-    ensures counts { ArePrepared result
-        (record { files = F.fault_count files.old; script = S.fault_count source.old; keeper = P.fault_count keeper.old; out = 0 })
-        (record { files = F.fault_count files.new; script = S.fault_count source.new; keeper = P.fault_count keeper.new; out = 0 }) }
+    ensures kind { IfErr result (λ why. IsRunStatus (status_of why)) }
+    ensures counts { (trace out : ℕ) → ArePrepared result
+        (counts_of (F.fault_count files.old) (S.fault_count source.old) trace (P.fault_count keeper.old) out)
+        (counts_of (F.fault_count files.new) (S.fault_count source.new) trace (P.fault_count keeper.new) out) }
 {
     let script = read_script(alloc, source)?;
     let parts = read_tree(alloc, files)?;

@@ -1,16 +1,16 @@
-//! The two readers that read one text of the outside whole: that of the script, and that of the persistent store.
+//! The readers that read one text of the outside whole: that of the script, that of the persistent store, and that of a trace.
 
 ghost use Rattle.std.specs.Prelude.{◌≡◌, IfErr, IfOk, IfSome, IsTrue};
 ghost use Rattle.init_base.specs.Faults.{Counted};
 ghost use Rattle.init_driver.specs.Keeper.{seen_by};
 ghost use Rattle.initsim.specs.Prepared.{IsAsked};
-ghost use Rattle.initsim.specs.Stops.{GivesScript, GivesStore, IsOfScript, IsOfStore, has_read_fault};
+ghost use Rattle.initsim.specs.Stops.{GivesScript, GivesStore, GivesTrace, IsOfScript, IsOfStore, IsOfTrace, has_read_fault};
 ghost use Rattle.persist_file.specs.Store.{are_saved};
 ghost use Rattle.script_lang.specs.Laws.{MeetsConditions};
 
 use crate::stop::Stop;
 use init_base::{Keeper, List, Source, read_all};
-use init_machine::{Limit, Pair};
+use init_machine::{Limit, Pair, Report};
 use script_lang::Script;
 use std::alloc::Global;
 
@@ -19,6 +19,9 @@ const MOST_SCRIPT_BYTES: usize = 16_777_216;
 
 /// The most bytes of a persistent store.
 const MOST_STORE_BYTES: usize = 33_554_432;
+
+/// The most bytes of a trace.
+const MOST_TRACE_BYTES: usize = 67_108_864;
 
 /// Reads the source to its end: the script of its bytes.
 pub fn read_script<S: Source>(alloc: Global, source: &mut S) -> Result<Script, Stop>
@@ -45,5 +48,20 @@ pub fn read_store<P: Keeper>(alloc: Global, keeper: &mut P) -> Result<List<Pair>
     match keeper.load(alloc, MOST_STORE_BYTES) {
         Ok(text) => Ok(persist_file::read(alloc, text.bytes())?),
         Err(refusal) => Err(Stop::of_reading(refusal, Limit::StoreBytes, MOST_STORE_BYTES)),
+    }
+}
+
+/// Reads the source to its end: the report that its bytes are the text of.
+pub fn read_trace<T: Source>(alloc: Global, source: &mut T) -> Result<Report, Stop>
+    ensures trace { IfSome (T.left source.old) (λ bytes. GivesTrace bytes (T.left source.new) result) }
+    ensures last { IfErr result IsOfTrace }
+    ensures cause { Counted (has_read_fault result) (T.fault_count source.old) (T.fault_count source.new) }
+{
+    match read_all(alloc, source, MOST_TRACE_BYTES) {
+        Ok(text) => match trace_reader::read(alloc, text.bytes())? {
+            Some(report) => Ok(report),
+            None => Err(Stop::BadTrace),
+        },
+        Err(refusal) => Err(Stop::of_reading(refusal, Limit::TraceBytes, MOST_TRACE_BYTES)),
     }
 }

@@ -12,7 +12,7 @@ pub enum Status {
     Done,
     /// The words of the command line have no form.
     Usage,
-    /// A file, the script or the store couldn't be read, or the store couldn't be replaced.
+    /// A file, the script, the store or the trace couldn't be read, or the store couldn't be replaced.
     ReadFault,
     /// The text couldn't be written. A front of it is written.
     WriteFault,
@@ -22,12 +22,14 @@ pub enum Status {
     BadScript { line: u32 },
     /// The tree has no root file.
     NoInit,
-    /// A limit is passed. The number of the bytes of one file, script or store is the limit and one more.
+    /// A limit is passed. The number of the bytes of one file, script, store or trace is the limit and one more.
     TooLarge { limit: Limit, number: u64 },
     /// A line of the allow text, or else of the contexts text, is bad: the first one, from 1.
     BadPolicy { allow: bool, line: u32 },
     /// A line of the persistent store is bad: the first one, from 1.
     BadStore { line: u32 },
+    /// The trace is no report's text.
+    BadTrace,
 }
 
 impl Status {
@@ -46,6 +48,7 @@ impl Status {
             Status::TooLarge { .. } => 7,
             Status::BadPolicy { .. } => 8,
             Status::BadStore { .. } => 9,
+            Status::BadTrace => 12,
         }
     }
 }

@@ -1,4 +1,4 @@
-//! Why nothing is run or checked.
+//! Why nothing is run, checked or judged.
 
 ghost use Rattle.std.specs.Prelude.{◌≡◌, ◌<◌, ◌^◌};
 ghost use Rattle.initsim.specs.Stops.{reading_stop, status_of};
@@ -29,7 +29,7 @@ fn limit_of(number: u64) -> Limit
     }
 }
 
-/// Why nothing is run or checked. The lines count from 1.
+/// Why nothing is run, checked or judged. The lines count from 1.
 #[derive(Clone, Copy, Debug, PartialEq, Eq)]
 pub enum Stop {
     ReadFault,
@@ -43,6 +43,8 @@ pub enum Stop {
     BadPolicy { allow: bool, line: u32 },
     /// The first bad line of the persistent store.
     BadStore { line: u32 },
+    /// The trace is no report's text.
+    BadTrace,
 }
 
 impl Stop {
@@ -58,6 +60,7 @@ impl Stop {
             Stop::TooLarge { limit, number } => Status::TooLarge { limit, number },
             Stop::BadPolicy { allow, line } => Status::BadPolicy { allow, line },
             Stop::BadStore { line } => Status::BadStore { line },
+            Stop::BadTrace => Status::BadTrace,
         }
     }
 

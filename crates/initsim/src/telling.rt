@@ -18,7 +18,9 @@ pub fn tell(rt: &HostRuntime, status: Status, fault: Option<&Fault>) -> std::io:
 fn tell_status(rt: &HostRuntime, status: Status) -> std::io::Result<()> {
     match status {
         Status::Done => Ok(()),
-        Status::Usage => eprintln!(rt; "initsim: usage: run ROOT SCRIPT | check ROOT"),
+        Status::Usage => eprintln!(rt;
+            "initsim: usage: run ROOT SCRIPT | check ROOT | audit ROOT SCRIPT TRACE"
+        ),
         Status::ReadFault => eprintln!(rt; "initsim: read fault"),
         Status::WriteFault => eprintln!(rt; "initsim: write fault"),
         Status::NoMemory => eprintln!(rt; "initsim: no memory"),
@@ -30,6 +32,7 @@ fn tell_status(rt: &HostRuntime, status: Status) -> std::io::Result<()> {
         }
         Status::BadPolicy { allow: true, line } => eprintln!(rt; "initsim: bad allow line {line}"),
         Status::BadStore { line } => eprintln!(rt; "initsim: bad store line {line}"),
+        Status::BadTrace => eprintln!(rt; "initsim: bad trace"),
     }
 }
 
@@ -75,6 +78,7 @@ fn tell_count(rt: &HostRuntime, form: Form, given: usize) -> std::io::Result<()>
     let taken = match form {
         Form::Run => "run takes 2 words",
         Form::Check => "check takes 1 word",
+        Form::Audit => "audit takes 3 words",
     };
     match given {
         0 => eprintln!(rt; "initsim: {taken}, and none is given"),
@@ -88,6 +92,7 @@ fn name_of(place: Place) -> &'static str {
     match place {
         Place::Root => "ROOT",
         Place::Script => "SCRIPT",
+        Place::Trace => "TRACE",
     }
 }
 

@@ -1,19 +1,23 @@
 //! The top call: all that the program does.
 
-ghost use Rattle.std.specs.Prelude.{◌≡◌, ◌↔◌, ℕ, IfSome, None, Some};
+ghost use Rattle.std.specs.Prelude.{◌≡◌, ◌↔◌, ℕ, IfSome, List as Items, None, Option, Some};
 ghost use Rattle.init_driver.specs.Keeper.{seen_by};
 ghost use Rattle.initsim.specs.Check.{CheckWrites, IsCheckStatus};
-ghost use Rattle.initsim.specs.Counts.{AreCounted, IsDoneUnlessRisen};
-ghost use Rattle.initsim.specs.Outcome.{Ends, Tell, Told, shown_as};
-ghost use Rattle.initsim.specs.Prepared.{IsFit, IsRunStatus, Performs, WritesDiagnostics, course_of};
+ghost use Rattle.init_trace.specs.Report.{DiagnosticsText};
+ghost use Rattle.initsim.specs.Counts.{AreCounted, IsDoneUnlessRisen, counts_of};
+ghost use Rattle.initsim.specs.Endings.{IsRunStatus};
+ghost use Rattle.initsim.specs.Outcome.{Ends, Tell, TellRun, Told, shown_as, sources_of};
+ghost use Rattle.initsim.specs.Prepared.{IsFit, Performs, WritesText, course_of};
 ghost use Rattle.initsim.specs.Script.{ScriptSays};
 ghost use Rattle.initsim.specs.Store.{StoreSays};
-ghost use Rattle.initsim.specs.Top.{CanBeDone, IsAsBefore};
+ghost use Rattle.initsim.specs.Top.{CanBeDone, IsAsBefore, ReadsScript};
+ghost use Rattle.initsim.specs.Trace.{TraceSays};
 ghost use Rattle.initsim.specs.Tree.{IsWorldOf, TreeSays};
 ghost use Rattle.init_words.specs.Form.{form_of as form_of_lem};
 ghost use Rattle.init_words.specs.declared.form.Form.TheVariants as Form;
 ghost use Rattle.rc_import.specs.World.{World};
 
+use crate::auditing::audit_trace;
 use crate::loading::load;
 use crate::prepare::{Job, prepare};
 use crate::status::Status;
@@ -29,9 +33,9 @@ fn perform<P: Keeper, K: Sink>(alloc: Global, job: Job, keeper: &mut P, out: &mu
     requires { IsFit job }
     ensures leaves { let seen = seen_by P.held P.TellsCrash P.moment P.MayLeave in
         Performs (course_of job) (K.taken out.old) (K.taken out.new) (seen keeper.old) (seen keeper.new) result }
-    ensures counts { (files script : ℕ) → AreCounted result
-        (record { files = files; script = script; keeper = P.fault_count keeper.old; out = K.fault_count out.old })
-        (record { files = files; script = script; keeper = P.fault_count keeper.new; out = K.fault_count out.new }) }
+    ensures counts { (files script trace : ℕ) → AreCounted result
+        (counts_of files script trace (P.fault_count keeper.old) (K.fault_count out.old))
+        (counts_of files script trace (P.fault_count keeper.new) (K.fault_count out.new)) }
 {
     match run(alloc, job.setup, &job.script, keeper, out) {
         Ok(()) => Status::Done,
@@ -53,11 +57,12 @@ fn run_script<F: Files, S: Source, P: Keeper, K: Sink>(
     ensures tree { (world : World) → IsWorldOf (F.tree files.old) world → TreeSays Form.Run world result }
     ensures store { IfSome (P.held keeper.old) (λ held. StoreSays held result) }
     ensures ends { let seen = seen_by P.held P.TellsCrash P.moment P.MayLeave in
-        (told : Told) → Tell (S.left script.old) (F.tree files.old) (P.held keeper.old) told →
+        (trace : Option (Items ℕ)) (told : Told) →
+        TellRun (sources_of (S.left script.old) (F.tree files.old) (P.held keeper.old) trace) told →
         Ends (Some Form.Run) told result (shown_as (K.taken out.old) (K.taken out.new) (seen keeper.old) (seen keeper.new)) }
-    ensures counts { AreCounted result
-        (record { files = F.fault_count files.old; script = S.fault_count script.old; keeper = P.fault_count keeper.old; out = K.fault_count out.old })
-        (record { files = F.fault_count files.new; script = S.fault_count script.new; keeper = P.fault_count keeper.new; out = K.fault_count out.new }) }
+    ensures counts { (trace : ℕ) → AreCounted result
+        (counts_of (F.fault_count files.old) (S.fault_count script.old) trace (P.fault_count keeper.old) (K.fault_count out.old))
+        (counts_of (F.fault_count files.new) (S.fault_count script.new) trace (P.fault_count keeper.new) (K.fault_count out.new)) }
     ensures unwritten { IsAsBefore (K.taken out.old) (K.taken out.new) result (P.fault_count keeper.old) (P.fault_count keeper.new) }
     ensures unkept { IsAsBefore (P.held keeper.old) (P.held keeper.new) result (P.fault_count keeper.old) (P.fault_count keeper.new) }
     ensures formed { IsRunStatus result }
@@ -70,10 +75,10 @@ fn run_script<F: Files, S: Source, P: Keeper, K: Sink>(
 
 /// Writes the diagnostics alone.
 fn write_diagnostics<K: Sink>(alloc: Global, diagnostics: &List<Diagnostic>, out: &mut K) -> Status
-    ensures writes { WritesDiagnostics diagnostics.now (K.taken out.old) (K.taken out.new) result }
-    ensures counts { (files script keeper : ℕ) → AreCounted result
-        (record { files = files; script = script; keeper = keeper; out = K.fault_count out.old })
-        (record { files = files; script = script; keeper = keeper; out = K.fault_count out.new }) }
+    ensures writes { WritesText (DiagnosticsText diagnostics.now) (K.taken out.old) (K.taken out.new) result }
+    ensures counts { (files script trace keeper : ℕ) → AreCounted result
+        (counts_of files script trace keeper (K.fault_count out.old))
+        (counts_of files script trace keeper (K.fault_count out.new)) }
 {
     match print_diagnostics(alloc, diagnostics, out) {
         Ok(()) => Status::Done,
@@ -86,9 +91,9 @@ fn write_diagnostics<K: Sink>(alloc: Global, diagnostics: &List<Diagnostic>, out
 fn check<F: Files, K: Sink>(alloc: Global, files: &mut F, out: &mut K) -> Status
     ensures tree { (world : World) → IsWorldOf (F.tree files.old) world → TreeSays Form.Check world result }
     ensures writes { (world : World) → IsWorldOf (F.tree files.old) world → CheckWrites world (K.taken out.old) (K.taken out.new) result }
-    ensures counts { (script keeper : ℕ) → AreCounted result
-        (record { files = F.fault_count files.old; script = script; keeper = keeper; out = K.fault_count out.old })
-        (record { files = F.fault_count files.new; script = script; keeper = keeper; out = K.fault_count out.new }) }
+    ensures counts { (script trace keeper : ℕ) → AreCounted result
+        (counts_of (F.fault_count files.old) script trace keeper (K.fault_count out.old))
+        (counts_of (F.fault_count files.new) script trace keeper (K.fault_count out.new)) }
     ensures unwritten { (keeper : ℕ) → IsAsBefore (K.taken out.old) (K.taken out.new) result keeper keeper }
     ensures formed { IsCheckStatus result }
 {
@@ -104,33 +109,40 @@ fn check<F: Files, K: Sink>(alloc: Global, files: &mut F, out: &mut K) -> Status
 /// `run ROOT SCRIPT` reads the script, the tree's policy, build files and rc files, and the persistent store, in this order;
 /// the first refusal ends it. Then it runs the documented machine, and writes the text of the report entry by entry: the
 /// diagnostics of the tree, the one legal history of the script's inputs, and what the clients read. `check ROOT` reads the
-/// build files and the rc files alone, and writes their diagnostics.
+/// build files and the rc files alone, and writes their diagnostics. `audit ROOT SCRIPT TRACE` reads what a run reads, and then
+/// the trace, and writes whether the machine can have written it, or what is wrong in it first.
 ///
 /// How the call ends is said of what is told: the status, what the sink took, and what the keeper holds, or may leave after a
-/// crash, are those of the one outcome that words, script, tree and store come to; unless a count of faults rose, or memory ran
-/// out: then nothing is written, or a prefix of the outcome's text, and the keeper stands as at the last entry that is written
-/// whole, or at the next one. A refusal is that of a reader which refuses what is told, where those before it don't.
-pub fn initsim<F: Files, S: Source, P: Keeper, K: Sink>(
+/// crash, are those of the one outcome that words, script, tree, store and trace come to; unless a count of faults rose, or
+/// memory ran out: then nothing is written, or a prefix of the outcome's text, and the keeper stands as at the last entry that
+/// is written whole, or at the next one. A refusal is that of a reader which refuses what is told, where those before it don't.
+pub fn initsim<F: Files, S: Source, T: Source, P: Keeper, K: Sink>(
     alloc: Global,
     words: &List<Text>,
     files: &mut F,
     script: &mut S,
+    trace: &mut T,
     keeper: &mut P,
     out: &mut K,
 ) -> Status
     ensures usage { (result ≡ Status.Usage) ↔ (form_of_lem words.now ≡ None) }
 
-    // Where all is told, the call ends as the outcome says.
+    // Where it is told what the form reads, the call ends as the outcome says.
     ensures ends { let seen = seen_by P.held P.TellsCrash P.moment P.MayLeave in
-        (told : Told) → Tell (S.left script.old) (F.tree files.old) (P.held keeper.old) told →
+        (told : Told) →
+        Tell (form_of_lem words.now) (sources_of (S.left script.old) (F.tree files.old) (P.held keeper.old) (T.left trace.old)) told →
         Ends (form_of_lem words.now) told result (shown_as (K.taken out.old) (K.taken out.new) (seen keeper.old) (seen keeper.new)) }
-    ensures read { form_of_lem words.now ≡ Some Form.Run →
+    ensures read { ReadsScript (form_of_lem words.now) →
         IfSome (S.left script.old) (λ bytes. ScriptSays bytes (S.left script.new) result) }
+    ensures traced { form_of_lem words.now ≡ Some Form.Audit →
+        IfSome (T.left trace.old) (λ bytes. TraceSays bytes (T.left trace.new) result) }
 
     // A fault comes only where a count of its objects rose, and all other counts are as before.
     ensures faults { AreCounted result
-        (record { files = F.fault_count files.old; script = S.fault_count script.old; keeper = P.fault_count keeper.old; out = K.fault_count out.old })
-        (record { files = F.fault_count files.new; script = S.fault_count script.new; keeper = P.fault_count keeper.new; out = K.fault_count out.new }) }
+        (counts_of (F.fault_count files.old) (S.fault_count script.old) (T.fault_count trace.old)
+        (P.fault_count keeper.old) (K.fault_count out.old))
+        (counts_of (F.fault_count files.new) (S.fault_count script.new) (T.fault_count trace.new)
+        (P.fault_count keeper.new) (K.fault_count out.new)) }
 
     // A refusal before the run writes nothing and leaves what the keeper holds, also where nothing is told.
     ensures unwritten { IsAsBefore (K.taken out.old) (K.taken out.new) result (P.fault_count keeper.old) (P.fault_count keeper.new) }
@@ -141,15 +153,25 @@ pub fn initsim<F: Files, S: Source, P: Keeper, K: Sink>(
     ensures unloaded { form_of_lem words.now ≡ Some Form.Check → keeper.new ≡ keeper.old }
     ensures of_check { form_of_lem words.now ≡ Some Form.Check → IsCheckStatus result }
 
+    // An audit leaves what the keeper holds, at every ending. Other forms leave the trace alone, and a run isn't refused by it.
+    ensures audited { form_of_lem words.now ≡ Some Form.Audit → P.held keeper.new ≡ P.held keeper.old }
+    ensures untraced { ¬ (form_of_lem words.now ≡ Some Form.Audit) → trace.new ≡ trace.old }
+    ensures of_run { form_of_lem words.now ≡ Some Form.Run → IsRunStatus result }
+
     // What is told and can be done is done, or memory runs out, unless a count rose.
     ensures complete { (world : World) → IsWorldOf (F.tree files.old) world →
-        CanBeDone (form_of_lem words.now) (S.left script.old) world (P.held keeper.old) → IsDoneUnlessRisen result
-        (record { files = F.fault_count files.old; script = S.fault_count script.old; keeper = P.fault_count keeper.old; out = K.fault_count out.old })
-        (record { files = F.fault_count files.new; script = S.fault_count script.new; keeper = P.fault_count keeper.new; out = K.fault_count out.new }) }
+        CanBeDone (form_of_lem words.now)
+        (sources_of (S.left script.old) (F.tree files.old) (P.held keeper.old) (T.left trace.old)) world →
+        IsDoneUnlessRisen result
+        (counts_of (F.fault_count files.old) (S.fault_count script.old) (T.fault_count trace.old)
+        (P.fault_count keeper.old) (K.fault_count out.old))
+        (counts_of (F.fault_count files.new) (S.fault_count script.new) (T.fault_count trace.new)
+        (P.fault_count keeper.new) (K.fault_count out.new)) }
 {
     match read_words(alloc, words) {
         Ok(Form::Run) => run_script(alloc, files, script, keeper, out),
         Ok(Form::Check) => check(alloc, files, out),
+        Ok(Form::Audit) => audit_trace(alloc, files, script, trace, keeper, out),
         Err(WordsRefusal::Usage) => Status::Usage,
         Err(WordsRefusal::NoMemory) => Status::NoMemory,
     }

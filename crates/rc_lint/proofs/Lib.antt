@@ -5,8 +5,6 @@ pub mod ReadLines
 pub mod Headers
 pub mod Bodies
 pub mod Judged
-pub mod Pages
-pub mod Digits
 pub mod Placed
 pub mod Said
 pub mod Words

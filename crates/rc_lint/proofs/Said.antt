@@ -1,19 +1,21 @@
 -- What the statuses say.
-use Rattle.std.proofs.Common.{◌≡◌, ℕ, ◌≢◌, List, [], ◌∷◌, length, Option, Result, Err, refl, sym, subst, ap, ◌∙◌, inl, arith}
+use Rattle.std.proofs.Common.{◌≡◌, ℕ, ◌≢◌, List, [], ◌∷◌, length, Option, Result, Err, refl, sym, subst, ap, inl, arith}
 use Rattle.std.specs.Io.KnownBytes.{append_known}
-use Rattle.init_machine.specs.declared.diagnostic.Diagnostic.{Diagnostic}
 use Rattle.init_trace.specs.Written.{TakesFront}
 use Rattle.init_base.specs.Faults.{Counted}
+use Rattle.lint_findings.specs.Findings.{errors_in}
+use Rattle.lint_findings.specs.declared.finding.Finding.{Finding}
+use Rattle.lint_page.specs.Page.{IsPage}
+use Rattle.lint_page.specs.declared.style.Style.{Style}
 use Rattle.rc_import.specs.Answers.{IsAnswer, is_read_fault}
 use Rattle.rc_import.specs.declared.loaded.Loaded.{Loaded}
 use Rattle.rc_import.specs.declared.loaded.LoadRefusal.{LoadRefusal}
 use Rattle.rc_import.specs.declared.loaded.LoadRefusal.TheVariants as why
-use Rattle.rc_lint.specs.Code.Reported.{FindsErrors, status_of}
+use Rattle.rc_lint.specs.Code.Reported.{status_of}
 use Rattle.rc_lint.specs.Code.Sources.{IsLater}
-use Rattle.rc_lint.specs.Findings.{errors_of}
+use Rattle.rc_lint.specs.Keeps.{IsUnkept, LintKeeps}
 use Rattle.rc_lint.specs.Loads.{loaded}
-use Rattle.rc_lint.specs.Report.{report_text}
-use Rattle.rc_lint.specs.Says.{IsReport, IsUnwritten, LintSays, ReportsFront}
+use Rattle.rc_lint.specs.Says.{IsReport, IsUnwritten, LintSays, ReportsFront, Tells}
 use Rattle.rc_lint.specs.Status.{AreCounted, Counts}
 use Rattle.rc_lint.specs.Told.{Told}
 use Rattle.rc_lint.specs.declared.request.Request.{Request}
@@ -23,75 +25,76 @@ use Rattle.rc_lint.specs.declared.top.Report.{Report}
 
 -- ---- a report that is written
 
-is_report : (request : Request) (told : Told) (report : Report) (files : ℕ) (errors : List Diagnostic) (text : List ℕ)
-    → FindsErrors request told report → errors_of report.findings ≡ errors → text ≡ report_text request.root report.findings files
-    → IsReport request told errors text
-is_report request told report files errors text finds are printed = record {
-  load = finds.load;
-  loads = finds.loads;
-  findings = report.findings;
-  files = files;
-  errors_are = are;
-  errors_told = sym are ∙ finds.errors;
-  printed = printed;
-}
+-- the page of findings that are these, as it is seen
+pub page_is : (style : Style) (same findings : List Finding) (files : ℕ) (text page : List ℕ) → same ≡ findings → text ≡ page
+    → IsPage style same files page → IsPage style findings files text
+page_is style same findings files text page are is printed =
+    subst (λ (fs : List Finding). IsPage style fs files text) are (subst (λ (t : List ℕ). IsPage style same files t) (sym is) printed)
 
-said_by : (request : Request) (told : Told) (report : Report) (files : ℕ) (errors : List Diagnostic) (text : List ℕ) (old new : Option (List ℕ))
-    → FindsErrors request told report → errors_of report.findings ≡ errors → text ≡ report_text request.root report.findings files
+is_report : (request : Request) (told : Told) (findings : List Finding) (files : ℕ) (text : List ℕ)
+    → Tells request told findings → IsPage request.style findings files text → IsReport request told findings text
+is_report request told findings files text tells printed = record { tells = tells; files = files; printed = printed }
+
+said_by : (request : Request) (told : Told) (findings : List Finding) (files : ℕ) (errors : List Finding) (text : List ℕ) (old new : Option (List ℕ))
+    → Tells request told findings → errors_in request.style.promoted findings ≡ errors → IsPage request.style findings files text
     → new ≡ append_known old text → LintSays request told old new (status_of errors)
-said_by request told report files [] text old new finds are printed written = record {
+said_by request told findings files [] text old new tells are printed written = record {
+  findings = findings;
   text = text;
-  is_report = is_report request told report files [] text finds are printed;
+  is_report = is_report request told findings files text tells printed;
+  errors_are = are;
   written = written;
 }
-said_by request told report files (error ∷ errors) text old new finds are printed written = record {
+said_by request told findings files (error ∷ errors) text old new tells are printed written = record {
   errors = error ∷ errors;
   some = λ none. cc;
   reports = record {
+    findings = findings;
     text = text;
-    is_report = is_report request told report files (error ∷ errors) text finds are printed;
+    is_report = is_report request told findings files text tells printed;
+    errors_are = are;
     written = written;
   };
 }
 
-pub whole_said : (request : Request) (told : Told) (report : Report) (files : ℕ) (text : List ℕ) (old new : Option (List ℕ)) (result : Status)
-    → FindsErrors request told report → text ≡ report_text request.root report.findings files
-    → new ≡ append_known old text → result ≡ status_of (errors_of report.findings) → LintSays request told old new result
-whole_said request told report files text old new result finds printed written is =
+pub whole_said : (request : Request) (told : Told) (findings : List Finding) (files : ℕ) (text : List ℕ) (old new : Option (List ℕ)) (result : Status)
+    → Tells request told findings → IsPage request.style findings files text
+    → new ≡ append_known old text → result ≡ status_of (errors_in request.style.promoted findings) → LintSays request told old new result
+whole_said request told findings files text old new result tells printed written is =
     subst (λ (s : Status). LintSays request told old new s) (sym is)
-    (said_by request told report files (errors_of report.findings) text old new finds refl printed written)
+    (said_by request told findings files (errors_in request.style.promoted findings) text old new tells refl printed written)
 
-pub front_said : (request : Request) (told : Told) (report : Report) (files : ℕ) (text : List ℕ) (old new : Option (List ℕ))
-    → FindsErrors request told report → text ≡ report_text request.root report.findings files
+pub front_said : (request : Request) (told : Told) (findings : List Finding) (files : ℕ) (text : List ℕ) (old new : Option (List ℕ))
+    → Tells request told findings → IsPage request.style findings files text
     → TakesFront old new text → ReportsFront request told old new
-front_said request told report files text old new finds printed front = record {
-  errors = errors_of report.findings;
+front_said request told findings files text old new tells printed front = record {
+  findings = findings;
   text = text;
-  is_report = is_report request told report files (errors_of report.findings) text finds refl printed;
+  is_report = is_report request told findings files text tells printed;
   written = front;
 }
 
-counted_by : (errors : List Diagnostic) (before now : Counts) → now ≡ before → AreCounted (status_of errors) before now
+counted_by : (errors : List Finding) (before now : Counts) → now ≡ before → AreCounted (status_of errors) before now
 counted_by [] before now same = same
 counted_by (error ∷ errors) before now same = same
 
-pub whole_counted : (errors : List Diagnostic) (before now : Counts) (result : Status) → result ≡ status_of errors → now ≡ before
+pub whole_counted : (errors : List Finding) (before now : Counts) (result : Status) → result ≡ status_of errors → now ≡ before
     → AreCounted result before now
 whole_counted errors before now result is same =
     subst (λ (s : Status). AreCounted s before now) (sym is) (counted_by errors before now same)
 
-unwritten_by : (errors : List Diagnostic) (old new : Option (List ℕ)) → IsUnwritten old new (status_of errors)
+unwritten_by : (errors : List Finding) (old new : Option (List ℕ)) → IsUnwritten old new (status_of errors)
 unwritten_by [] old new = tt
 unwritten_by (error ∷ errors) old new = tt
 
-pub whole_unwritten : (errors : List Diagnostic) (old new : Option (List ℕ)) (result : Status) → result ≡ status_of errors → IsUnwritten old new result
+pub whole_unwritten : (errors : List Finding) (old new : Option (List ℕ)) (result : Status) → result ≡ status_of errors → IsUnwritten old new result
 whole_unwritten errors old new result is = subst (λ (s : Status). IsUnwritten old new s) (sym is) (unwritten_by errors old new)
 
-pub clean_of : (errors : List Diagnostic) → length errors ≡ 0 → status.Clean ≡ status_of errors
+pub clean_of : (errors : List Finding) → length errors ≡ 0 → status.Clean ≡ status_of errors
 clean_of [] none = refl
 clean_of (error ∷ errors) none = absurd (omega (arith, none))
 
-pub faulty_of : (errors : List Diagnostic) → length errors ≢ 0 → status.Faulty ≡ status_of errors
+pub faulty_of : (errors : List Finding) → length errors ≢ 0 → status.Faulty ≡ status_of errors
 faulty_of [] some = absurd (some refl)
 faulty_of (error ∷ errors) some = refl
 
@@ -119,6 +122,21 @@ refusal_unwritten old new why.ReadFault same = same
 refusal_unwritten old new (why.TooLarge path number) same = same
 refusal_unwritten old new (why.TooMany path number) same = same
 refusal_unwritten old new why.NoMemory same = tt
+
+pub refusal_kept : (request : Request) (told : Told) (old new : Option (List ℕ)) (refusal : LoadRefusal)
+    → IsAnswer (Err refusal) (loaded told.world) → new ≡ old → LintKeeps request told old new (status.Refused refusal)
+refusal_kept request told old new why.NoInit answer same = (answer, same)
+refusal_kept request told old new why.ReadFault answer same = same
+refusal_kept request told old new (why.TooLarge path number) answer same = (answer, same)
+refusal_kept request told old new (why.TooMany path number) answer same = (answer, same)
+refusal_kept request told old new why.NoMemory answer same = tt
+
+pub refusal_unkept : (old new : Option (List ℕ)) (refusal : LoadRefusal) → new ≡ old → IsUnkept old new (status.Refused refusal)
+refusal_unkept old new why.NoInit same = same
+refusal_unkept old new why.ReadFault same = same
+refusal_unkept old new (why.TooLarge path number) same = same
+refusal_unkept old new (why.TooMany path number) same = same
+refusal_unkept old new why.NoMemory same = tt
 
 pub refusal_counted : (refusal : LoadRefusal) (files later out : ℕ) → Counted (is_read_fault {T = Report} (Err refusal)) files later
     → AreCounted (status.Refused refusal) (record { files = files; out = out }) (record { files = later; out = out })

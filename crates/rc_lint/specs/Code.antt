@@ -3,4 +3,3 @@ pub mod Steps
 pub mod Sources
 pub mod Judged
 pub mod Reported
-pub mod Counts

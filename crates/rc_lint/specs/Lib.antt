@@ -2,8 +2,7 @@ pub mod Loads
 pub mod Told
 pub mod NotModelled
 pub mod Excused
-pub mod Findings
-pub mod Report
 pub mod Status
 pub mod Says
+pub mod Keeps
 pub mod Code

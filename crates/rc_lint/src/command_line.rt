@@ -3,11 +3,17 @@
 use crate::request::Request;
 use clap::{Arg, ArgAction, ArgMatches, Command, Error, value_parser};
 use init_base::{List, NoMemory, Text};
+use lint_baseline::Baseline;
+use lint_findings::{About, Promoted, about_of};
+use lint_page::{Format, Style};
 use std::alloc::Global;
 use std::env::{Env, FillError};
 
 /// The bytes of the first buffer that is tried for a word.
 const FIRST_BUFFER: usize = 256;
+
+/// What stands for each kind of a warning or a hint.
+const EVERY_KIND: &str = "all";
 
 /// The words of the command line, or none where one of them is no text. The program's own name isn't read.
 pub fn words_of<R: Env>(env: &R, alloc: Global) -> Result<Option<Vec<String>>, NoMemory> {
@@ -59,12 +65,65 @@ fn command<'a>(alloc: Global) -> Result<Command<'a>, Error> {
         .version("0.1.0")
         .about("Checks the rc files and build files of a device's tree")
         .after_help(
-            "The status is 0 without errors, 1 with errors, and 2 where the words are wrong or the tree can't be read.",
+            "The status is 0 without errors, 1 with errors, and 2 where the words are wrong or a file can't be read or written.",
         )
         .arg(allow)?
         .arg(no_warn)?
+        .arg(werror(alloc))?
+        .arg(absolute(alloc))?
+        .arg(format(alloc))?
+        .arg(baseline(alloc))?
+        .arg(write_baseline(alloc)?)?
         .arg(root)?;
     Ok(command)
+}
+
+fn werror<'a>(alloc: Global) -> Arg<'a> {
+    Arg::new(alloc, "werror")
+        .long("werror")
+        .value_name("KIND,..")
+        .num_args(0..=1)
+        .require_equals(true)
+        .default_missing_value(EVERY_KIND)
+        .action(ArgAction::Append)
+        .value_parser(value_parser!(String))
+        .help("Take warnings and hints as errors: those of these kinds, or all")
+}
+
+fn absolute<'a>(alloc: Global) -> Arg<'a> {
+    Arg::new(alloc, "absolute")
+        .long("absolute")
+        .action(ArgAction::SetTrue)
+        .help("Write ROOT before the paths of files, for editors")
+}
+
+fn format<'a>(alloc: Global) -> Arg<'a> {
+    Arg::new(alloc, "format")
+        .long("format")
+        .value_name("FORMAT")
+        .action(ArgAction::Set)
+        .value_parser(value_parser!(String))
+        .help("Write gcc (a line for each finding), json or sarif (2.1.0)")
+}
+
+fn baseline<'a>(alloc: Global) -> Arg<'a> {
+    Arg::new(alloc, "baseline")
+        .long("baseline")
+        .value_name("FILE")
+        .action(ArgAction::Set)
+        .value_parser(value_parser!(String))
+        .help("Tell nothing of the findings that this file knows")
+}
+
+fn write_baseline<'a>(alloc: Global) -> Result<Arg<'a>, Error> {
+    let arg = Arg::new(alloc, "write-baseline")
+        .long("write-baseline")
+        .value_name("FILE")
+        .action(ArgAction::Set)
+        .value_parser(value_parser!(String))
+        .conflicts_with("baseline")?
+        .help("Write the findings to a file that knows them, and no report");
+    Ok(arg)
 }
 
 /// Why the words ask for no report.
@@ -73,6 +132,11 @@ pub enum WordsRefusal {
     /// They have no form, or ask for help or the version.
     Told(Error),
     EmptyRoot,
+    /// A kind that is no warning's and no hint's.
+    UnknownKind(Text),
+    UnknownFormat(Text),
+    /// An option's file has no name.
+    EmptyFile,
     NoMemory,
 }
 
@@ -88,19 +152,104 @@ impl From<NoMemory> for WordsRefusal {
     }
 }
 
-/// What is asked for, by the words of the command line, and the root as it is written.
-pub fn request_of(alloc: Global, words: &[String]) -> Result<(Request, Text), WordsRefusal> {
+/// What the words ask for.
+#[derive(Drop)]
+pub struct Asked {
+    pub request: Request,
+    /// ROOT as it is written.
+    pub root: Text,
+    /// The file that knows findings.
+    pub known: Option<Text>,
+    /// The file into which findings are written, so that it knows them.
+    pub kept: Option<Text>,
+}
+
+/// What is asked for, by the words of the command line.
+pub fn asked_by(alloc: Global, words: &[String]) -> Result<Asked, WordsRefusal> {
     let matches = command(alloc)?.try_get_matches_from(words)?;
     let root = matches.get_str("root").unwrap_or("").as_bytes();
     if root.is_empty() {
         return Err(WordsRefusal::EmptyRoot);
     }
     let request = Request {
-        root: Text::of(alloc, without_last_slashes(root))?,
+        style: style(alloc, &matches, root)?,
         allowed: allowed(alloc, &matches)?,
         warns: !matches.get_flag("no-warn"),
+        baseline: Baseline {
+            rows: List::new(alloc),
+        },
     };
-    Ok((request, Text::of(alloc, root)?))
+    Ok(Asked {
+        request,
+        root: Text::of(alloc, root)?,
+        known: file_of(alloc, matches.get_str("baseline"))?,
+        kept: file_of(alloc, matches.get_str("write-baseline"))?,
+    })
+}
+
+/// The file of an option.
+fn file_of(alloc: Global, path: Option<&str>) -> Result<Option<Text>, WordsRefusal> {
+    match path {
+        Some(path) if path.is_empty() => Err(WordsRefusal::EmptyFile),
+        Some(path) => Ok(Some(Text::of(alloc, path.as_bytes())?)),
+        None => Ok(None),
+    }
+}
+
+/// The form of the report.
+fn format_of(alloc: Global, name: Option<&str>) -> Result<Format, WordsRefusal> {
+    let Some(name) = name else {
+        return Ok(Format::Gcc);
+    };
+    match name.as_bytes() {
+        b"gcc" => Ok(Format::Gcc),
+        b"json" => Ok(Format::Json),
+        b"sarif" => Ok(Format::Sarif),
+        name => Err(WordsRefusal::UnknownFormat(Text::of(alloc, name)?)),
+    }
+}
+
+/// In which form findings are told.
+fn style(alloc: Global, matches: &ArgMatches<'_>, root: &[u8]) -> Result<Style, WordsRefusal> {
+    let before = if matches.get_flag("absolute") {
+        without_last_slashes(root)
+    } else {
+        &[]
+    };
+    Ok(Style {
+        root: Text::of(alloc, before)?,
+        promoted: promoted(alloc, matches)?,
+        format: format_of(alloc, matches.get_str("format"))?,
+    })
+}
+
+/// The kinds that are told as errors.
+fn promoted(alloc: Global, matches: &ArgMatches<'_>) -> Result<Promoted, WordsRefusal> {
+    let lists = matches.get_strs("werror").unwrap_or(&[]);
+    if lists.is_empty() {
+        return Ok(Promoted::Nothing);
+    }
+    let mut kinds = List::new(alloc);
+    for list in lists {
+        if list.as_bytes() == EVERY_KIND.as_bytes() {
+            return Ok(Promoted::All);
+        }
+        add_kinds(alloc, &mut kinds, list.as_bytes())?;
+    }
+    Ok(Promoted::Kinds(kinds))
+}
+
+/// Adds the kinds of a list, whose names are parted by commas.
+fn add_kinds(alloc: Global, kinds: &mut List<About>, list: &[u8]) -> Result<(), WordsRefusal> {
+    for name in list.split(|byte| *byte == b',') {
+        match about_of(name) {
+            Some(About::Error(_)) | None => {
+                return Err(WordsRefusal::UnknownKind(Text::of(alloc, name)?));
+            }
+            Some(kind) => kinds.push(kind)?,
+        }
+    }
+    Ok(())
 }
 
 /// The words that are allowed.

@@ -6,15 +6,15 @@ ghost use Rattle.rc_import.specs.Answers.{is_read_fault};
 ghost use Rattle.rc_lint.specs.Code.Judged.{told_by};
 ghost use Rattle.rc_lint.specs.Code.Sources.{IsLater};
 ghost use Rattle.rc_lint.specs.Excused.{errors_among};
-ghost use Rattle.rc_lint.specs.Findings.{errors_of};
+ghost use Rattle.lint_findings.specs.Findings.{diagnostics_of};
 ghost use Rattle.rc_lint.specs.Told.{IsTold, Told};
 
-use crate::finding::{About, Finding, WarningKind};
 use crate::message::Teller;
 use crate::request::Request;
 use crate::source::{Source, Sources};
 use init_base::{Files, List, NoMemory, Text};
 use init_machine::Diagnostic;
+use lint_findings::{About, Finding, WarningKind};
 use rc_import::LoadRefusal;
 use std::alloc::Global;
 
@@ -26,21 +26,23 @@ fn tell(
     source: &Source,
     diagnostic: &Diagnostic,
 ) -> Result<(), NoMemory>
-    ensures { OnOk result (errors_of findings.new ≡ errors_of findings.old ++ told_by source.now diagnostic.now) }
+    ensures { OnOk result (diagnostics_of findings.new ≡ diagnostics_of findings.old ++ told_by source.now diagnostic.now) }
 {
     let is_excused = source.is_excused(diagnostic);
     if is_excused && !request.warns {
         return Ok(());
     }
-    let (about, message) = if is_excused {
+    let (about, message, other) = if is_excused {
         (
             About::Warning(WarningKind::NotModelled),
             teller.not_modelled(source, diagnostic)?,
+            None,
         )
     } else {
         (
             About::Error(diagnostic.kind),
             teller.error(source, diagnostic)?,
+            teller.other(source, diagnostic)?,
         )
     };
     findings.push(Finding {
@@ -48,6 +50,7 @@ fn tell(
         line: diagnostic.line,
         about,
         message,
+        other,
     })
 }
 
@@ -66,7 +69,7 @@ pub fn tell_all<F: Files>(
     teller: &mut Teller<'_>,
     diagnostics: &[Diagnostic],
 ) -> Result<Judged, LoadRefusal>
-    ensures told { (told : Told) → IsTold (F.tree files.old) told → IfOk result (λ judged. errors_of judged.findings ≡ errors_among request.now.allowed told diagnostics.now) }
+    ensures told { (told : Told) → IsTold (F.tree files.old) told → IfOk result (λ judged. diagnostics_of judged.findings ≡ errors_among request.now.allowed told diagnostics.now) }
     ensures kind { IfErr result IsLater }
     ensures tree { F.tree files.new ≡ F.tree files.old }
     ensures cause { Counted (is_read_fault result) (F.fault_count files.old) (F.fault_count files.new) }

@@ -6,7 +6,6 @@
 
 mod command_line;
 mod excuse;
-mod finding;
 mod judge;
 mod law;
 mod lines;
@@ -14,36 +13,38 @@ mod loading;
 mod message;
 mod not_modelled;
 mod note;
-mod page;
 mod quotes;
 mod request;
+mod sending;
 mod source;
 mod status;
 mod telling;
 mod top;
 mod watched;
 
-use command_line::{WordsRefusal, request_of, words_of};
-use init_base::{Fault, NoMemory, StdFiles, StdSink, Text};
+use command_line::{Asked, WordsRefusal, asked_by, words_of};
+use init_base::{Fault, NoMemory, StdFiles, StdKeeper, StdSink, StdSource, Text};
+use lint_baseline::{Baseline, BaselineRefusal, load};
 use rc_import::LoadRefusal;
 use request::Request;
 use status::Status;
+use std::fs;
 use std::process::ExitCode;
-use telling::tell;
-use top::lint;
+use telling::{tell, tell_baseline, tell_no_file, tell_unknown_format, tell_unknown_kind};
+use top::{keep_known, lint};
 use watched::Watched;
 
 /// The exit status where the words are wrong, or there is no report.
 const REFUSED: u8 = 2;
 
-/// What the system said where the status comes of it.
+/// What the system said where the status comes of it, by what it said last of the output and of the files.
 fn fault_behind<'a>(
     status: &Status,
     files: &'a StdFiles<'_, HostRuntime>,
-    out: &'a StdSink<'_, HostRuntime>,
+    out: Option<&'a Fault>,
 ) -> Option<&'a Fault> {
     match status {
-        Status::WriteFault => out.last_fault(),
+        Status::WriteFault => out,
         Status::Refused(LoadRefusal::NoInit | LoadRefusal::ReadFault) => files.last_fault(),
         Status::Clean | Status::Faulty | Status::Refused(_) => None,
     }
@@ -55,9 +56,68 @@ fn report(rt: &HostRuntime, request: &Request, root: &Text) -> Result<u8, NoMemo
     let mut files = Watched::new(alloc, StdFiles::at(rt, alloc, root)?, request.warns);
     let mut out = StdSink::stdout(rt);
     let status = lint(alloc, request, &mut files, &mut out);
-    let fault = fault_behind(&status, &files.files, &out);
+    let fault = fault_behind(&status, &files.files, out.last_fault());
     let _ = tell(rt, &status, fault);
     Ok(status.code())
+}
+
+/// Whether something stands at a path that isn't a plain file, as a folder or a device. A new file mustn't take its place.
+fn is_no_file(rt: &HostRuntime, path: &Text) -> bool {
+    let Ok(name) = std::str::from_utf8(path.bytes()) else {
+        return false;
+    };
+    match fs::metadata(rt, name) {
+        Ok(found) => !found.is_file(),
+        Err(_) => false,
+    }
+}
+
+/// Writes the findings to a file that knows them.
+fn write_known(
+    rt: &HostRuntime,
+    request: &Request,
+    root: &Text,
+    path: &Text,
+) -> Result<u8, NoMemory> {
+    if is_no_file(rt, path) {
+        let _ = tell_no_file(rt, path);
+        return Ok(REFUSED);
+    }
+    let alloc = rt.alloc();
+    let mut files = Watched::new(alloc, StdFiles::at(rt, alloc, root)?, request.warns);
+    let mut keeper = StdKeeper::at(rt, alloc, path)?;
+    let status = keep_known(alloc, request, &mut files, &mut keeper);
+    let fault = fault_behind(&status, &files.files, keeper.last_fault());
+    let _ = tell(rt, &status, fault);
+    Ok(status.code())
+}
+
+/// The findings that a file knows, where it is one. Else it is said why not.
+fn known_by(rt: &HostRuntime, path: &Text) -> Result<Option<Baseline>, NoMemory> {
+    let alloc = rt.alloc();
+    let mut source = StdSource::at(rt, alloc, path)?;
+    match load(alloc, &mut source) {
+        Ok(baseline) => Ok(Some(baseline)),
+        Err(BaselineRefusal::NoMemory) => Err(NoMemory),
+        Err(refusal) => {
+            let _ = tell_baseline(rt, path, refusal, source.last_fault());
+            Ok(None)
+        }
+    }
+}
+
+/// Does what is asked for.
+fn answer_asked(rt: &HostRuntime, mut asked: Asked) -> Result<u8, NoMemory> {
+    if let Some(path) = &asked.known {
+        match known_by(rt, path)? {
+            Some(baseline) => asked.request.baseline = baseline,
+            None => return Ok(REFUSED),
+        }
+    }
+    match &asked.kept {
+        Some(path) => write_known(rt, &asked.request, &asked.root, path),
+        None => report(rt, &asked.request, &asked.root),
+    }
 }
 
 /// Says why there is no request, or writes help or the version.
@@ -75,6 +135,18 @@ fn answer(rt: &HostRuntime, refusal: WordsRefusal) -> Result<u8, NoMemory> {
             let _ = eprintln!(rt; "rc-lint: ROOT is empty");
             Ok(REFUSED)
         }
+        WordsRefusal::EmptyFile => {
+            let _ = eprintln!(rt; "rc-lint: FILE is empty");
+            Ok(REFUSED)
+        }
+        WordsRefusal::UnknownKind(name) => {
+            let _ = tell_unknown_kind(rt, &name);
+            Ok(REFUSED)
+        }
+        WordsRefusal::UnknownFormat(name) => {
+            let _ = tell_unknown_format(rt, &name);
+            Ok(REFUSED)
+        }
         WordsRefusal::NoMemory => Err(NoMemory),
     }
 }
@@ -85,8 +157,8 @@ fn run(rt: &HostRuntime) -> Result<u8, NoMemory> {
         let _ = eprintln!(rt; "rc-lint: a word isn't UTF-8");
         return Ok(REFUSED);
     };
-    match request_of(alloc, words.as_slice()) {
-        Ok((request, root)) => report(rt, &request, &root),
+    match asked_by(alloc, words.as_slice()) {
+        Ok(asked) => answer_asked(rt, asked),
         Err(refusal) => answer(rt, refusal),
     }
 }

@@ -13,6 +13,7 @@ use crate::source::Source;
 use crate::watched::SeenFiles;
 use init_base::{NoMemory, Text};
 use init_machine::{Config, DiagKind, Diagnostic, ListStore, ServiceDef};
+use lint_findings::Place;
 use prop_rules::boot_view;
 use std::alloc::Global;
 pub use text::Message;
@@ -22,7 +23,6 @@ use text_index::TextIndex;
 #[derive(Drop)]
 pub struct Teller<'a> {
     alloc: Global,
-    root: &'a Text,
     services: &'a [ServiceDef],
     /// The names of the services, in the same order, once they were asked for.
     names: Option<TextIndex>,
@@ -36,13 +36,11 @@ pub struct Teller<'a> {
 impl<'a> Teller<'a> {
     pub fn new(
         alloc: Global,
-        root: &'a Text,
         config: &'a Config,
         seen: &'a SeenFiles,
     ) -> Result<Teller<'a>, NoMemory> {
         Ok(Teller {
             alloc,
-            root,
             services: config.services.items(),
             names: None,
             seen,
@@ -93,10 +91,7 @@ impl<'a> Teller<'a> {
             DiagKind::BadArity => word::bad_arity(alloc, part, words),
             DiagKind::BadOption => service::bad_option(alloc, words),
             DiagKind::BadService => service::bad_service(alloc, behind),
-            DiagKind::ServiceAgain => {
-                let name = first_word(behind);
-                service::service_again(alloc, self.root, name, self.declared(name)?)
-            }
+            DiagKind::ServiceAgain => { service::service_again(alloc, first_word(behind)) }
             DiagKind::BadImport => import::bad_import(alloc, behind),
             DiagKind::BadProp => self.bad_prop(diagnostic),
             DiagKind::NoFile | DiagKind::Loop | DiagKind::TooDeep | DiagKind::BadExpand => {
@@ -107,6 +102,25 @@ impl<'a> Teller<'a> {
                 import::nowhere(alloc, &mut self.view, diagnostic.kind, &path)
             }
         }
+    }
+
+    /// Where the message of a diagnostic leads to: a second service of a name to the one that stays.
+    pub fn other(
+        &mut self,
+        source: &Source,
+        diagnostic: &Diagnostic,
+    ) -> Result<Option<Place>, NoMemory> {
+        if diagnostic.kind != DiagKind::ServiceAgain {
+            return Ok(None);
+        }
+        let (words, _) = source.words_at(diagnostic.line);
+        let Some(service) = self.declared(first_word(arguments(words)))? else {
+            return Ok(None);
+        };
+        Ok(Some(Place {
+            file: service.file.share()?,
+            line: service.line,
+        }))
     }
 
     /// A line of a build file that sets no property.

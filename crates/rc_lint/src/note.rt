@@ -5,15 +5,15 @@ mod hint;
 mod reference;
 
 ghost use Rattle.std.specs.Prelude.{◌≡◌, [], OnOk};
-ghost use Rattle.rc_lint.specs.Findings.{errors_at, errors_of};
+ghost use Rattle.lint_findings.specs.Findings.{diagnostics_at, diagnostics_of};
 
-use crate::finding::{About, Finding, HintKind, WarningKind};
 use crate::source::Source;
 use crate::top::Read;
 use crate::watched::SeenFiles;
 use event::Sent;
 use init_base::{List, NoMemory, Text};
 use init_machine::{Command, Config};
+use lint_findings::{About, Finding, HintKind, WarningKind};
 use reference::Names;
 use std::alloc::Global;
 
@@ -26,7 +26,7 @@ pub enum NoteKind {
 
 impl NoteKind {
     fn about(self) -> About
-        ensures { errors_at [] 0 result ≡ [] }
+        ensures { diagnostics_at [] 0 result ≡ [] }
     {
         match self {
             NoteKind::Warning(kind) => About::Warning(kind),
@@ -126,13 +126,14 @@ fn notes_of(alloc: Global, tree: &Read, sources: &List<Source>) -> Result<Vec<No
 }
 
 fn add_note(findings: &mut List<Finding>, note: Note) -> Result<(), NoMemory>
-    ensures { OnOk result (errors_of findings.new ≡ errors_of findings.old) }
+    ensures { OnOk result (diagnostics_of findings.new ≡ diagnostics_of findings.old) }
 {
     findings.push(Finding {
         file: note.file,
         line: note.line,
         about: note.kind.about(),
         message: note.message,
+        other: None,
     })
 }
 
@@ -143,7 +144,7 @@ pub fn add_notes(
     tree: &Read,
     sources: &List<Source>,
 ) -> Result<(), NoMemory>
-    ensures { OnOk result (errors_of findings.new ≡ errors_of findings.old) }
+    ensures { OnOk result (diagnostics_of findings.new ≡ diagnostics_of findings.old) }
 {
     for note in notes_of(alloc, tree, sources)? {
         add_note(findings, note)?;

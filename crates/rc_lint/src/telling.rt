@@ -2,6 +2,7 @@
 
 use crate::status::Status;
 use init_base::{Fault, Text};
+use lint_baseline::BaselineRefusal;
 use rc_import::LoadRefusal;
 use std::io;
 use std::string::String;
@@ -33,6 +34,47 @@ fn tell_refusal(rt: &HostRuntime, refusal: &LoadRefusal, fault: Option<&Fault>) 
         LoadRefusal::TooMany { path, number } => tell_limit(rt, "too many files", path, *number),
         LoadRefusal::NoMemory => eprintln!(rt; "rc-lint: no memory"),
     }
+}
+
+/// A kind that can't be told as an error, and those that can.
+pub fn tell_unknown_kind(rt: &HostRuntime, name: &Text) -> io::Result<()> {
+    let name = String::from_utf8_lossy(rt.alloc(), name.bytes())?;
+    eprintln!(rt; "rc-lint: --werror: no kind of a warning or a hint: {name}")?;
+    eprintln!(rt;
+        "rc-lint: the kinds are all, NotModelled, NoService, NoClass, UnheardEvent, UnsentEvent, ByteOrderMark, SpannedLines and CapitalHeader"
+    )
+}
+
+/// A form that isn't known, and those that are.
+pub fn tell_unknown_format(rt: &HostRuntime, name: &Text) -> io::Result<()> {
+    let name = String::from_utf8_lossy(rt.alloc(), name.bytes())?;
+    eprintln!(rt; "rc-lint: --format takes gcc, json or sarif, and not {name}")
+}
+
+/// Why a file knows no findings, and the line that fits no baseline.
+pub fn tell_baseline(
+    rt: &HostRuntime,
+    path: &Text,
+    refusal: BaselineRefusal,
+    fault: Option<&Fault>,
+) -> io::Result<()> {
+    let name = String::from_utf8_lossy(rt.alloc(), path.bytes())?;
+    match refusal {
+        BaselineRefusal::BadLine { line } => {
+            eprintln!(rt; "rc-lint: {name}:{line}: no line of a baseline")
+        }
+        BaselineRefusal::TooLarge => {
+            eprintln!(rt; "rc-lint: {name}: more than 33554432 bytes are no baseline")
+        }
+        BaselineRefusal::ReadFault => tell_fault(rt, fault),
+        BaselineRefusal::NoMemory => eprintln!(rt; "rc-lint: no memory"),
+    }
+}
+
+/// A baseline isn't written in the place of what is no plain file.
+pub fn tell_no_file(rt: &HostRuntime, path: &Text) -> io::Result<()> {
+    let name = String::from_utf8_lossy(rt.alloc(), path.bytes())?;
+    eprintln!(rt; "rc-lint: {name}: not a plain file, so no baseline is written there")
 }
 
 /// The limit that a path passes.

@@ -3,24 +3,28 @@
 ghost use Rattle.std.specs.Prelude.{◌≡◌, ℕ, IfErr, IfOk};
 ghost use Rattle.init_base.specs.Faults.{Counted};
 ghost use Rattle.rc_import.specs.Answers.{is_read_fault};
-ghost use Rattle.rc_lint.specs.Code.Reported.{Finds, FindsErrors, IsRead, status_of as status_of_lem};
+ghost use Rattle.lint_findings.specs.Findings.{diagnostics_of, errors_in};
+ghost use Rattle.rc_lint.specs.Code.Reported.{Finds, IsRead, status_of as status_of_lem};
 ghost use Rattle.rc_lint.specs.Code.Sources.{IsLater};
 ghost use Rattle.rc_lint.specs.Excused.{errors_among};
-ghost use Rattle.rc_lint.specs.Findings.{errors_of};
-ghost use Rattle.rc_lint.specs.Says.{IsUnwritten, LintSays};
+ghost use Rattle.rc_lint.specs.Keeps.{IsUnkept, LintKeeps};
+ghost use Rattle.rc_lint.specs.Says.{IsUnwritten, LintSays, Tells};
 ghost use Rattle.rc_lint.specs.Status.{AreCounted};
 ghost use Rattle.rc_lint.specs.Told.{IsTold, Told};
+ghost use Rattle.rc_lint.specs.declared.request.Request.{Request as AnyRequest};
 
-use crate::finding::Finding;
 use crate::judge::{Judged, tell_all};
 use crate::loading::load;
 use crate::message::Teller;
 use crate::note::add_notes;
-use crate::page::{count_errors, page_of, send};
 use crate::request::Request;
+use crate::sending::send;
 use crate::status::Status;
 use crate::watched::{SeenFiles, Watched};
-use init_base::{Files, IoRefusal, List, Sink};
+use init_base::{Files, IoRefusal, Keeper, List, Sink};
+use lint_baseline::{keep, left};
+use lint_findings::{Finding, Promoted, count_errors};
+use lint_page::page_of;
 use rc_import::{LoadRefusal, Loaded};
 use std::alloc::Global;
 use std::mem::forget;
@@ -58,11 +62,11 @@ fn findings_of<F: Files>(
     files: &mut F,
     tree: &Read,
 ) -> Result<List<Finding>, LoadRefusal>
-    ensures told { (told : Told) → IsTold (F.tree files.old) told → IfOk result (λ findings. errors_of findings ≡ errors_among request.now.allowed told tree.now.loaded.diagnostics) }
+    ensures told { (told : Told) → IsTold (F.tree files.old) told → IfOk result (λ findings. diagnostics_of findings ≡ errors_among request.now.allowed told tree.now.loaded.diagnostics) }
     ensures kind { IfErr result IsLater }
     ensures cause { Counted (is_read_fault result) (F.fault_count files.old) (F.fault_count files.new) }
 {
-    let mut teller = Teller::new(alloc, &request.root, &tree.loaded.config, &tree.seen)?;
+    let mut teller = Teller::new(alloc, &tree.loaded.config, &tree.seen)?;
     let diagnostics = tree.loaded.diagnostics.items();
     let Judged {
         mut findings,
@@ -74,7 +78,7 @@ fn findings_of<F: Files>(
     Ok(findings)
 }
 
-/// Reads the tree, and tells what is wrong in it.
+/// Reads the tree, and tells what is wrong in it and isn't known.
 fn report_of<F: Files>(
     alloc: Global,
     request: &Request,
@@ -84,15 +88,16 @@ fn report_of<F: Files>(
     ensures cause { Counted (is_read_fault result) (F.fault_count files.old.files) (F.fault_count files.new.files) }
 {
     let tree = read_tree(alloc, files)?;
-    let findings = findings_of(alloc, request, &mut files.files, &tree)?;
+    let all = findings_of(alloc, request, &mut files.files, &tree)?;
+    let findings = left(alloc, &request.baseline, all)?;
     Ok(Report { findings, tree })
 }
 
 /// The status of a report that is written.
-fn status_of(findings: &List<Finding>) -> Status
-    ensures { result ≡ status_of_lem (errors_of findings.now) }
+fn status_of(promoted: &Promoted, findings: &[Finding]) -> Status
+    ensures { result ≡ status_of_lem (errors_in promoted.now findings.now) }
 {
-    if count_errors(findings.items()) == 0 {
+    if count_errors(promoted, findings) == 0 {
         Status::Clean
     } else {
         Status::Faulty
@@ -101,18 +106,19 @@ fn status_of(findings: &List<Finding>) -> Status
 
 /// Writes a report.
 fn write_report<K: Sink>(alloc: Global, request: &Request, report: &Report, out: &mut K) -> Status
-    ensures report { (told : Told) → FindsErrors request.now told report.now → LintSays request.now told (K.taken out.old) (K.taken out.new) result }
+    ensures report { (told : Told) → Tells request.now told report.now.findings → LintSays request.now told (K.taken out.old) (K.taken out.new) result }
     ensures faults { (files : ℕ) → AreCounted result
         (record { files = files; out = K.fault_count out.old }) (record { files = files; out = K.fault_count out.new }) }
     ensures unwritten { IsUnwritten (K.taken out.old) (K.taken out.new) result }
 {
     let files = report.tree.seen.files.len();
-    let page = match page_of(alloc, &request.root, &report.findings, files) {
+    let findings = report.findings.items();
+    let page = match page_of(alloc, &request.style, findings, files) {
         Ok(page) => page,
         Err(_) => return Status::Refused(LoadRefusal::NoMemory),
     };
     match send(alloc, out, page.as_slice()) {
-        Ok(()) => status_of(&report.findings),
+        Ok(()) => status_of(&request.style.promoted, findings),
         Err(IoRefusal::Failed) => Status::WriteFault,
         Err(IoRefusal::NoMemory) => Status::Refused(LoadRefusal::NoMemory),
     }
@@ -145,6 +151,50 @@ pub fn lint<F: Files, K: Sink>(
         Ok(report) => {
             let status = write_report(alloc, request, &report, out);
             // The program ends behind this, and the system takes its memory at once.
+            forget(report);
+            status
+        }
+        Err(refusal) => Status::Refused(refusal),
+    }
+}
+
+/// The status where the baseline of some findings is put into a keeper.
+fn keep_report<K: Keeper>(alloc: Global, report: &Report, keeper: &mut K) -> Status
+    ensures kept { (request : AnyRequest) (told : Told) → Tells request told report.now.findings → LintKeeps request told (K.held keeper.old) (K.held keeper.new) result }
+    ensures faults { (files : ℕ) → AreCounted result
+        (record { files = files; out = K.fault_count keeper.old }) (record { files = files; out = K.fault_count keeper.new }) }
+    ensures unkept { IsUnkept (K.held keeper.old) (K.held keeper.new) result }
+{
+    match keep(alloc, report.findings.items(), keeper) {
+        Ok(()) => Status::Clean,
+        Err(IoRefusal::Failed) => Status::WriteFault,
+        Err(IoRefusal::NoMemory) => Status::Refused(LoadRefusal::NoMemory),
+    }
+}
+
+/// Reads the tree as `lint` does, and puts the baseline of what is told of it into a keeper. Nothing is put there where the tree
+/// can't be read.
+pub fn keep_known<F: Files, K: Keeper>(
+    alloc: Global,
+    request: &Request,
+    files: &mut Watched<F>,
+    keeper: &mut K,
+) -> Status
+    // What the status says of a told tree, and what is held then.
+    ensures kept { (told : Told) → IsTold (F.tree files.old.files) told → LintKeeps request.now told (K.held keeper.old) (K.held keeper.new) result }
+
+    // A fault comes only where the count of its object rose, and all other counts are as before.
+    ensures faults { AreCounted result
+        (record { files = F.fault_count files.old.files; out = K.fault_count keeper.old })
+        (record { files = F.fault_count files.new.files; out = K.fault_count keeper.new }) }
+
+    // A refusal leaves what is held, also where nothing is told.
+    ensures unkept { IsUnkept (K.held keeper.old) (K.held keeper.new) result }
+{
+    match report_of(alloc, request, files) {
+        Ok(report) => {
+            let status = keep_report(alloc, &report, keeper);
+            // As in `lint`.
             forget(report);
             status
         }

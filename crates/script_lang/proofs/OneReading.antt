@@ -33,6 +33,7 @@ within_no_limit bytes limit.Files number within large = large
 within_no_limit bytes limit.Names number within large = large
 within_no_limit bytes limit.RcBytes number within large = large
 within_no_limit bytes limit.StoreBytes number within large = large
+within_no_limit bytes limit.TraceBytes number within large = large
 
 -- the limit that the bytes pass, and the number
 
@@ -59,6 +60,7 @@ which_of bytes limit.Files number large = absurd large
 which_of bytes limit.Names number large = absurd large
 which_of bytes limit.RcBytes number large = absurd large
 which_of bytes limit.StoreBytes number large = absurd large
+which_of bytes limit.TraceBytes number large = absurd large
 
 same_limit : (bytes : List ℕ) (a b : Which) (number count : ℕ) → IsTooLarge bytes (limit_of a) number → IsTooLarge bytes (limit_of b) count
     → (a ≡ b) × (number ≡ count)

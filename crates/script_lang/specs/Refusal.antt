@@ -20,6 +20,7 @@ IsTooLarge bytes limit.Files number = ⊥
 IsTooLarge bytes limit.Names number = ⊥
 IsTooLarge bytes limit.RcBytes number = ⊥
 IsTooLarge bytes limit.StoreBytes number = ⊥
+IsTooLarge bytes limit.TraceBytes number = ⊥
 
 -- the bytes are within all limits, and this line is the first bad one
 pub record IsBadAt (bytes : List ℕ) (line : ℕ) : Type 0 where

@@ -3,7 +3,6 @@
 use super::text::Message;
 use crate::lines::{arguments, first_word};
 use init_base::{NoMemory, PropName, Text};
-use init_machine::ServiceDef;
 use std::alloc::Global;
 
 /// The most bytes of a service's name.
@@ -102,22 +101,10 @@ fn bad_name_or_path(alloc: Global, name: &[u8], path: &Text) -> Result<Text, NoM
     Message::of(alloc, b"a service of a bad form")?.end()
 }
 
-/// A second service of a name, and the one that is declared too.
-pub fn service_again(
-    alloc: Global,
-    root: &Text,
-    name: &[u8],
-    declared: Option<&ServiceDef>,
-) -> Result<Text, NoMemory> {
-    let message = Message::of(alloc, b"service ")?.quote(name)?;
-    let message = match declared {
-        Some(service) => message
-            .say(b" is declared at ")?
-            .say(root.bytes())?
-            .say(service.file.bytes())?
-            .say(b":")?
-            .number(u64::from(service.line))?,
-        None => message.say(b" is declared before")?,
-    };
-    message.say(b", and this one has no \"override\"")?.end()
+/// A second service of a name.
+pub fn service_again(alloc: Global, name: &[u8]) -> Result<Text, NoMemory> {
+    Message::of(alloc, b"service ")?
+        .quote(name)?
+        .say(b" is declared before, and this one has no \"override\"")?
+        .end()
 }

@@ -1,10 +1,10 @@
 //! Events that no action waits for, and actions on events that nothing triggers.
 
 use super::{NoteKind, Notes};
-use crate::finding::WarningKind;
 use crate::message::Message;
 use init_base::{NoMemory, Text};
 use init_machine::{Action, Command, Config, Word};
+use lint_findings::WarningKind;
 use std::alloc::Global;
 use text_index::TextIndex;
 

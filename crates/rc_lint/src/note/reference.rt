@@ -1,10 +1,10 @@
 //! Commands that name a service or a class that no file declares.
 
 use super::{NoteKind, Notes};
-use crate::finding::WarningKind;
 use crate::message::Message;
 use init_base::{NoMemory, Text};
 use init_machine::{Command, Config, Word};
+use lint_findings::WarningKind;
 use std::alloc::Global;
 use text_index::TextIndex;
 

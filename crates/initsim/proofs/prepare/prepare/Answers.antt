@@ -1,7 +1,11 @@
+use Rattle.std.specs.Prelude.{IfErr}
+use Rattle.initsim.specs.Counts.{counts_of}
+use Rattle.initsim.specs.Endings.{IsRunStatus}
+use Rattle.initsim.specs.Stops.{status_of}
 use Rattle.initsim.specs.Prepared.{ArePrepared, GivesSaved, GivesSetup, ScriptOfJob}
 use Rattle.init_words.specs.declared.form.Form.TheVariants.{Run}
 use Rattle.initsim.proofs.Prepared.{setup_of_job, store_stop_counts, tree_fits}
-use Rattle.initsim.proofs.Says.{err_is, if_told, store_stop_script, store_stop_tree, told}
+use Rattle.initsim.proofs.Says.{err_is, if_told, script_stop_of_run, store_stop_of_run, store_stop_script, store_stop_tree, told, tree_stop_of_run}
 use Rattle.initsim.proofs.WellFormed.{job_is_fit}
 use Rattle.initsim.proofs.prepare.prepare.Goals as goal
 
@@ -24,12 +28,27 @@ returns-in_err-saved-clause-store g c =
     (told _ _ held is c.in_err-saved.ensures.store))
 
 pub returns-in_err-saved-clause-counts : goal.returns-in_err-saved-clause-counts
-returns-in_err-saved-clause-counts g c =
+returns-in_err-saved-clause-counts g c = λ trace out.
     err_is (λ r. ArePrepared r
-    (record { files = g.F.Files.fault_count c.args.files.now; script = g.S.Source.fault_count c.args.source.now; keeper = g.P.Keeper.fault_count c.args.keeper.now; out = 0 })
-    (record { files = g.F.Files.fault_count c.read_tree.new.files; script = g.S.Source.fault_count c.read_script.new.source; keeper = g.P.Keeper.fault_count c.read_store.new.keeper; out = 0 }))
+    (counts_of (g.F.Files.fault_count c.args.files.now) (g.S.Source.fault_count c.args.source.now) trace (g.P.Keeper.fault_count c.args.keeper.now) out)
+    (counts_of (g.F.Files.fault_count c.read_tree.new.files) (g.S.Source.fault_count c.read_script.new.source) trace (g.P.Keeper.fault_count c.read_store.new.keeper) out))
     _ _ c.from_residual-in_err-saved.ensures
-    (store_stop_counts c.in_err-saved.field-0.0 _ _ _ _ _ _ 0 c.in_ok-parts.ensures.cause c.in_ok-script.ensures.cause c.in_err-saved.ensures.cause)
+    (store_stop_counts c.in_err-saved.field-0.0 _ _ _ _ trace _ _ out c.in_ok-parts.ensures.cause c.in_ok-script.ensures.cause c.in_err-saved.ensures.cause)
+
+pub returns-in_err-script-clause-kind : goal.returns-in_err-script-clause-kind
+returns-in_err-script-clause-kind g c =
+    err_is (λ r. IfErr r (λ why. IsRunStatus (status_of why))) _ _ c.from_residual.ensures
+    (script_stop_of_run c.in_err-script.field-0.0 c.in_err-script.ensures.early)
+
+pub returns-in_err-parts-clause-kind : goal.returns-in_err-parts-clause-kind
+returns-in_err-parts-clause-kind g c =
+    err_is (λ r. IfErr r (λ why. IsRunStatus (status_of why))) _ _ c.from_residual-in_err-parts.ensures
+    (tree_stop_of_run c.in_err-parts.field-0.0 c.in_err-parts.ensures.kind)
+
+pub returns-in_err-saved-clause-kind : goal.returns-in_err-saved-clause-kind
+returns-in_err-saved-clause-kind g c =
+    err_is (λ r. IfErr r (λ why. IsRunStatus (status_of why))) _ _ c.from_residual-in_err-saved.ensures
+    (store_stop_of_run c.in_err-saved.field-0.0 c.in_err-saved.ensures.late)
 
 pub returns-clause-tree : goal.returns-clause-tree
 returns-clause-tree g c = λ world is.

@@ -1,9 +1,9 @@
-use Rattle.std.proofs.Common.{◌∙◌, Ok, ap}
+use Rattle.std.proofs.Common.{Ok, ap}
 use Rattle.init_driver.specs.Keeper.{seen_by}
 use Rattle.initsim.specs.Counts.{Counts}
 use Rattle.initsim.specs.Prepared.{GivesSaved, ScriptOfJob, course_of}
 use Rattle.initsim.proofs.Ends.{performed_ends, stop_ends}
-use Rattle.initsim.proofs.Performed.{course_is, performed_as_before, performed_tree}
+use Rattle.initsim.proofs.Performed.{counts_after, course_is, performed_as_before, performed_status, performed_tree}
 use Rattle.initsim.proofs.Says.{told as told_of}
 use Rattle.initsim.proofs.top.run_script.Goals as goal
 
@@ -14,7 +14,7 @@ returns-in-Ok-clause-tree g c = λ world is.
     c.perform.result world c.perform.ensures.leaves (c.in-Ok.ensures.tree world is)
 
 pub returns-in-Ok-clause-ends : goal.returns-in-Ok-clause-ends
-returns-in-Ok-clause-ends g c = λ told tells.
+returns-in-Ok-clause-ends g c = λ trace told tells.
     let seen = seen_by g.P.Keeper.held g.P.Keeper.TellsCrash g.P.Keeper.moment g.P.Keeper.MayLeave in
     let script : ScriptOfJob told.script (g.S.Source.left c.prepare.new.source) (Ok c.in-Ok.job) = told_of _ _ told.script tells.script_is c.in-Ok.ensures.script in
     let store : GivesSaved told.held (Ok c.in-Ok.job) = told_of _ _ told.held tells.held_is c.in-Ok.ensures.store in
@@ -28,19 +28,36 @@ returns-in-Ok-clause-unwritten g c =
     let seen = seen_by g.P.Keeper.held g.P.Keeper.TellsCrash g.P.Keeper.moment g.P.Keeper.MayLeave in
     performed_as_before (course_of c.in-Ok.job) (g.K.Sink.taken c.args.out.now) (g.K.Sink.taken c.perform.new.out) (seen c.prepare.new.keeper) (seen c.perform.new.keeper)
     c.perform.result _ (g.P.Keeper.fault_count c.prepare.new.keeper) _ (g.K.Sink.fault_count c.args.out.now) (g.K.Sink.fault_count c.perform.new.out) _ _ c.perform.ensures.leaves
-    (ap (λ (counts : Counts). counts.keeper) c.in-Ok.ensures.counts) (c.perform.ensures.counts 0 0)
+    (ap (λ (counts : Counts). counts.keeper) (c.in-Ok.ensures.counts 0 0)) (c.perform.ensures.counts 0 0 0)
 
 pub returns-in-Ok-clause-unkept : goal.returns-in-Ok-clause-unkept
 returns-in-Ok-clause-unkept g c =
     let seen = seen_by g.P.Keeper.held g.P.Keeper.TellsCrash g.P.Keeper.moment g.P.Keeper.MayLeave in
     performed_as_before (course_of c.in-Ok.job) (g.K.Sink.taken c.args.out.now) (g.K.Sink.taken c.perform.new.out) (seen c.prepare.new.keeper) (seen c.perform.new.keeper)
     c.perform.result _ (g.P.Keeper.fault_count c.prepare.new.keeper) _ (g.K.Sink.fault_count c.args.out.now) (g.K.Sink.fault_count c.perform.new.out) _ _ c.perform.ensures.leaves
-    (ap (λ (counts : Counts). counts.keeper) c.in-Ok.ensures.counts) (c.perform.ensures.counts 0 0)
+    (ap (λ (counts : Counts). counts.keeper) (c.in-Ok.ensures.counts 0 0)) (c.perform.ensures.counts 0 0 0)
 
 pub returns-in-Err-clause-ends : goal.returns-in-Err-clause-ends
-returns-in-Err-clause-ends g c = λ told tells.
+returns-in-Err-clause-ends g c = λ trace told tells.
     let seen = seen_by g.P.Keeper.held g.P.Keeper.TellsCrash g.P.Keeper.moment g.P.Keeper.MayLeave in
     rw c.status.ensures
     (stop_ends c.in-Err.stop told (g.S.Source.left c.prepare.new.source) (g.K.Sink.taken c.args.out.now) (seen c.args.keeper.now) (seen c.prepare.new.keeper)
-    (told_of _ _ told.script tells.script_is c.in-Err.ensures.script) (c.in-Err.ensures.tree told.world tells.world_is) (told_of _ _ told.held tells.held_is c.in-Err.ensures.store)
+    c.in-Err.ensures.kind (told_of _ _ told.script tells.script_is c.in-Err.ensures.script) (c.in-Err.ensures.tree told.world tells.world_is) (told_of _ _ told.held tells.held_is c.in-Err.ensures.store)
     c.in-Err.ensures.asked.0 c.in-Err.ensures.asked.1)
+
+pub returns-in-Ok-clause-formed : goal.returns-in-Ok-clause-formed
+returns-in-Ok-clause-formed g c =
+    let seen = seen_by g.P.Keeper.held g.P.Keeper.TellsCrash g.P.Keeper.moment g.P.Keeper.MayLeave in
+    performed_status (course_of c.in-Ok.job) (g.K.Sink.taken c.args.out.now) (g.K.Sink.taken c.perform.new.out) (seen c.prepare.new.keeper) (seen c.perform.new.keeper)
+    c.perform.result c.perform.ensures.leaves
+
+pub returns-in-Ok-clause-counts : goal.returns-in-Ok-clause-counts
+returns-in-Ok-clause-counts g c = λ trace.
+    counts_after c.perform.result (g.F.Files.fault_count c.args.files.now) (g.F.Files.fault_count c.prepare.new.files)
+    (g.S.Source.fault_count c.args.script.now) (g.S.Source.fault_count c.prepare.new.source) trace
+    (g.P.Keeper.fault_count c.args.keeper.now) (g.P.Keeper.fault_count c.prepare.new.keeper) (g.P.Keeper.fault_count c.perform.new.keeper)
+    (g.K.Sink.fault_count c.args.out.now) (g.K.Sink.fault_count c.perform.new.out)
+    (c.in-Ok.ensures.counts 0 0) c.perform.ensures.counts
+
+pub returns-in-Err-clause-formed : goal.returns-in-Err-clause-formed
+returns-in-Err-clause-formed g c = rw c.status.ensures c.in-Err.ensures.kind

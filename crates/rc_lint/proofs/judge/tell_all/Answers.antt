@@ -1,5 +1,5 @@
 use Rattle.std.proofs.Common.{◌∙◌, List, ap, sym, subst, get_or}
-use Rattle.rc_lint.specs.Findings.{errors_of}
+use Rattle.lint_findings.specs.Findings.{diagnostics_of}
 use Rattle.rc_lint.specs.Told.{IsTold}
 use Rattle.rc_lint.specs.declared.source.Source.{Source}
 use Rattle.rc_lint.proofs.Judged.{told_at, told_all}
@@ -9,7 +9,7 @@ pub loop-diagnostic-preserved : goal.loop-diagnostic-preserved
 loop-diagnostic-preserved g c = record {
   told = λ told is.
       told_at c.args.request.now.allowed told c.place_of.new.self.sources c.in_ok-place.place c.index-items-place.result c.diagnostic-item.result
-      c.args.diagnostics.now (errors_of c.loop-diagnostic.findings) (errors_of c.tell.new.findings) _ c.loop-diagnostic.diagnostic-index
+      c.args.diagnostics.now (diagnostics_of c.loop-diagnostic.findings) (diagnostics_of c.tell.new.findings) _ c.loop-diagnostic.diagnostic-index
       c.loop-diagnostic-test.true c.diagnostic-item.is
       (c.in_ok-place.ensures.told told (subst (λ t. IsTold t told) (sym c.loop-diagnostic.invariant.tree) is) (c.loop-diagnostic.invariant.sources told is))
       c.in_ok-place.ensures.place
@@ -22,5 +22,5 @@ loop-diagnostic-preserved g c = record {
 
 pub returns-clause-told : goal.returns-clause-told
 returns-clause-told g c = λ told is.
-    told_all c.args.request.now.allowed told c.args.diagnostics.now (errors_of c.loop-diagnostic.findings) c.loop-diagnostic.diagnostic-index
+    told_all c.args.request.now.allowed told c.args.diagnostics.now (diagnostics_of c.loop-diagnostic.findings) c.loop-diagnostic.diagnostic-index
     c.loop-diagnostic-test.false (c.loop-diagnostic.invariant.told told is)

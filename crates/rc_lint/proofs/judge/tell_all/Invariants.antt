@@ -1,7 +1,7 @@
 use Rattle.std.proofs.Common.{◌≡◌, ◌++◌, drop}
 use Rattle.rc_lint.specs.Code.Sources.{AreSourcesOf}
 use Rattle.rc_lint.specs.Excused.{errors_among}
-use Rattle.rc_lint.specs.Findings.{errors_of}
+use Rattle.lint_findings.specs.Findings.{diagnostics_of}
 use Rattle.rc_lint.specs.Told.{IsTold, Told}
 use Rattle.rc_lint.proofs.judge.tell_all.Given as goal
 
@@ -9,7 +9,7 @@ use Rattle.rc_lint.proofs.judge.tell_all.Given as goal
 abbrev pub invariant-loop-diagnostic : goal.invariant-loop-diagnostic
 invariant-loop-diagnostic g l = record {
   told : (told : Told) → IsTold (g.F.Files.tree l.initial.files) told →
-      errors_of l.findings ++ errors_among l.request.allowed told (drop l.diagnostic-index l.diagnostics)
+      diagnostics_of l.findings ++ errors_among l.request.allowed told (drop l.diagnostic-index l.diagnostics)
       ≡ errors_among l.request.allowed told l.diagnostics;
   sources : (told : Told) → IsTold (g.F.Files.tree l.initial.files) told → AreSourcesOf l.request.allowed told l.sources.sources;
   tree : g.F.Files.tree l.files ≡ g.F.Files.tree l.initial.files;

@@ -3,7 +3,7 @@ use Rattle.init_base.specs.Faults.{Counted}
 use Rattle.rc_import.specs.Answers.{is_read_fault}
 use Rattle.rc_import.specs.declared.loaded.LoadRefusal.TheVariants.{NoMemory}
 use Rattle.rc_lint.specs.Excused.{errors_among}
-use Rattle.rc_lint.specs.Findings.{errors_of}
+use Rattle.lint_findings.specs.Findings.{diagnostics_of}
 use Rattle.rc_lint.proofs.Outcomes.{err_is}
 use Rattle.rc_lint.proofs.top.findings_of.Goals as goal
 use Rattle.rc_lint.proofs.top.findings_of.Goals.{then-request+in_ok-add_notes, else-request}
@@ -15,8 +15,8 @@ returns-in_err-add_notes-clause-cause g c =
 
 pub returns-clause-told : goal.returns-clause-told
 returns-clause-told g c = λ told is.
-    let same : errors_of c.if-request.findings ≡ errors_of c.in_ok-findings.field-0.findings = elim c.if-request.branch [
-      | then-request+in_ok-add_notes w ↦ ap errors_of w.findings-is ∙ w.in_ok-add_notes.ensures
-      | else-request w ↦ ap errors_of w.findings-is
+    let same : diagnostics_of c.if-request.findings ≡ diagnostics_of c.in_ok-findings.field-0.findings = elim c.if-request.branch [
+      | then-request+in_ok-add_notes w ↦ ap diagnostics_of w.findings-is ∙ w.in_ok-add_notes.ensures
+      | else-request w ↦ ap diagnostics_of w.findings-is
     ] in
     same ∙ c.in_ok-findings.ensures.told told is ∙ ap (errors_among c.args.request.now.allowed told) c.items-diagnostics.ensures

@@ -1,0 +1,201 @@
+//! The second line behind a refusal: what is wrong, and where. What was read is read anew for it; where that can't be, or something
+//! else stands there by then, nothing is printed.
+
+ghost use Rattle.std.specs.Prelude.{◌≤◌, IfSome, length};
+
+use crate::status::Status;
+use crate::texts::read_build_files;
+use init_base::{
+    Files, Keeper, List, NoMemory, ReadRefusal, StdFiles, StdKeeper, StdSource, Text, read_all,
+};
+use init_machine::Limit;
+use prop_rules::boot_view;
+use rc_import::LoadRefusal;
+use refusal_causes::{
+    ContextCause, ShownPath, allow_cause, context_cause, script_cause, store_cause,
+};
+use std::{fmt, fs};
+
+const MOST_SCRIPT_BYTES: usize = 16_777_216;
+
+const MOST_FILE_BYTES: usize = 1_048_576;
+
+const MOST_STORE_BYTES: usize = 33_554_432;
+
+const CONTEXTS: &[u8] = b"/property_contexts";
+
+const ALLOW: &[u8] = b"/property_allow";
+
+const SYSTEM_BUILD: &[u8] = b"/system/build.prop";
+
+const VENDOR_BUILD: &[u8] = b"/vendor/build.prop";
+
+const STORE: &[u8] = b"/data/property/persist.txt";
+
+/// What is said of a file that passes the limit of its bytes.
+const MOST_BYTES: &str = "has more than 1048576 bytes";
+
+/// What an absent contexts file counts as.
+const DEFAULT_CONTEXTS: &[u8] = b"* default_prop";
+
+/// Prints what is wrong where the status is a refusal of what was read.
+pub fn tell_cause(rt: &HostRuntime, status: Status, words: &List<Text>) {
+    if let Some(line) = cause_line(rt, status, words) {
+        let _ = eprintln!(rt; "initsim: {line}");
+    }
+}
+
+fn cause_line(rt: &HostRuntime, status: Status, words: &List<Text>) -> Option<String> {
+    match status {
+        Status::BadScript { line } => bad_script(rt, words.at(2)?, line),
+        Status::BadPolicy { allow: false, line } => bad_contexts(rt, words.at(1)?, line),
+        Status::BadPolicy { allow: true, line } => bad_allow(rt, words.at(1)?, line),
+        Status::BadStore { line } => bad_store(rt, words.at(1)?, line),
+        Status::TooLarge { limit, number } => too_large(rt, words, limit, number),
+        _ => None,
+    }
+}
+
+fn bad_script(rt: &HostRuntime, path: &Text, line: u32) -> Option<String> {
+    let text = script_at(rt, path)?;
+    let cause = script_cause(rt.alloc(), text.bytes(), line).ok()??;
+    said(rt, path, line, &cause)
+}
+
+fn bad_contexts(rt: &HostRuntime, root: &Text, line: u32) -> Option<String> {
+    let text = file_or(rt, root, CONTEXTS, DEFAULT_CONTEXTS)?;
+    let cause = context_cause(rt.alloc(), text.bytes(), line).ok()??;
+    let path = below(rt, root, CONTEXTS)?;
+    if let ContextCause::NoDefault = cause {
+        return format!(in rt.alloc(); "{}: {cause}", ShownPath(path.bytes())).ok();
+    }
+    said(rt, &path, line, &cause)
+}
+
+fn bad_allow(rt: &HostRuntime, root: &Text, line: u32) -> Option<String> {
+    let contexts = file_or(rt, root, CONTEXTS, DEFAULT_CONTEXTS)?;
+    let text = file_or(rt, root, ALLOW, b"")?;
+    let cause = allow_cause(rt.alloc(), contexts.bytes(), text.bytes(), line).ok()??;
+    said(rt, &below(rt, root, ALLOW)?, line, &cause)
+}
+
+fn bad_store(rt: &HostRuntime, root: &Text, line: u32) -> Option<String> {
+    let path = Text::of(rt.alloc(), STORE).ok()?;
+    let mut keeper = StdKeeper::below(rt, root, &path).ok()?;
+    let text = keeper.load(rt.alloc(), MOST_STORE_BYTES).ok()?;
+    let cause = store_cause(rt.alloc(), text.bytes(), line).ok()??;
+    said(rt, &below(rt, root, STORE)?, line, &cause)
+}
+
+/// What is wrong in a line of a file.
+fn said<C: fmt::Display>(rt: &HostRuntime, path: &Text, line: u32, cause: &C) -> Option<String> {
+    format!(in rt.alloc(); "{}:{line}: {cause}", ShownPath(path.bytes())).ok()
+}
+
+/// The bytes of a script that is a plain file: another can't be read twice.
+fn script_at(rt: &HostRuntime, path: &Text) -> Option<Text> {
+    let name = std::str::from_utf8(path.bytes()).ok()?;
+    if !fs::metadata(rt, name).ok()?.is_file() {
+        return None;
+    }
+    let mut source = StdSource::at(rt, rt.alloc(), path).ok()?;
+    read_all(rt.alloc(), &mut source, MOST_SCRIPT_BYTES).ok()
+}
+
+/// The bytes of a file of the tree, or other ones where it is absent.
+fn file_or(rt: &HostRuntime, root: &Text, path: &[u8], absent: &[u8]) -> Option<Text>
+    requires { length absent.now ≤ 1048576 }
+    ensures { IfSome result (λ text. length text ≤ 1048576) }
+{
+    let mut files = StdFiles::at(rt, rt.alloc(), root).ok()?;
+    match files.read(rt.alloc(), path, MOST_FILE_BYTES) {
+        Ok(Some(text)) => Some(text),
+        Ok(None) => Text::of(rt.alloc(), absent).ok(),
+        Err(_) => None,
+    }
+}
+
+/// The path of a file of the tree, as the machine has it.
+fn below(rt: &HostRuntime, root: &Text, path: &[u8]) -> Option<Text> {
+    let mut joined = Vec::from_slice(rt.alloc(), root.bytes()).ok()?;
+    joined.extend_from_slice(path).ok()?;
+    Text::of(rt.alloc(), &joined).ok()
+}
+
+/// Which limit is passed, and where.
+fn too_large(rt: &HostRuntime, words: &List<Text>, limit: Limit, number: u64) -> Option<String> {
+    let root = words.at(1)?;
+    let script = words.at(2);
+    match limit {
+        Limit::ScriptBytes => passed(rt, script?, "has more than 16777216 bytes"),
+        Limit::ScriptLines => passed(rt, script?, "has more than 100000 lines"),
+        Limit::Steps => passed(rt, script?, "has more than 1000000 steps"),
+        Limit::StoreBytes => passed(rt, &below(rt, root, STORE)?, "has more than 33554432 bytes"),
+        Limit::FileBytes => long_file(rt, words, root, number),
+        Limit::Files | Limit::Names | Limit::RcBytes => unloaded(rt, root, limit, number),
+        Limit::TraceBytes => passed(rt, words.at(3)?, "has more than 67108864 bytes"),
+    }
+}
+
+fn passed(rt: &HostRuntime, path: &Text, what: &str) -> Option<String> {
+    format!(in rt.alloc(); "{} {what}", ShownPath(path.bytes())).ok()
+}
+
+/// The file of the tree that has too many bytes: the first in the order in which they are read.
+fn long_file(rt: &HostRuntime, words: &List<Text>, root: &Text, number: u64) -> Option<String> {
+    let reads_policy = !words.at(0)?.is(b"check");
+    let long = if reads_policy && is_long(rt, root, CONTEXTS) {
+        CONTEXTS
+    } else if reads_policy && is_long(rt, root, ALLOW) {
+        ALLOW
+    } else if is_long(rt, root, SYSTEM_BUILD) {
+        SYSTEM_BUILD
+    } else if is_long(rt, root, VENDOR_BUILD) {
+        VENDOR_BUILD
+    } else {
+        return unloaded(rt, root, Limit::FileBytes, number);
+    };
+    passed(rt, &below(rt, root, long)?, MOST_BYTES)
+}
+
+/// Whether a file of the tree has more bytes than it may.
+fn is_long(rt: &HostRuntime, root: &Text, path: &[u8]) -> bool {
+    match StdFiles::at(rt, rt.alloc(), root) {
+        Ok(mut files) => {
+            let read = files.read(rt.alloc(), path, MOST_FILE_BYTES);
+            matches!(read, Err(ReadRefusal::TooLarge))
+        }
+        Err(NoMemory) => false,
+    }
+}
+
+/// What the rc files pass, by loading them once more.
+fn unloaded(rt: &HostRuntime, root: &Text, limit: Limit, told: u64) -> Option<String> {
+    let (path, number) = match refusal_of(rt, root)? {
+        LoadRefusal::TooLarge { path, number } => (path, number),
+        LoadRefusal::TooMany { path, number } => (path, number),
+        _ => return None,
+    };
+    if number != told {
+        return None;
+    }
+    let path = below(rt, root, path.bytes())?;
+    let last = ShownPath(path.bytes());
+    match limit {
+        Limit::FileBytes => passed(rt, &path, MOST_BYTES),
+        Limit::Names => passed(rt, &path, "has more than 1024 names"),
+        Limit::Files => format!(in rt.alloc();
+            "{told} files are read by imports, the last {last}"
+        ).ok(),
+        _ => format!(in rt.alloc();
+            "the rc files have more than 33554432 bytes, the last {last}"
+        ).ok(),
+    }
+}
+
+fn refusal_of(rt: &HostRuntime, root: &Text) -> Option<LoadRefusal> {
+    let mut files = StdFiles::at(rt, rt.alloc(), root).ok()?;
+    let props = read_build_files(rt.alloc(), &mut files).ok()?;
+    let mut view = boot_view(rt.alloc(), &props.pairs).ok()?;
+    rc_import::load(rt.alloc(), &mut files, &mut view).err()
+}

@@ -1,0 +1,4 @@
+pub mod Baseline
+pub mod Left
+pub mod Outside
+pub mod Code

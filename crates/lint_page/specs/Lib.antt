@@ -1,0 +1,5 @@
+pub mod Gcc
+pub mod Json
+pub mod Uri
+pub mod Sarif
+pub mod Page

@@ -1,0 +1,123 @@
+//! The form of compilers: a line for each finding, and a last line with their numbers.
+
+ghost use Rattle.std.specs.Prelude.{◌≡◌, ◌++◌, IfOk, OnOk};
+ghost use Rattle.std.specs.List.{flat_map};
+ghost use Rattle.lint_page.specs.Gcc.{finding_line as finding_line_lem, front_text, last_line as last_line_lem, message_text, other_text, place_text, report_text, severity_text};
+
+use crate::style::Style;
+use crate::text::{put, put_number, put_shown};
+use init_base::{NoMemory, Text};
+use lint_findings::{Finding, Place, Severity, about_name, count_errors, count_warnings};
+use std::alloc::Global;
+
+/// About how many bytes a finding's line has.
+const BYTES_OF_LINE: usize = 128;
+
+/// The word for a severity.
+pub fn severity_name(severity: Severity) -> &'static [u8]
+    ensures { result.now ≡ severity_text severity }
+{
+    match severity {
+        Severity::Error => b"error",
+        Severity::Warning => b"warning",
+        Severity::Hint => b"hint",
+    }
+}
+
+/// Adds a line of a file.
+fn put_place(page: &mut Vec<u8>, root: &Text, file: &Text, line: u32) -> Result<(), NoMemory>
+    ensures { OnOk result (page.new.items ≡ page.old.items ++ place_text root.now file.now line) }
+{
+    put_shown(page, root.bytes())?;
+    put_shown(page, file.bytes())?;
+    put(page, b":")?;
+    put_number(page, u64::from(line))
+}
+
+/// Adds where a message leads to.
+fn put_other(page: &mut Vec<u8>, root: &Text, other: &Option<Place>) -> Result<(), NoMemory>
+    ensures { OnOk result (page.new.items ≡ page.old.items ++ other_text root.now other.now) }
+{
+    match other {
+        Some(place) => {
+            put(page, b"; see ")?;
+            put_place(page, root, &place.file, place.line)
+        }
+        None => Ok(()),
+    }
+}
+
+/// Adds where a finding is, and how grave it is.
+fn put_front(page: &mut Vec<u8>, style: &Style, finding: &Finding) -> Result<(), NoMemory>
+    ensures { OnOk result (page.new.items ≡ page.old.items ++ front_text style.now finding.now) }
+{
+    put_place(page, &style.root, &finding.file, finding.line)?;
+    put(page, b": ")?;
+    put(page, severity_name(style.promoted.severity(finding.about)))?;
+    put(page, b": ")
+}
+
+/// Adds what a finding says.
+fn put_message(page: &mut Vec<u8>, root: &Text, finding: &Finding) -> Result<(), NoMemory>
+    ensures { OnOk result (page.new.items ≡ page.old.items ++ message_text root.now finding.now) }
+{
+    put_shown(page, finding.message.bytes())?;
+    put_other(page, root, &finding.other)?;
+    put(page, b" [")?;
+    put(page, about_name(finding.about))?;
+    put(page, b"]\n")
+}
+
+/// Adds the line of a finding.
+fn put_finding(page: &mut Vec<u8>, style: &Style, finding: &Finding) -> Result<(), NoMemory>
+    ensures { OnOk result (page.new.items ≡ page.old.items ++ finding_line_lem style.now finding.now) }
+{
+    put_front(page, style, finding)?;
+    put_message(page, &style.root, finding)
+}
+
+fn put_findings(page: &mut Vec<u8>, style: &Style, findings: &[Finding]) -> Result<(), NoMemory>
+    ensures { OnOk result (page.new.items ≡ page.old.items ++ flat_map (finding_line_lem style.now) findings.now) }
+{
+    for finding in findings {
+        put_finding(page, style, finding)?;
+    }
+    Ok(())
+}
+
+/// Adds the last line.
+fn put_last(
+    page: &mut Vec<u8>,
+    errors: usize,
+    warnings: usize,
+    files: usize,
+) -> Result<(), NoMemory>
+    ensures { OnOk result (page.new.items ≡ page.old.items ++ last_line_lem errors warnings files) }
+{
+    put_number(page, errors as u64)?;
+    put(page, b" errors, ")?;
+    put_number(page, warnings as u64)?;
+    put(page, b" warnings in ")?;
+    put_number(page, files as u64)?;
+    put(page, b" files\n")
+}
+
+/// The page of a report on so many files.
+pub fn gcc_page(
+    alloc: Global,
+    style: &Style,
+    findings: &[Finding],
+    files: usize,
+) -> Result<Vec<u8>, NoMemory>
+    ensures { IfOk result (λ page. page.items ≡ report_text style.now findings.now files) }
+{
+    let mut page = Vec::with_capacity(alloc, findings.len().saturating_mul(BYTES_OF_LINE))?;
+    put_findings(&mut page, style, findings)?;
+    put_last(
+        &mut page,
+        count_errors(&style.promoted, findings),
+        count_warnings(&style.promoted, findings),
+        files,
+    )?;
+    Ok(page)
+}

@@ -1,0 +1,74 @@
+//! Paths as references in URIs.
+
+ghost use Rattle.std.specs.Prelude.{◌≡◌, ◌++◌, ◌∷◌, [], ◌<◌, IfOk, OnOk, true};
+ghost use Rattle.std.specs.Fmt.{digit_glyph};
+ghost use Rattle.std.specs.List.{flat_map};
+ghost use Rattle.lint_page.specs.Uri.{is_plain as is_plain_lem, uri_byte, uri_of as uri_of_lem, without_slash as without_slash_lem};
+
+use init_base::NoMemory;
+use std::alloc::Global;
+
+/// Whether a byte of a path stands for itself: what RFC 3986 leaves unreserved, and the slash.
+fn is_plain(byte: u8) -> bool
+    ensures { result ≡ is_plain_lem byte }
+{
+    byte.is_ascii_alphanumeric() || matches!(byte, b'-' | b'.' | b'_' | b'~' | b'/')
+}
+
+fn hex_digit(digit: u8) -> u8
+    requires { digit < 16 }
+    ensures { result ≡ digit_glyph true digit }
+{
+    if digit < 10 {
+        b'0' + digit
+    } else {
+        b'A' - 10 + digit
+    }
+}
+
+fn put_byte(uri: &mut Vec<u8>, byte: u8) -> Result<(), NoMemory>
+    ensures { OnOk result (uri.new.items ≡ uri.old.items ++ uri_byte byte) }
+{
+    if is_plain(byte) {
+        uri.push(byte)?;
+    } else {
+        uri.push(b'%')?;
+        uri.push(hex_digit(byte / 16))?;
+        uri.push(hex_digit(byte % 16))?;
+    }
+    Ok(())
+}
+
+/// Adds a path.
+pub fn put_path(uri: &mut Vec<u8>, path: &[u8]) -> Result<(), NoMemory>
+    ensures { OnOk result (uri.new.items ≡ uri.old.items ++ flat_map uri_byte path.now) }
+{
+    for byte in path {
+        put_byte(uri, *byte)?;
+    }
+    Ok(())
+}
+
+fn without_slash(path: &[u8]) -> &[u8]
+    ensures { result.now ≡ without_slash_lem path.entry.now }
+{
+    match path {
+        [b'/', behind @ ..] => behind,
+        _ => path,
+    }
+}
+
+/// The path of a file behind a root. Where there is no root it is told from there on, without the slash that begins it.
+pub fn uri_of(alloc: Global, root: &[u8], file: &[u8]) -> Result<Vec<u8>, NoMemory>
+    ensures { IfOk result (λ uri. uri.items ≡ uri_of_lem root.now file.now) }
+{
+    let mut uri = Vec::new(alloc);
+    match root {
+        [] => put_path(&mut uri, without_slash(file))?,
+        _ => {
+            put_path(&mut uri, root)?;
+            put_path(&mut uri, file)?;
+        }
+    }
+    Ok(uri)
+}

@@ -1,0 +1,9 @@
+use Rattle.std.proofs.Common.{[]}
+use Rattle.refusal_causes.proofs.Refusals.{contexts_good}
+use Rattle.refusal_causes.proofs.policy.is_first_bad_context.Goals as goal
+
+pub returns-in-Some : goal.returns-in-Some
+returns-in-Some c = c.is_at.ensures c.args.bytes.now [] c.in-Some.ensures
+
+pub returns-in-None : goal.returns-in-None
+returns-in-None c = (λ is. cc, λ bad. absurd (contexts_good c.args.bytes.now [] c.args.number c.in-None.ensures bad))

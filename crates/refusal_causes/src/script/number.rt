@@ -1,0 +1,42 @@
+//! Numbers of lines.
+
+ghost use Rattle.std.specs.Prelude.{◌≡◌, ◌^◌, ◌<◌};
+ghost use Rattle.std.specs.Char.{is_ascii_digit};
+ghost use Rattle.std.specs.List.{list_all};
+ghost use Rattle.script_lang.specs.Reading.{is_canonical as is_canonical_lem};
+ghost use Rattle.script_lang.specs.Statements.{number_in};
+
+/// The number from the least to the most that a word is in decimal, without leading zeros.
+pub fn number(word: &[u8], least: u64, most: u64) -> Option<u64>
+    requires { most < 2 ^ 54 }
+    ensures { result ≡ number_in least most word.now }
+{
+    if !is_canonical(word) {
+        return None;
+    }
+    let mut number = 0;
+    for digit in word {
+        number = 10 * number + u64::from(*digit - b'0');
+        if number > most {
+            return None;
+        }
+    }
+    if number < least { None } else { Some(number) }
+}
+
+/// Whether a word is one digit, or more of which the first isn't 0.
+fn is_canonical(word: &[u8]) -> bool
+    ensures { result ≡ is_canonical_lem word.now }
+{
+    match word {
+        [] => false,
+        [b'0', rest @ ..] => rest.is_empty(),
+        _ => has_only_digits(word),
+    }
+}
+
+fn has_only_digits(word: &[u8]) -> bool
+    ensures { result ≡ list_all is_ascii_digit word.now }
+{
+    word.iter().all(|byte| byte.is_ascii_digit())
+}
