@@ -1,13 +1,23 @@
 // The area in plain Rust, for comparison: the same words, loads and stores, sequentially consistent, and the same walk and
-// checks of names. `plain read|absent|put|name NAMES N`, of which `name` checks names alone; and `plain map|map_absent NAMES N`,
-// which reads a hash map behind a lock for reading. Where one of these kinds of reads ends with `_beside`, another thread sets
-// the names in turn until the reads are made.
+// checks of names. `plain read|absent|put|name|read_200|read_8000 NAMES N`, of which `name` checks names alone, and the last two
+// read long values of so many bytes; and `plain map|map_absent NAMES N`, which reads a hash map behind a lock for reading. Where
+// one of these kinds of reads ends with `_beside`, another thread sets the names in turn until the reads are made.
 use std::cmp::Ordering;
 use std::collections::HashMap;
 use std::sync::atomic::{AtomicBool, AtomicU64, Ordering::SeqCst};
 use std::sync::RwLock;
 
 const BACKUP: usize = 4;
+const SHORT: usize = 91;
+const LONG_TOP: u64 = 255;
+
+fn most_bytes(name: &[u8]) -> usize {
+    if name.starts_with(b"ro.") { 8_191 } else { SHORT }
+}
+
+fn cell_words(len: usize) -> usize {
+    if len <= SHORT { 13 } else { 2 + len.div_ceil(8) }
+}
 
 struct Area {
     words: Vec<AtomicU64>,
@@ -110,11 +120,30 @@ impl Area {
         }
     }
 
-    fn read(&self, name: &[u8], out: &mut [u8; 91]) -> Option<bool> {
+    fn read_long(&self, cell: usize, first: u64, out: &mut [u8]) -> Option<bool> {
+        let len = self.load(cell + 1) as usize;
+        let mut chunks = out[..len].chunks_exact_mut(8);
+        let mut at = cell + 2;
+        for chunk in &mut chunks {
+            chunk.copy_from_slice(&self.load(at).to_le_bytes());
+            at += 1;
+        }
+        let rest = chunks.into_remainder();
+        if !rest.is_empty() {
+            rest.copy_from_slice(&self.load(at).to_le_bytes()[..rest.len()]);
+        }
+        if self.load(cell) == first { Some(true) } else { None }
+    }
+
+    fn read(&self, name: &[u8], out: &mut [u8]) -> Option<bool> {
         let End::Cell(cell) = self.search(name) else {
             return Some(false);
         };
         let first = self.load(cell);
+        if first >> 56 == LONG_TOP {
+            return self.read_long(cell, first, out);
+        }
+        let out = &mut out[..SHORT];
         let base = if first % 2 == 1 { BACKUP } else { cell + 1 };
         let mut words = [0; 12];
         for k in 0..12 {
@@ -179,12 +208,20 @@ impl Area {
                 link = node + 3;
             }
         }
-        self.store(place, ((value.len() as u64) << 56) + number * 2);
-        for k in 0..12 {
-            self.store(place + 1 + k, word_of(value, k));
+        if value.len() <= SHORT {
+            self.store(place, ((value.len() as u64) << 56) + number * 2);
+            for k in 0..12 {
+                self.store(place + 1 + k, word_of(value, k));
+            }
+        } else {
+            self.store(place, (LONG_TOP << 56) + number * 2);
+            self.store(place + 1, value.len() as u64);
+            for k in 0..value.len().div_ceil(8) {
+                self.store(place + 2 + k, word_of(value, k));
+            }
         }
         self.store(top, place as u64);
-        place + 13
+        place + cell_words(value.len())
     }
 }
 
@@ -195,22 +232,25 @@ struct Writer<'a> {
 }
 
 impl Writer<'_> {
-    fn needs(&self, name: &[u8]) -> usize {
+    fn needs(&self, name: &[u8], len: usize) -> usize {
         match self.area.search(name) {
             End::Cell(_) => 0,
-            End::NoCell(_) => 13,
+            End::NoCell(_) => cell_words(len),
             End::NoNode(_, from) => {
-                13 + name[from..].split(|&b| b == b'.').map(|p| 5 + p.len().div_ceil(8)).sum::<usize>()
+                cell_words(len) + name[from..].split(|&b| b == b'.').map(|p| 5 + p.len().div_ceil(8)).sum::<usize>()
             }
         }
     }
 
     #[inline(never)]
     fn set(&mut self, name: &[u8], value: &[u8]) {
-        if !is_legal(name) || value.len() > 91 || std::str::from_utf8(value).is_err() {
+        if !is_legal(name) || value.len() > most_bytes(name) || std::str::from_utf8(value).is_err() {
             return;
         }
-        if self.mark + self.needs(name) > self.area.words.len() {
+        if self.mark + self.needs(name, value.len()) > self.area.words.len() {
+            return;
+        }
+        if name.starts_with(b"ro.") && matches!(self.area.search(name), End::Cell(_)) {
             return;
         }
         let number = self.count + 1;
@@ -224,21 +264,21 @@ impl Writer<'_> {
 }
 
 fn top(place: usize) -> &'static str {
-    ["ro", "persist", "sys", "vendor", "init", "debug", "dalvik", "wifi"][place % 8]
+    ["boot", "persist", "sys", "vendor", "init", "debug", "dalvik", "wifi"][place % 8]
 }
 
-fn names_of(count: usize, end: &str) -> Vec<String> {
+fn names_of(count: usize, front: &str, end: &str) -> Vec<String> {
     (0..count)
         .map(|k| {
             let place = k * 7919 % count;
-            format!("{}.part{}.key{place}{end}", top(place), place / 8 % 50)
+            format!("{front}{}.part{}.key{place}{end}", top(place), place / 8 % 50)
         })
         .collect()
 }
 
 #[inline(never)]
-fn read(area: &Area, name: &str, out: &mut [u8; 91]) -> Option<bool> {
-    if !is_legal(name.as_bytes()) {
+fn read(area: &Area, name: &str, out: &mut [u8]) -> Option<bool> {
+    if !is_legal(name.as_bytes()) || most_bytes(name.as_bytes()) > out.len() {
         return None;
     }
     area.read(name.as_bytes(), out)
@@ -299,13 +339,19 @@ fn main() {
     let kind = words[1].as_str();
     let count: usize = words[2].parse().unwrap();
     let calls: usize = words[3].parse().unwrap();
-    let value = b"a value of middling length";
-    let names = names_of(count, "");
+    let long = match kind {
+        "read_200" => vec![b'x'; 200],
+        "read_8000" => vec![b'x'; 8_000],
+        _ => vec![],
+    };
+    let short = b"a value of middling length";
+    let (value, front): (&[u8], &str) = if long.is_empty() { (short, "") } else { (&long, "ro.") };
+    let names = names_of(count, front, "");
     let mut in_turn = names.iter().cycle();
     let beside = kind.ends_with("_beside");
     let found = !kind.contains("absent");
-    let asked = names_of(count, if found { "" } else { "x" });
-    let mut out = [0; 91];
+    let asked = names_of(count, front, if found { "" } else { "x" });
+    let mut out = vec![0; 8_191];
     if kind == "name" {
         println!("{}", in_turn.take(calls).filter(|name| is_name(name)).count());
         return;
@@ -313,6 +359,7 @@ fn main() {
     if kind.starts_with("map") {
         let mut kept = [0; 91];
         kept[..value.len()].copy_from_slice(value);
+        let mut out = [0; 91];
         let map: Map = RwLock::new(names.iter().map(|n| (n.clone(), (kept, value.len()))).collect());
         let set = beside.then_some(|| replace(&map, in_turn.next().unwrap(), value));
         println!("{}", reads(&asked, calls, |name| look_up(&map, name, &mut out) == Some(found), set));

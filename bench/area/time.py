@@ -12,6 +12,8 @@ from calls import run, run_beside, seconds_of_one
 FEW, MANY = 100_000, 1_600_000
 ROUNDS = 5
 READS = ("read", "absent", "read_beside", "absent_beside")
+LONG_READS = ("read_200", "read_8000")
+LONG_NAMES = 1_000
 MAPS = {kind: kind.replace("read", "map").replace("absent", "map_absent") for kind in READS}
 
 
@@ -26,6 +28,14 @@ def medians(timed, names):
     return dict(zip(timed, (statistics.median(times) for times in zip(*rounds))))
 
 
+def print_long(proved, plain, checked):
+    """The reads of long values, whose names are a part longer."""
+    times = medians([(program, kind) for kind in LONG_READS for program in (proved, plain)], LONG_NAMES)
+    for kind in LONG_READS:
+        a, b = (times[program, kind] - checked[program] for program in (proved, plain))
+        print(f"{kind}: proved {a:.0f} ns, plain {b:.0f} ns, ratio {a / b:.2f}")
+
+
 def main():
     proved, plain = sys.argv[1:]
     for names in (1_000, 30_000):
@@ -37,6 +47,8 @@ def main():
             a, b = (times[program, kind] - checked[program] for program in (proved, plain))
             beside = f", hash map {times[plain, MAPS[kind]] - checked[plain]:.0f} ns" if kind in MAPS else ""
             print(f"{kind}: proved {a:.0f} ns, plain {b:.0f} ns, ratio {a / b:.2f}{beside}")
+        if names == LONG_NAMES:
+            print_long(proved, plain, checked)
 
 
 main()

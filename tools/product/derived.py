@@ -1,7 +1,7 @@
 """The properties that init makes of others (its property_service.cpp), where no file has them."""
 from typing import NamedTuple
 
-from product.texts import MOST_VALUE_BYTES
+from product.texts import most_value_bytes
 
 # Of the bootloader's, before it reads the files (ExportKernelBootProps).
 BOOT_PROPS = {
@@ -59,7 +59,7 @@ def fingerprint(held):
     words = "ro.product.brand / ro.product.name / ro.product.device : ro.build.version.release_or_codename"
     words += " / ro.build.id / ro.build.version.incremental : ro.build.type / ro.build.tags"
     value = "".join(it if it in "/:" else held.get(it) or "unknown" for it in words.split())
-    return [Pair(FINGERPRINT, value, "its parts")] if len(value) <= MOST_VALUE_BYTES else []
+    return [Pair(FINGERPRINT, value, "its parts")] if len(value) <= most_value_bytes(FINGERPRINT) else []
 
 
 def usb_config(held):

@@ -2,7 +2,7 @@
 from typing import NamedTuple
 
 from product.derived import BOOT_PROPS, Pair, derived
-from product.texts import MOST_VALUE_BYTES, bytes_of, counted, expand, is_legal_name, is_utf8, text_of
+from product.texts import bytes_of, counted, expand, is_legal_name, is_utf8, most_value_bytes, text_of
 
 # The build files in the order in which init loads them (PropertyLoadBootDefaults of its property_service.cpp), as those that
 # become /system/build.prop and those that become /vendor/build.prop. Of one name the last pair holds.
@@ -127,9 +127,8 @@ def tell_refused(pairs, report):
             why = "it is no legal name"
         elif not is_utf8(pair.value):
             why = "its value isn't UTF-8"
-        elif size > MOST_VALUE_BYTES:
-            why = f"its value has {size} bytes, and {MOST_VALUE_BYTES} is the most"
-            why += " here; a device takes more for names with ro." if pair.name.startswith("ro.") else ""
+        elif size > most_value_bytes(pair.name):
+            why = f"its value has {size} bytes, and {most_value_bytes(pair.name)} is the most"
         else:
             continue
         report.lacks(f"{pair.name}, of {pair.place}, since a boot refuses to set it: {why}")

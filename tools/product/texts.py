@@ -6,6 +6,7 @@ USAGE, NO_OUT, NO_PRODUCT, UNREADABLE, ROOT_THERE, UNWRITABLE, BAD_GIVEN = range
 
 MOST_NAME_BYTES = 255
 MOST_VALUE_BYTES = 91
+MOST_READ_ONLY_VALUE_BYTES = 8191
 
 
 class Stop(Exception):
@@ -54,6 +55,11 @@ def is_legal_name(name):
     if not 1 <= len(name) <= MOST_NAME_BYTES or name[0] == "." or name[-1] == "." or ".." in name:
         return False
     return re.fullmatch(r"[A-Za-z0-9.\-_@:]+", name) is not None
+
+
+def most_value_bytes(name):
+    """The most bytes of a value under the name."""
+    return MOST_READ_ONLY_VALUE_BYTES if name.startswith("ro.") else MOST_VALUE_BYTES
 
 
 def is_utf8(text):

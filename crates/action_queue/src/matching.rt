@@ -1,13 +1,12 @@
 //! Whether an event triggers an action, with the properties as the store has them.
 
-ghost use Rattle.std.specs.Prelude.{◌≡◌, ◌≤◌, take, length, IsTrue, true};
+ghost use Rattle.std.specs.Prelude.{◌≡◌, IsTrue, true};
 ghost use Rattle.std.specs.List.{list_any, list_all};
-ghost use Rattle.init_base.specs.Name.{is_legal_name};
-ghost use Rattle.init_machine.specs.Matches.{matches, has_event, has_no_event, holds_now as holds_now_lem, holds_at_change, holds_for, tests, or_empty};
+ghost use Rattle.init_machine.specs.Matches.{matches, has_event, has_no_event, holds_now as holds_now_lem, holds_at_change, holds_for, tests};
 ghost use Rattle.action_queue.specs.Queue.{value_in, has_legal_name};
 
 use init_base::{List, PropName, Text};
-use init_machine::{Action, Event, Pair, PropStore, PropTest};
+use init_machine::{Action, Event, Pair, PropStore, PropTest, has_value};
 
 /// Whether the event triggers the action now.
 #[tactic(auto, unfolding(init_machine::specs::Matches::matches))]
@@ -106,7 +105,7 @@ fn holds_for_value(pair: &Pair, test: &PropTest) -> bool
     }
 }
 
-#[tactic(auto, using(crate::proofs::Values::has_bytes))]
+#[tactic(auto, using(crate::proofs::Values::equals_empty))]
 fn holds_now<S: PropStore>(store: &mut S, test: &PropTest) -> bool
     requires { IsTrue (has_legal_name test.now) }
     ensures answer { result ≡ holds_now_lem (value_in (S.meaning store.old)) test.now }
@@ -115,30 +114,11 @@ fn holds_now<S: PropStore>(store: &mut S, test: &PropTest) -> bool
     ensures spare { S.spare store.new ≡ S.spare store.old }
     ensures beside { S.Beside store.old store.new }
 {
-    let mut buffer = [0; 91];
-    let len = read(store, test.name.bytes(), &mut buffer);
-    match &test.value {
-        Some(value) => &buffer[..len] == value.bytes(),
-        None => len > 0,
-    }
-}
-
-/// Puts the value that a property has now, none where it is absent, at the front of the buffer. Answers its length.
-fn read<S: PropStore>(store: &mut S, name: &[u8], buffer: &mut [u8; 91]) -> usize
-    requires { IsTrue (is_legal_name name.now) }
-    ensures value { take result buffer.new ≡ or_empty (value_in (S.meaning store.old) name.now) }
-    ensures len { result ≡ length (or_empty (value_in (S.meaning store.old) name.now)) }
-    ensures bound { result ≤ 91 }
-    ensures same { S.meaning store.new ≡ S.meaning store.old }
-    ensures told { S.told store.new ≡ S.told store.old }
-    ensures spare { S.spare store.new ≡ S.spare store.old }
-    ensures beside { S.Beside store.old store.new }
-{
-    let Some(name) = PropName::of(name) else {
+    let Some(name) = PropName::of(test.name.bytes()) else {
         unreachable!()
     };
-    match store.get(name, buffer) {
-        Some((len, _)) => len,
-        None => 0,
+    match &test.value {
+        Some(value) => has_value(store, name, value.bytes()),
+        None => !has_value(store, name, b""),
     }
 }

@@ -1,11 +1,13 @@
 //! A program that is timed from outside: it makes so many reads or sets at an area of so many names.
 //!
-//! `area_bench read|absent|put|name|read_beside|absent_beside NAMES N`, of which `name` checks names alone. Where the kind ends
-//! with `_beside`, another thread sets the names in turn until the reads are made; else there is no other thread. `bench/area` has the same in
-//! plain Rust, and runs both.
+//! `area_bench read|absent|put|name|read_beside|absent_beside|read_200|read_8000 NAMES N`, of which `name` checks names alone, and
+//! the last two read long values of so many bytes. Where the kind ends with `_beside`, another thread sets the names in turn until
+//! the reads are made; else there is no other thread. `bench/area` has the same in plain Rust, and runs both.
 #![tactic(auto)]
 
-ghost use Rattle.std.specs.Prelude.{◌≡◌, ◌≤◌, IfSome};
+ghost use Rattle.std.specs.Prelude.{◌≡◌, ◌≤◌, IfSome, IsTrue};
+ghost use Rattle.init_machine.specs.Props.{MayBeSet};
+ghost use Rattle.property_area.specs.Seats.{store_of};
 
 use init_base::{ClientId, PropName, PropValue};
 use init_machine::PropStore;
@@ -27,10 +29,13 @@ const LOOKS: u32 = 4_096;
 /// More sets than a run has time for.
 const MOST_SETS: u64 = 1 << 40;
 
-/// The first part of a name.
+/// The most bytes of a value under any name.
+const MOST_BYTES: usize = 8_191;
+
+/// The first part of a name, but for one that a front stands before.
 fn top(place: usize) -> &'static str {
     match place % 8 {
-        0 => "ro",
+        0 => "boot",
         1 => "persist",
         2 => "sys",
         3 => "vendor",
@@ -42,53 +47,74 @@ fn top(place: usize) -> &'static str {
 }
 
 /// So many names, as device trees have them: a few first parts, some second ones, and many last ones. Those of an end of
-/// their own are in no set.
-fn names_of(alloc: Global, count: usize, end: &str) -> Result<Vec<String>, AllocError>
+/// their own are in no set, and a front makes them names that are set once.
+fn names_of(alloc: Global, count: usize, front: &str, end: &str) -> Result<Vec<String>, AllocError>
     requires { count ≤ 40000 }
 {
     let mut names = Vec::new(alloc);
     for k in 0..count {
         let place = k * 7919 % count;
-        let name = format!(in alloc; "{}.part{}.key{place}{end}", top(place), place / 8 % 50)?;
+        let name = format!(in alloc;
+            "{front}{}.part{}.key{place}{end}",
+            top(place),
+            place / 8 % 50
+        )?;
         names.push(name)?;
     }
     Ok(names)
 }
 
 /// Sets each of the names once.
-fn set_all(writer: &mut AreaWriter<'_>, names: &[String]) {
+fn set_all(writer: &mut AreaWriter<'_>, names: &[String], value: &[u8]) {
     for name in names {
-        set(writer, name);
+        set(writer, name, value);
     }
+}
+
+/// Whether the property may be set: one whose name begins with `ro.` is set once.
+fn may_be_set(writer: &mut AreaWriter<'_>, name: PropName<'_>) -> bool
+    ensures may { IsTrue result → MayBeSet (store_of writer.new.view) name.entry.bytes.now }
+    ensures same { store_of writer.new.view ≡ store_of writer.old.view }
+{
+    !name.is_read_only() || writer.number_of(name).is_none()
 }
 
 /// One set.
 #[inline(never)]
-fn set(writer: &mut AreaWriter<'_>, name: &String) {
-    let (Some(name), Ok(value)) = (
-        PropName::of(name.as_bytes()),
-        PropValue::of(b"a value of middling length"),
-    ) else {
+fn set(writer: &mut AreaWriter<'_>, name: &String, value: &[u8]) {
+    let Some(name) = PropName::of(name.as_bytes()) else {
         return;
     };
-    if writer.room(name).is_ok() {
+    let Ok(value) = PropValue::under(name, value) else {
+        return;
+    };
+    if writer.room(name, value.bytes().len()).is_err() {
+        return;
+    }
+    if may_be_set(writer, name) {
         writer.put(name, value);
     }
 }
 
 /// One read, which isn't made part of the loop around it.
 #[inline(never)]
-fn read(area: &Area, reader: &mut Reader, name: &String, out: &mut [u8; 91]) -> Option<bool>
+fn read(area: &Area, reader: &mut Reader, name: &String, out: &mut [u8]) -> Option<bool>
     requires { reader.old.table ≡ area.now }
     ensures { reader.new.table ≡ reader.old.table }
 {
     let name = PropName::of(name.as_bytes())?;
+    if name.max_value_len() > out.len() {
+        return None;
+    }
     match reader.read(area, name, out) {
         ReadAnswer::Found { .. } => Some(true),
         ReadAnswer::Absent { .. } => Some(false),
         ReadAnswer::Again { .. } => None,
     }
 }
+
+/// A short value.
+const SHORT_VALUE: &[u8] = b"a value of middling length";
 
 /// What is read: the names, whether they are in a set, and whether a writer may be met.
 #[derive(Clone, Copy)]
@@ -108,7 +134,7 @@ fn is_right(looks: &Looks<'_>, answer: Option<bool>) -> bool {
 
 /// So many reads, of which it counts those that answered as they should. The buffer is the caller's, so that each read
 /// writes it.
-fn reads(area: &Area, reader: &mut Reader, looks: &Looks<'_>, count: u64, out: &mut [u8; 91]) -> u64
+fn reads(area: &Area, reader: &mut Reader, looks: &Looks<'_>, count: u64, out: &mut [u8]) -> u64
     requires { reader.old.table ≡ area.now }
 {
     let names = looks.names;
@@ -156,7 +182,7 @@ fn checks(names: &[String], count: u64) -> u64 {
 fn set_next(writer: &mut AreaWriter<'_>, names: &[String], at: usize) -> usize {
     let here = if at < names.len() { at } else { 0 };
     if here < names.len() {
-        set(writer, &names[here]);
+        set(writer, &names[here], SHORT_VALUE);
     }
     here + 1
 }
@@ -191,19 +217,11 @@ fn sets_until(writer: AreaWriter<'_>, names: &[String], stop: &AtomicBool) {
     }
 }
 
-/// So many reads, with no writer beside.
-fn reads_alone(area: &Area, reader: &mut Reader, looks: &Looks<'_>, count: u64) -> u64
-    requires { reader.old.table ≡ area.now }
-{
-    let mut out = [0; 91];
-    reads(area, reader, looks, count, &mut out)
-}
-
 /// What a reading thread writes to.
 #[derive(Drop)]
 struct ReadingSide {
     reader: Reader,
-    out: [u8; 91],
+    out: Vec<u8>,
 }
 
 /// So many reads, and then the writer is told to stop.
@@ -216,7 +234,13 @@ fn reads_then_stop(
 ) -> u64
     requires { side.old.reader.table ≡ area.now }
 {
-    let whole = reads(area, &mut side.reader, looks, count, &mut side.out);
+    let whole = reads(
+        area,
+        &mut side.reader,
+        looks,
+        count,
+        side.out.as_mut_slice(),
+    );
     stop.store(true, Ordering::SeqCst);
     whole
 }
@@ -242,6 +266,33 @@ fn reads_beside<R: Threads + Sync>(
     whole
 }
 
+/// What a reader reads with: on the heap, apart from what the writer's thread reads of this one's stack.
+fn reading_side(alloc: Global, reader: Reader) -> Option<Box<ReadingSide>>
+    ensures { IfSome result (λ side. side.value.reader.table ≡ reader.table) }
+{
+    let out = vec![in alloc; 0; MOST_BYTES].ok()?;
+    Box::new(alloc, ReadingSide { reader, out }).ok()
+}
+
+/// So many reads, alone or beside a writer.
+fn reads_of<R: Threads + Sync>(
+    rt: &R,
+    area: &Area,
+    writer: AreaWriter<'_>,
+    names: &[String],
+    side: Box<ReadingSide>,
+    looks: &Looks<'_>,
+    count: u64,
+) -> u64
+    requires { side.value.reader.table ≡ area.now }
+{
+    let mut side = side;
+    if looks.beside {
+        return reads_beside(rt, area, writer, names, &mut side, looks, count);
+    }
+    reads_then_stop(area, &mut side, looks, count, &AtomicBool::new(false))
+}
+
 /// What the words ask for.
 #[derive(Drop)]
 struct Run {
@@ -264,16 +315,28 @@ fn run_of(rt: &HostRuntime) -> Option<Run>
     Some(Run { kind, names, calls })
 }
 
+/// How many bytes the values have.
+fn value_len(kind: &str) -> usize {
+    match kind {
+        "read_200" => 200,
+        "read_8000" => 8_000,
+        _ => SHORT_VALUE.len(),
+    }
+}
+
 /// How many calls answered as they should. None where memory is short.
 fn answers<R: Threads + Sync>(rt: &R, alloc: Global, run: &Run) -> Option<u64>
     requires { (1 ≤ run.now.names) × (run.now.names ≤ 40000) }
 {
     let kind = run.kind.as_str();
-    let names = names_of(alloc, run.names, "").ok()?;
+    let len = value_len(kind);
+    let front = if len == SHORT_VALUE.len() { "" } else { "ro." };
+    let names = names_of(alloc, run.names, front, "").ok()?;
+    let value = vec![in alloc; b'x'; len].ok()?;
     let (area, seat) = Area::new(alloc, WORDS).ok()?;
     let mut writer = AreaWriter::new(&area, seat);
-    let mut reader = writer.hand_out(ClientId(1)).ok()?;
-    set_all(&mut writer, &names);
+    let reader = writer.hand_out(ClientId(1)).ok()?;
+    set_all(&mut writer, &names, value.as_slice());
     if kind == "put" {
         sets(&mut writer, &names, run.calls);
         return Some(writer.count().saturating_sub(run.names as u64));
@@ -283,25 +346,14 @@ fn answers<R: Threads + Sync>(rt: &R, alloc: Global, run: &Run) -> Option<u64>
     }
     let found = !kind.starts_with("absent");
     let beside = kind.ends_with("_beside");
-    let asked = names_of(alloc, run.names, if found { "" } else { "x" }).ok()?;
+    let asked = names_of(alloc, run.names, front, if found { "" } else { "x" }).ok()?;
+    let side = reading_side(alloc, reader)?;
     let looks = Looks {
         names: &asked,
         found,
         beside,
     };
-    if beside {
-        // On the heap, apart from what the writer's thread reads of this one's stack.
-        let mut side = Box::new(
-            alloc,
-            ReadingSide {
-                reader,
-                out: [0; 91],
-            },
-        )
-        .ok()?;
-        return Some(reads_beside(rt, &area, writer, &names, &mut side, &looks, run.calls));
-    }
-    Some(reads_alone(&area, &mut reader, &looks, run.calls))
+    Some(reads_of(rt, &area, writer, &names, side, &looks, run.calls))
 }
 
 fn main(rt: HostRuntime) -> ExitCode {
@@ -312,7 +364,7 @@ fn main(rt: HostRuntime) -> ExitCode {
     let shown = match made {
         Some(count) => println!(&rt; "{count}"),
         None => eprintln!(&rt;
-            "area_bench: usage: read|absent|put|name|read_beside|absent_beside NAMES N"
+            "area_bench: usage: read|absent|put|name|read_beside|absent_beside|read_200|read_8000 NAMES N"
         ),
     };
     if made.is_some() && shown.is_ok() {

@@ -1,52 +1,73 @@
 //! An area's size, its room and its readers, with ample memory.
 
-ghost use Rattle.std.specs.Prelude.{◌≡◌};
+ghost use Rattle.std.specs.Prelude.{◌≡◌, IsTrue};
+ghost use Rattle.init_machine.specs.Props.{MayBeSet};
+ghost use Rattle.property_area.specs.Seats.{store_of};
 
 use init_base::{ClientId, PropName, PropValue};
 use init_machine::{Full, PropStore};
-use property_area::{Area, AreaRefusal, AreaWriter, ReadAnswer};
+use property_area::{Area, AreaRefusal, AreaWriter, ReadAnswer, Reader};
 use std::alloc::Global;
 use std::test::Fail;
+
+/// Whether the property may be set: one whose name begins with `ro.` is set once.
+fn may_be_set(store: &mut AreaWriter<'_>, name: PropName<'_>) -> bool
+    ensures may { IsTrue result → MayBeSet (store_of store.new.view) name.entry.bytes.now }
+    ensures same { store_of store.new.view ≡ store_of store.old.view }
+    ensures area { store.new.table ≡ store.old.table }
+{
+    !name.is_read_only() || store.number_of(name).is_none()
+}
 
 /// Sets a property where there is room, and answers the set's number.
 fn set(
     store: &mut AreaWriter<'_>,
     alloc: Global,
     name: &str,
-    value: &str,
+    value: &[u8],
 ) -> Result<u64, &'static str>
     ensures { store.new.table ≡ store.old.table }
 {
     let name = PropName::of(name.as_bytes()).ok_or("no name")?;
-    let Ok(value) = PropValue::of(value.as_bytes()) else {
+    let Ok(value) = PropValue::under(name, value) else {
         return Err("no value");
     };
-    if store.room(name).is_err() {
-        return Err("no room");
-    }
     if store.reserve(alloc).is_err() {
         return Err("no memory");
     }
-    Ok(store.put(name, value))
+    if store.room(name, value.bytes().len()).is_err() {
+        return Err("no room");
+    }
+    if may_be_set(store, name) {
+        Ok(store.put(name, value))
+    } else {
+        Err("read-only")
+    }
 }
 
-fn room(store: &mut AreaWriter<'_>, name: &str) -> Result<Result<(), Full>, &'static str>
+fn room(
+    store: &mut AreaWriter<'_>,
+    name: &str,
+    len: usize,
+) -> Result<Result<(), Full>, &'static str>
     ensures { store.new.table ≡ store.old.table }
 {
     let name = PropName::of(name.as_bytes()).ok_or("no name")?;
-    Ok(store.room(name))
+    Ok(store.room(name, len))
 }
 
 /// Whether a look-up gives this value and number.
-fn has(store: &mut AreaWriter<'_>, name: &str, value: &str, number: u64) -> bool
+fn has(store: &mut AreaWriter<'_>, name: &str, value: &[u8], number: u64, out: &mut [u8]) -> bool
     ensures { store.new.table ≡ store.old.table }
 {
     let Some(name) = PropName::of(name.as_bytes()) else {
         return false;
     };
-    let mut out = [7; 91];
-    match store.get(name, &mut out) {
-        Some((len, found)) => len <= 91 && &out[..len] == value.as_bytes() && found == number,
+    if name.max_value_len() > out.len() {
+        return false;
+    }
+    match store.get(name, out) {
+        Some((len, found)) => len == value.len() && out.starts_with(value) && found == number,
         None => false,
     }
 }
@@ -56,19 +77,129 @@ fn area_full(rt: HostRuntime) -> Result<(), Fail> {
     let alloc = rt.alloc();
     let (area, seat) = Area::new(alloc, 64).ok().ok_or("no area")?;
     let mut writer = AreaWriter::new(&area, seat);
-    assert_eq!(rt; set(&mut writer, alloc, "a", "1")?, 1);
+    assert_eq!(rt; set(&mut writer, alloc, "a", b"1")?, 1);
     let long = "abcdefghijklmnopq.abcdefghijklmnopq";
-    assert_eq!(rt; set(&mut writer, alloc, long, "1")?, 2);
+    assert_eq!(rt; set(&mut writer, alloc, long, b"1")?, 2);
     assert_eq!(rt; writer.used(), 64);
     let full = Full::Words { used: 64, need: 19 };
-    assert_eq!(rt; room(&mut writer, "b")?, Err(full));
-    assert_eq!(rt; set(&mut writer, alloc, "a", "2")?, 3);
-    assert!(rt; has(&mut writer, "a", "2", 3));
-    assert!(rt; has(&mut writer, long, "1", 2));
+    assert_eq!(rt; room(&mut writer, "b", 91)?, Err(full));
+    assert_eq!(rt; set(&mut writer, alloc, "a", b"2")?, 3);
+    let mut out = [7; 91];
+    assert!(rt; has(&mut writer, "a", b"2", 3, &mut out));
+    assert!(rt; has(&mut writer, long, b"1", 2, &mut out));
     let mut again = AreaWriter::new(&area, writer.into_seat());
     assert_eq!(rt; again.count(), 3);
     assert_eq!(rt; again.words(), 64);
-    assert!(rt; has(&mut again, "a", "2", 3));
+    assert!(rt; has(&mut again, "a", b"2", 3, &mut out));
+    Ok(())
+}
+
+/// A value of 92 bytes under `ro.a` takes 14 words behind two nodes of 6, and a second set isn't made.
+#[test]
+fn a_long_value(rt: HostRuntime) -> Result<(), Fail> {
+    let alloc = rt.alloc();
+    let (area, seat) = Area::new(alloc, 64).ok().ok_or("no area")?;
+    let mut writer = AreaWriter::new(&area, seat);
+    let value = [b'x'; 92];
+    assert_eq!(rt; set(&mut writer, alloc, "ro.a", &value)?, 1);
+    assert_eq!(rt; writer.used(), 42);
+    assert_eq!(rt; set(&mut writer, alloc, "b", b"1")?, 2);
+    let full = Full::Words { used: 61, need: 19 };
+    assert_eq!(rt; room(&mut writer, "c", 1)?, Err(full));
+    let more = Full::Words { used: 61, need: 20 };
+    assert_eq!(rt; room(&mut writer, "ro.c", 92)?, Err(more));
+    assert_eq!(rt;
+        set(&mut writer, alloc, "ro.a", b"y").err(),
+        Some("read-only")
+    );
+    let mut out = vec![in alloc; 7; 8191]?;
+    assert!(rt; has(&mut writer, "ro.a", &value, 1, out.as_mut_slice()));
+    Ok(())
+}
+
+/// One read, and the buffer of 8,191 sevens that it wrote to. None where the name is none, or memory is short.
+fn read(
+    alloc: Global,
+    area: &Area,
+    reader: &mut Reader,
+    name: &str,
+) -> Option<(ReadAnswer, Vec<u8>)>
+    requires { reader.old.table ≡ area.now }
+{
+    let name = PropName::of(name.as_bytes())?;
+    let mut out = vec![in alloc; 7; 8191].ok()?;
+    let bytes = out.as_mut_slice();
+    if name.max_value_len() > bytes.len() {
+        return None;
+    }
+    let answer = reader.read(area, name, bytes);
+    Some((answer, out))
+}
+
+/// A read of a long value leaves what stands behind it in the buffer.
+#[test]
+fn a_long_value_is_read(rt: HostRuntime) -> Result<(), Fail> {
+    let alloc = rt.alloc();
+    let (area, seat) = Area::new(alloc, 64).ok().ok_or("no area")?;
+    let mut writer = AreaWriter::new(&area, seat);
+    let mut reader = writer.hand_out(ClientId(1)).ok().ok_or("no memory")?;
+    let value = [b'x'; 92];
+    assert_eq!(rt; set(&mut writer, alloc, "ro.a", &value)?, 1);
+    let (answer, out) = read(alloc, &area, &mut reader, "ro.a").ok_or("no read")?;
+    assert_eq!(rt; answer, ReadAnswer::Found { len: 92, number: 1 });
+    assert!(rt; out.as_slice().starts_with(&value));
+    assert_eq!(rt; out.as_slice().get(92), Some(&7));
+    Ok(())
+}
+
+/// The area is filled by long values to its last word. A node of `ro` takes 6 words, and one of `kNN` 6. With 8,191 bytes a cell takes
+/// 2 + 1,024 = 1,026 words, so each such name takes 1,032: 63 of them and the node take 65,022 of the 65,520 words behind the
+/// head. What is left, 498, is a node and a cell of 492 words, which has 490 words of value: 3,920 bytes. Then `ro.z` with 92
+/// bytes would need 6 + 14 words.
+#[test]
+fn long_values_to_the_last_word(rt: HostRuntime) -> Result<(), Fail> {
+    let alloc = rt.alloc();
+    let (area, seat) = Area::new(alloc, 65_536).ok().ok_or("no area")?;
+    let mut writer = AreaWriter::new(&area, seat);
+    let value = vec![in alloc; b'x'; 8191]?;
+    for k in 10..73 {
+        let name = format!(in alloc; "ro.k{k}")?;
+        set(&mut writer, alloc, name.as_str(), value.as_slice())?;
+    }
+    assert_eq!(rt; writer.used(), 65_038);
+    let last = vec![in alloc; b'y'; 3920]?;
+    let past = Full::Words {
+        used: 65_038,
+        need: 499,
+    };
+    assert_eq!(rt; room(&mut writer, "ro.k73", 3921)?, Err(past));
+    set(&mut writer, alloc, "ro.k73", last.as_slice())?;
+    assert_eq!(rt; writer.used(), 65_536);
+    let full = Full::Words {
+        used: 65_536,
+        need: 20,
+    };
+    assert_eq!(rt; room(&mut writer, "ro.z", 92)?, Err(full));
+    assert_eq!(rt; room(&mut writer, "ro.k73", 91)?, Ok(()));
+    let mut out = vec![in alloc; 7; 8191]?;
+    assert!(rt;
+        has(
+            &mut writer,
+            "ro.k10",
+            value.as_slice(),
+            1,
+            out.as_mut_slice()
+        )
+    );
+    assert!(rt;
+        has(
+            &mut writer,
+            "ro.k73",
+            last.as_slice(),
+            64,
+            out.as_mut_slice()
+        )
+    );
     Ok(())
 }
 
@@ -89,7 +220,7 @@ fn area_sizes_and_readers(rt: HostRuntime) -> Result<(), Fail> {
         reader.read(&area, name, &mut out),
         ReadAnswer::Absent { number: 0 }
     );
-    assert_eq!(rt; set(&mut writer, alloc, "a", "1")?, 1);
+    assert_eq!(rt; set(&mut writer, alloc, "a", b"1")?, 1);
     let found = ReadAnswer::Found { len: 1, number: 1 };
     assert_eq!(rt; reader.read(&area, name, &mut out), found);
     assert_eq!(rt; out[0], b'1');

@@ -97,6 +97,14 @@ fn read_across<Q: Asked>(
     ensures stop { writer.new.me.0.cell ≡ at_stop old.now new.now to }
 {
     let first = first_serial::<OneView, Text, OneCell, Q>(table, reader, CELL);
+    let (top, _, _) = parts(first);
+    if top == 255 {
+        stores::<Q>(table, writer, from, to, old, new);
+        return CellAnswer::Again {
+            first,
+            second: first,
+        };
+    }
     let words = copy_words::<OneView, Text, OneCell, Q>(table, reader, words_place(CELL, first));
     stores::<Q>(table, writer, from, to, old, new);
     let last = last_serial::<OneView, Text, OneCell, Q>(table, reader, CELL);

@@ -1,17 +1,13 @@
 //! Commands that wait: for a program, for a value of a property, and for a file.
 
 ghost use Rattle.std.specs.Prelude.{◌≡◌, ◌+◌, IfOk, OnOk};
-ghost use Rattle.std.specs.Str.{bytes_eq};
 ghost use Rattle.init_machine.specs.Effect.{exec as exec_lem, wait_for_file as wait_for_file_lem, wait_for_property as wait_for_property_lem};
-ghost use Rattle.init_machine.specs.Matches.{or_empty};
-ghost use Rattle.init_machine.specs.Props.{value_in};
 ghost use Rattle.machine_parts.specs.Parts.{Does, rules_of, state_of};
 
 use init_base::{Millis, NoMemory, PropName, Text};
-use init_machine::{Cause, Done, Output, Pair, PropStore, Waiting};
+use init_machine::{Cause, Done, Output, Pair, PropStore, Waiting, has_value};
 use machine_parts::Parts;
 use model_kernel::SpawnRefusal;
-use prop_rules::look_up;
 use std::alloc::Global;
 
 /// The name of the process of a program that is run once.
@@ -34,20 +30,6 @@ pub fn exec<S: PropStore>(alloc: Global, parts: &mut Parts<S>, path: Text) -> Re
             Ok(Done::Failed(Cause::NoPid))
         }
         Err(SpawnRefusal::NoMemory) => Err(NoMemory),
-    }
-}
-
-/// Whether a property has a value. An absent one counts as empty.
-fn has_value<S: PropStore>(store: &mut S, name: PropName<'_>, value: &[u8]) -> bool
-    ensures answer { result ≡ bytes_eq (or_empty (value_in (S.meaning store.old) name.entry.bytes.now)) value.now }
-    ensures same { S.meaning store.new ≡ S.meaning store.old }
-    ensures told { S.told store.new ≡ S.told store.old }
-    ensures beside { S.Beside store.old store.new }
-{
-    let mut buffer = [0; 91];
-    match look_up(store, name, &mut buffer) {
-        Some(now) => now == value,
-        None => value.is_empty(),
     }
 }
 

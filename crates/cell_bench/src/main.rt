@@ -3,9 +3,10 @@
 //! `cell_bench read N` and `cell_bench write N`; `bench/cell` has the same in plain Rust, and runs both.
 #![tactic(auto)]
 
-ghost use Rattle.std.specs.Prelude.{◌≡◌, ◌<◌, ◌+◌, ◌^◌, ◌∷◌, [], None, length};
+ghost use Rattle.std.specs.Prelude.{◌≡◌, ◌<◌, ◌≤◌, ◌+◌, ◌^◌, ◌∷◌, [], None, length};
 ghost use Rattle.serial_value.specs.declared.view.CellView.TheVariants.{Writer};
-ghost use Rattle.serial_value.specs.Cell.{sets_of};
+ghost use Rattle.serial_value.specs.Cell.{sets_of, making_of, HasShortCell};
+ghost use Rattle.serial_value.specs.One.{the_name};
 
 use init_base::{PropName, PropValue};
 use serial_value::{CellAnswer, OneSeat, OneTable, one_cell, one_reader, read_cell, write_cell};
@@ -22,7 +23,8 @@ const MOST: u64 = 1 << 40;
 fn found(table: &OneTable, reader: &mut OneSeat, name: PropName<'_>, out: &mut [u8; 91]) -> bool
     requires table { (reader.old.table_id ≡ table.now.shared.table_id) × (table.now.shared.table_id.words ≡ 29) }
     requires name { name.bytes.now ≡ 97 ∷ [] }
-    ensures { reader.new.table_id ≡ reader.old.table_id }
+    requires idle { making_of reader.old.me.0.cell ≡ None }
+    ensures { (reader.new.table_id ≡ reader.old.table_id) × (making_of reader.new.me.0.cell ≡ None) }
 {
     matches!(
         read_cell(table, reader, CELL, name, out),
@@ -34,6 +36,7 @@ fn found(table: &OneTable, reader: &mut OneSeat, name: PropName<'_>, out: &mut [
 fn reads(table: &OneTable, reader: &mut OneSeat, name: PropName<'_>, count: u64) -> u64
     requires table { (reader.old.table_id ≡ table.now.shared.table_id) × (table.now.shared.table_id.words ≡ 29) }
     requires name { name.bytes.now ≡ 97 ∷ [] }
+    requires idle { making_of reader.old.me.0.cell ≡ None }
 {
     let mut whole = 0;
     let mut out = [0; 91];
@@ -56,6 +59,7 @@ fn writes(
     requires table { (writer.old.table_id ≡ table.now.shared.table_id) × (table.now.shared.table_id.words ≡ 29) }
     requires name { name.bytes.now ≡ 97 ∷ [] }
     requires writer { (writer.old.me.0.cell ≡ Writer (sets_of writer.old.me.0.cell) None) × (length (sets_of writer.old.me.0.cell) ≡ 1) }
+    requires short { HasShortCell (sets_of writer.old.me.0.cell) the_name × (length value.bytes.now ≤ 91) }
     requires count { count < 2 ^ 41 }
 {
     for k in 0..count {

@@ -8,7 +8,8 @@
 ghost use Rattle.std.specs.Prelude.{◌≡◌, ◌<◌, ◌≤◌, ◌+◌, ◌^◌, ◌∷◌, [], None, length, IfOk, IfSome};
 ghost use Rattle.std.specs.Thread.{IsSync};
 ghost use Rattle.serial_value.specs.declared.view.CellView.TheVariants.{Writer};
-ghost use Rattle.serial_value.specs.Cell.{sets_of, IsReader};
+ghost use Rattle.serial_value.specs.Cell.{sets_of, making_of, HasShortCell};
+ghost use Rattle.serial_value.specs.One.{the_name};
 
 use init_base::{PropName, PropValue};
 use serial_value::{CellAnswer, OneSeat, OneTable, one_cell, one_reader, read_cell, write_cell};
@@ -35,7 +36,7 @@ fn letters(number: u64) -> ([u8; 91], usize)
 }
 
 /// Whether a read that names this set found its value.
-fn is_whole(len: u8, number: u64, out: &[u8; 91]) -> bool {
+fn is_whole(len: u16, number: u64, out: &[u8; 91]) -> bool {
     let (bytes, size) = letters(number);
     len as usize == size && out[..size] == bytes[..size]
 }
@@ -44,6 +45,7 @@ fn is_whole(len: u8, number: u64, out: &[u8; 91]) -> bool {
 fn torn(table: &OneTable, reader: &mut OneSeat, name: PropName<'_>, count: u64) -> u64
     requires table { (reader.old.table_id ≡ table.now.shared.table_id) × (table.now.shared.table_id.words ≡ 29) }
     requires name { name.bytes.now ≡ 97 ∷ [] }
+    requires idle { making_of reader.old.me.0.cell ≡ None }
 {
     let mut wrong = 0;
     let mut last = 0;
@@ -64,6 +66,7 @@ fn write_all(table: &OneTable, writer: &mut OneSeat, name: PropName<'_>, count: 
     requires table { (writer.old.table_id ≡ table.now.shared.table_id) × (table.now.shared.table_id.words ≡ 29) }
     requires name { name.bytes.now ≡ 97 ∷ [] }
     requires writer { (writer.old.me.0.cell ≡ Writer (sets_of writer.old.me.0.cell) None) × (length (sets_of writer.old.me.0.cell) ≡ 1) }
+    requires short { HasShortCell (sets_of writer.old.me.0.cell) the_name }
     requires count { count < 2 ^ 41 }
 {
     for k in 0..count {
@@ -86,6 +89,7 @@ fn two_readers<R: Threads + Sync>(
 ) -> u64
     requires table { table.now.shared.table_id.words ≡ 29 }
     requires seats { (one.old.table_id ≡ table.now.shared.table_id) × (two.old.table_id ≡ table.now.shared.table_id) }
+    requires idle { (making_of one.old.me.0.cell ≡ None) × (making_of two.old.me.0.cell ≡ None) }
     requires name { name.bytes.now ≡ 97 ∷ [] }
 {
     let (a, b) = join(
@@ -108,7 +112,9 @@ fn writer_and_reader<R: Threads + Sync>(
     requires table { table.now.shared.table_id.words ≡ 29 }
     requires seats { (writer.old.table_id ≡ table.now.shared.table_id) × (reader.old.table_id ≡ table.now.shared.table_id) }
     requires name { name.bytes.now ≡ 97 ∷ [] }
+    requires idle { making_of reader.old.me.0.cell ≡ None }
     requires rest { (writer.old.me.0.cell ≡ Writer (sets_of writer.old.me.0.cell) None) × (length (sets_of writer.old.me.0.cell) ≡ 1) }
+    requires short { HasShortCell (sets_of writer.old.me.0.cell) the_name }
     requires count { count < 2 ^ 41 }
 {
     let ((), wrong) = join(
@@ -136,19 +142,23 @@ fn all_beside<R: Threads + Sync>(
     requires two { two.old.table_id ≡ table.now.shared.table_id }
     requires three { three.old.table_id ≡ table.now.shared.table_id }
     requires name { name.bytes.now ≡ 97 ∷ [] }
+    requires idle { (making_of one.old.me.0.cell ≡ None) × (making_of two.old.me.0.cell ≡ None) × (making_of three.old.me.0.cell ≡ None) }
     requires rest { (writer.old.me.0.cell ≡ Writer (sets_of writer.old.me.0.cell) None) × (length (sets_of writer.old.me.0.cell) ≡ 1) }
+    requires short { HasShortCell (sets_of writer.old.me.0.cell) the_name }
     requires count { count < 2 ^ 41 }
 {
     let (a, b) = join(
         rt,
         || -> u64
             requires { IsSync R.row × (table.now.shared.table_id.words ≡ 29) × (one.now.table_id ≡ table.now.shared.table_id)
-                × (two.now.table_id ≡ table.now.shared.table_id) × (name.bytes.now ≡ 97 ∷ []) }
+                × (two.now.table_id ≡ table.now.shared.table_id) × (name.bytes.now ≡ 97 ∷ [])
+                × (making_of one.now.me.0.cell ≡ None) × (making_of two.now.me.0.cell ≡ None) }
         { two_readers(rt, table, one, two, name, count) },
         || -> u64
             requires { IsSync R.row × (table.now.shared.table_id.words ≡ 29) × (writer.now.table_id ≡ table.now.shared.table_id)
                 × (three.now.table_id ≡ table.now.shared.table_id) × (name.bytes.now ≡ 97 ∷ []) × (count < 2 ^ 41)
-                × (writer.now.me.0.cell ≡ Writer (sets_of writer.now.me.0.cell) None) × (length (sets_of writer.now.me.0.cell) ≡ 1) }
+                × (writer.now.me.0.cell ≡ Writer (sets_of writer.now.me.0.cell) None) × (length (sets_of writer.now.me.0.cell) ≡ 1)
+                × (making_of three.now.me.0.cell ≡ None) × HasShortCell (sets_of writer.now.me.0.cell) the_name }
         { writer_and_reader(rt, table, writer, three, name, count) },
     );
     a.saturating_add(b)

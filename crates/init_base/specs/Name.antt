@@ -1,7 +1,7 @@
 -- Which texts name a property (AOSP, system properties): 1 to 255 bytes out of ASCII letters, digits and . - _ @ :,
 -- with no dot (46) first, last or beside another.
-use Rattle.std.specs.Prelude.{ℕ, Bool, true, IsTrue, ◌&&◌, ◌||◌, not, ◌==◌, nat_le, List, [], ◌∷◌, length, if◌then◌else◌}
-use Rattle.std.specs.List.{list_all}
+use Rattle.std.specs.Prelude.{ℕ, Bool, true, IsTrue, ◌&&◌, ◌||◌, not, ◌==◌, nat_le, nat_eq, codes, List, [], ◌∷◌, length, if◌then◌else◌}
+use Rattle.std.specs.List.{list_all, starts_with}
 
 abbrev pub is_name_byte : ℕ → Bool
 is_name_byte b =
@@ -28,3 +28,7 @@ LegalName name = IsTrue (is_legal_name name)
 -- the kind of a byte: 1 for a dot, 0 for another byte of names, 2 for one that no name has
 abbrev pub kind_of_byte : ℕ → ℕ
 kind_of_byte b = if b == 46 then 1 else (if is_name_byte b then 0 else 2)
+
+-- the name begins with `ro.`: its property is set once
+abbrev pub is_read_only : List ℕ → Bool
+is_read_only name = starts_with nat_eq name (codes "ro.")

@@ -16,6 +16,7 @@ mod reading;
 mod text;
 mod units;
 mod value;
+mod value_buffer;
 
 pub use adapters::fault::Fault;
 pub use adapters::files::StdFiles;
@@ -41,3 +42,4 @@ pub use reading::read_all;
 pub use text::Text;
 pub use units::{ClientId, Millis, Pid};
 pub use value::{BadValue, PropValue};
+pub use value_buffer::ValueBuffer;

@@ -2,7 +2,8 @@
 
 ghost use Rattle.std.specs.Prelude.{◌≡◌, ◌≤◌, ◌↔◌, ◌==◌, ◌&&◌, not, nat_lt, IfSome, IsSome};
 ghost use Rattle.std.specs.List.{list_all};
-ghost use Rattle.init_base.specs.Name.{LegalName, has_only_lone_dots, is_legal_name, is_name_byte, kind_of_byte};
+ghost use Rattle.init_base.specs.Name.{LegalName, has_only_lone_dots, is_legal_name, is_name_byte, is_read_only, kind_of_byte};
+ghost use Rattle.init_base.specs.Value.{max_value_len};
 
 /// A property's name, which is legal: 1 to 255 bytes out of ASCII letters, digits and `. - _ @ :`, that doesn't
 /// begin or end with a dot and has no two dots side by side (AOSP, system properties).
@@ -23,6 +24,20 @@ impl<'a> PropName<'a> {
         } else {
             None
         }
+    }
+
+    /// The most bytes that a value under the name may have: 8,191 where it begins with `ro.`, else 91.
+    pub fn max_value_len(&self) -> usize
+        ensures { result ≡ max_value_len self.now.bytes.now }
+    {
+        if self.is_read_only() { 8191 } else { 91 }
+    }
+
+    /// Whether the name begins with `ro.`, so that its property is set once.
+    pub fn is_read_only(&self) -> bool
+        ensures { result ≡ is_read_only self.now.bytes.now }
+    {
+        self.bytes.starts_with(b"ro.")
     }
 
     pub fn bytes(&self) -> &'a [u8]

@@ -1,6 +1,6 @@
 //! `Core`: the machine, one input after another.
 
-ghost use Rattle.std.specs.Prelude.{◌≡◌, ◌↔◌, [], true, false, IfOk, OnOk};
+ghost use Rattle.std.specs.Prelude.{◌≡◌, ◌≤◌, ◌↔◌, [], length, true, false, IfOk, OnOk};
 
 use crate::opening::{Opened, both};
 use crate::step::step;
@@ -64,6 +64,7 @@ impl<S: PropStore> Model for Core<S> {
 impl<S: PropStore> Core<S> {
     ghost use Rattle.init_core.specs.Core.{opened, step_of};
     ghost use Rattle.init_core.specs.declared.machine.CoreStop.TheVariants as CoreStop;
+    ghost use Rattle.init_base.specs.Value.{max_value_len};
     ghost use Rattle.init_machine.specs.History.{sets_in};
     ghost use Rattle.init_machine.specs.Props.{lookup_in, more_sets, IsLookUp};
     ghost use Rattle.init_machine.specs.WellFormed.{IsWellFormed};
@@ -160,8 +161,9 @@ impl<S: PropStore> Core<S> {
     }
 
     /// The store's look-up: none exactly where the name is absent; else the length of the value, which stands at the
-    /// front of `out`, and the number of its set.
-    pub fn get(&mut self, name: PropName<'_>, out: &mut [u8; 91]) -> Option<(usize, u64)>
+    /// front of `out`, and the number of its set. The buffer has room for any value that is legal under the name.
+    pub fn get(&mut self, name: PropName<'_>, out: &mut [u8]) -> Option<(usize, u64)>
+        requires room { max_value_len name.bytes.now ≤ length out.old }
         ensures found { IsLookUp (lookup_in (S.meaning self.old.store).held name.entry.bytes.now) result out.new }
         ensures same { self.new ≡ record self.old { store = self.new.store } }
         ensures meaning { S.meaning self.new.store ≡ S.meaning self.old.store }

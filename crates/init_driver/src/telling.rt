@@ -1,12 +1,13 @@
 //! What clients learn by their requests.
 
-ghost use Rattle.std.specs.Prelude.{◌≡◌, ◌∷◌, [], Some, length, IfOk, OnOk};
+ghost use Rattle.std.specs.Prelude.{◌≡◌, ◌≤◌, ◌∷◌, [], Some, length, IfOk, OnOk};
 ghost use Rattle.init_base.specs.Name.{LegalName};
+ghost use Rattle.init_base.specs.Value.{max_value_len};
 ghost use Rattle.init_driver.specs.Course.{told_at};
 ghost use Rattle.init_driver.specs.Readings.{read_now as read_now_lem, told_now as told_now_lem};
 ghost use Rattle.script_lang.specs.Laws.{IsAskAmong, ReadsLegal};
 
-use init_base::{NoMemory, PropName, Text};
+use init_base::{NoMemory, PropName, Text, ValueBuffer};
 use init_core::Core;
 use init_machine::{ClientPart, ListStore, PropStore, Reading};
 use script_lang::{Act, Ask};
@@ -70,8 +71,11 @@ fn read_now(alloc: Global, core: &mut Core<ListStore>, name: &Text) -> Result<Re
     let Some(legal) = PropName::of(name.bytes()) else {
         unreachable!()
     };
-    let mut buffer = [0; 91];
-    read_into(alloc, core, name, legal, &mut buffer)
+    if legal.is_read_only() {
+        read_into(alloc, core, name, legal, ValueBuffer::new().bytes())
+    } else {
+        read_into(alloc, core, name, legal, &mut [0; 91])
+    }
 }
 
 /// The same over a buffer for the value, of a name that is known to be legal.
@@ -80,9 +84,10 @@ fn read_into(
     core: &mut Core<ListStore>,
     name: &Text,
     legal: PropName<'_>,
-    buffer: &mut [u8; 91],
+    buffer: &mut [u8],
 ) -> Result<Reading, NoMemory>
-    requires { legal.bytes.now ≡ name.now }
+    requires name { legal.bytes.now ≡ name.now }
+    requires room { max_value_len legal.bytes.now ≤ length buffer.old }
     ensures read { IfOk result (λ reading. reading ≡ read_now_lem core.old.state name.now) }
     ensures config { core.new.config ≡ core.old.config }
     ensures policy { core.new.policy ≡ core.old.policy }

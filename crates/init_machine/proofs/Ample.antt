@@ -1,13 +1,14 @@
 -- Where words are left for any name, only the numbers of sets can be used up.
-use Rattle.std.proofs.Common.{◌≡◌, ℕ, suc, ◌+◌, ◌*◌, ◌≤◌, Bool, true, false, not, ◌&&◌, ◌==◌, nat_lt, List, [], ◌∷◌, ◌++◌, length, Option, Some, refl, ap, ◌∙◌, arith, length-append, if◌then◌else◌}
+use Rattle.std.proofs.Common.{◌≡◌, ℕ, suc, ◌+◌, ◌*◌, ◌≤◌, Bool, true, false, not, ◌&&◌, ◌==◌, nat_lt, List, [], ◌∷◌, ◌++◌, length, Option, Some, refl, ap, ◌∙◌, ⊎_elim, arith, length-append, if◌then◌else◌}
+use Rattle.std.proofs.lemmas.Bool.{cases_Bool}
 use Rattle.std.specs.List.{flat_map}
 use Rattle.init_machine.specs.Kept.Nodes.{words_beyond}
 use Rattle.init_machine.specs.Kept.Room.{numbers_full}
-use Rattle.init_machine.specs.Props.{Props, full_for, is_absent, lookup_in, names_of, used_in}
+use Rattle.init_machine.specs.Props.{Props, full_for, is_absent, lookup_in, sizes_of, used_in}
 use Rattle.init_machine.specs.declared.store.Full.{Full}
 use Rattle.init_machine.specs.declared.store.Full.TheVariants.{Words}
-use Rattle.init_machine.specs.Words.{is_among, last_part_from, need_of, node_words, prefixes_from, prefixes_of}
-use Rattle.init_machine.proofs.Needs.{need_beyond}
+use Rattle.init_machine.specs.Words.{is_among, last_part_from, Sized, names_in, cell_words, need_of, node_words, prefixes_from, prefixes_of}
+use Rattle.init_machine.proofs.Needs.{need_beyond, held_needs}
 
 part_within : (n : ℕ) (name : List ℕ) → last_part_from n name ≤ n + length name
 part_within n [] = omega arith
@@ -36,19 +37,22 @@ beyond_within known front (b ∷ rest) short =
       | false ↦ omega (arith, longer)
     ]
 
-need_within : (names : List (List ℕ)) (name : List ℕ) → length name ≤ 255 → need_of names name ≤ 9485
-need_within names name short =
-    let need = need_beyond names name (flat_map prefixes_of names) (λ z. refl) in
-    let beyond = beyond_within (flat_map prefixes_of names) [] name (omega (arith, short)) in
-    omega (arith, need, beyond, short)
+need_within : (sized : List Sized) (name : List ℕ) (len : ℕ) → length name ≤ 255 → need_of sized name len ≤ 9472 + cell_words len
+need_within sized name len short = ⊎_elim
+    (λ (held : is_among (names_in sized) name ≡ true). let none = held_needs sized name len held in omega (arith, none))
+    (λ (absent : is_among (names_in sized) name ≡ false).
+    let need = need_beyond sized name len (flat_map prefixes_of (names_in sized)) absent (λ z. refl) in
+    let beyond = beyond_within (flat_map prefixes_of (names_in sized)) [] name (omega (arith, short)) in
+    omega (arith, need, beyond, short))
+    (cases_Bool (is_among (names_in sized) name))
 
 -- with so many words left, a set has room while there are numbers
-pub room_for_any : (p : Props) (used : ℕ) (name : List ℕ) → length name ≤ 255 → used ≡ used_in p → not (nat_lt p.capacity (used + 9485)) ≡ true
-    → full_for p name ≡ numbers_full p.count
-room_for_any p used name short is left =
-    let need = need_within (names_of p.held) name short in
-    let fits : nat_lt p.capacity (used_in p + need_of (names_of p.held) name) ≡ false = grind (arith, need, left, is) in
-    let full : Option Full = Some (Words (used_in p) (need_of (names_of p.held) name)) in
+pub room_for_any : (p : Props) (used : ℕ) (name : List ℕ) (len : ℕ) → length name ≤ 255 → used ≡ used_in p
+    → not (nat_lt p.capacity (used + (9472 + cell_words len))) ≡ true → full_for p name len ≡ numbers_full p.count
+room_for_any p used name len short is left =
+    let need = need_within (sizes_of p.held) name len short in
+    let fits : nat_lt p.capacity (used_in p + need_of (sizes_of p.held) name len) ≡ false = grind (arith, need, left, is) in
+    let full : Option Full = Some (Words (used_in p) (need_of (sizes_of p.held) name len)) in
     ap (λ b. if is_absent (lookup_in p.held name) && b then full else numbers_full p.count) fits
     ∙ elim (is_absent (lookup_in p.held name)) as (λ b. (if b && false then full else numbers_full p.count) ≡ numbers_full p.count) [
       | true ↦ refl

@@ -1,13 +1,13 @@
--- The words that names take: each order of them takes the same, a held name is there already, and an absent name
+-- The words that properties take: each order of them takes the same, a held name is there already, and an absent name
 -- adds a cell and the nodes of those of its prefixes that are prefixes of no held name.
-use Rattle.std.proofs.Common.{◌≡◌, ℕ, suc, ◌+◌, ◌*◌, true, false, not, ◌||◌, List, [], ◌∷◌, ◌++◌, map, sum, length, refl, sym, ap, ◌∙◌, arith, cond, zero-add, if◌then◌else◌}
-use Rattle.std.specs.List.{filter, flat_map, list_any}
+use Rattle.std.proofs.Common.{◌≡◌, ℕ, ◌+◌, ◌-◌, Bool, true, false, not, ◌||◌, List, [], ◌∷◌, ◌++◌, map, sum, refl, sym, ap, ◌∙◌, arith, cond, zero-add, if◌then◌else◌}
+use Rattle.std.specs.List.{filter, flat_map, list_any, sum_by}
 use Rattle.std.specs.List.Sorted.{IsPermutation}
 use Rattle.std.specs.Str.{bytes_eq}
 use Rattle.std.proofs.lemmas.List.Sums.{sum-map}
 use Rattle.std.proofs.lemmas.List.Recursion.{is_sum_by}
-use Rattle.std.proofs.lemmas.List.Sorted.{list_any-IsPermutation, length_permutation, IsPermutation-to_front}
-use Rattle.init_machine.specs.Words.{is_among, distinct, prefixes_of, node_words, nodes_of, used_of, need_of}
+use Rattle.std.proofs.lemmas.List.Sorted.{list_any-IsPermutation, sum_by-IsPermutation, IsPermutation-map, IsPermutation-to_front}
+use Rattle.init_machine.specs.Words.{is_among, distinct, prefixes_of, node_words, nodes_of, Sized, names_in, cell_words, cells_of, used_of, need_of}
 use Rattle.init_machine.specs.Kept.Nodes.{SameMembers, total_beyond, words_beyond}
 use Rattle.init_machine.proofs.DistinctSums.{there_already, IsSet, total, total-same, total-front, among-append}
 use Rattle.init_machine.proofs.Prefixes.{prefixes-are, set-parts}
@@ -24,29 +24,35 @@ same_prefixes : (xs ys : List (List ℕ)) → IsPermutation xs ys → SameMember
 same_prefixes xs ys moved z =
     among-flat_map xs z ∙ list_any-IsPermutation (λ n. is_among (prefixes_of n) z) xs ys moved ∙ sym (among-flat_map ys z)
 
--- the words that names take, by the sum of their nodes
-pub used-total : (names : List (List ℕ)) → used_of names ≡ 16 + total node_words (nodes_of names) + 13 * length names
+-- the words that properties take, by the sum of their nodes
+pub used-total : (sized : List Sized) → used_of sized ≡ 16 + total node_words (nodes_of (names_in sized)) + cells_of sized
 unfolding used_of
-used-total names = ap (λ n. 16 + n + 13 * length names) (sum-total (nodes_of names))
+used-total sized = ap (λ n. 16 + n + cells_of sized) (sum-total (nodes_of (names_in sized)))
 
--- each order of the names takes the same words
-pub used_permuted : (xs ys : List (List ℕ)) → IsPermutation xs ys → used_of xs ≡ used_of ys
+cells-sum_by : (sized : List Sized) → cells_of sized ≡ sum_by (λ (s : Sized). cell_words s.1) sized
+cells-sum_by sized = is_sum_by (λ xs. cells_of xs) (λ (s : Sized). cell_words s.1) refl (λ _ _. refl) sized
+
+-- each order of the properties takes the same words
+pub used_permuted : (xs ys : List Sized) → IsPermutation xs ys → used_of xs ≡ used_of ys
 used_permuted xs ys moved =
-    let nodes : total node_words (nodes_of xs) ≡ total node_words (nodes_of ys) =
-    total-same node_words (flat_map prefixes_of xs) (flat_map prefixes_of ys) (same_prefixes xs ys moved) in
-    let count = length_permutation xs ys moved in
-    used-total xs ∙ ap (λ n. 16 + n + 13 * length xs) nodes ∙ ap (λ n. 16 + total node_words (nodes_of ys) + 13 * n) (sym count) ∙ sym (used-total ys)
+    let names = IsPermutation-map (λ (s : Sized). s.0) xs ys moved in
+    let nodes : total node_words (nodes_of (names_in xs)) ≡ total node_words (nodes_of (names_in ys)) =
+    total-same node_words (flat_map prefixes_of (names_in xs)) (flat_map prefixes_of (names_in ys)) (same_prefixes (names_in xs) (names_in ys) names) in
+    let cells : cells_of xs ≡ cells_of ys = cells-sum_by xs ∙ sym (sum_by-IsPermutation (λ (s : Sized). cell_words s.1) xs ys moved) ∙ sym (cells-sum_by ys) in
+    let before = used-total xs in
+    let after = used-total ys in
+    omega arith
 
--- the words of a name in front of others: its cell, and its prefixes that are no prefixes of those
-used-beyond : (names : List (List ℕ)) (name : List ℕ)
-    → used_of (name ∷ names) ≡ used_of names + (13 + total_beyond node_words (flat_map prefixes_of names) (prefixes_of name))
-used-beyond names name =
-    let rest : List (List ℕ) = flat_map prefixes_of names in
+-- the words of a property in front of others: its cell, and its prefixes that are no prefixes of those
+pub used-beyond : (sized : List Sized) (name : List ℕ) (len : ℕ)
+    → used_of ((name, len) ∷ sized) ≡ used_of sized + (cell_words len + total_beyond node_words (flat_map prefixes_of (names_in sized)) (prefixes_of name))
+used-beyond sized name len =
+    let rest : List (List ℕ) = flat_map prefixes_of (names_in sized) in
     let set : IsSet (prefixes_of name) = rw (prefixes-are name) (set-parts name) in
     let front : total node_words (distinct (prefixes_of name ++ rest)) ≡ total_beyond node_words rest (prefixes_of name) + total node_words (distinct rest) =
     total-front node_words (prefixes_of name) rest set in
-    let more : used_of (name ∷ names) ≡ 16 + total node_words (distinct (prefixes_of name ++ rest)) + 13 * suc (length names) = used-total (name ∷ names) in
-    let less : used_of names ≡ 16 + total node_words (distinct rest) + 13 * length names = used-total names in
+    let more : used_of ((name, len) ∷ sized) ≡ 16 + total node_words (distinct (prefixes_of name ++ rest)) + (cell_words len + cells_of sized) = used-total ((name, len) ∷ sized) in
+    let less : used_of sized ≡ 16 + total node_words (distinct rest) + cells_of sized = used-total sized in
     omega arith
 
 total_beyond-same : (w : List ℕ → ℕ) (known others xs : List (List ℕ)) → SameMembers known others → total_beyond w known xs ≡ total_beyond w others xs
@@ -54,21 +60,27 @@ total_beyond-same w known others [] same = refl
 total_beyond-same w known others (x ∷ xs) same =
     ap (λ b. (if b then 0 else w x) + total_beyond w known xs) (same x) ∙ ap (λ n. (if is_among others x then 0 else w x) + n) (total_beyond-same w known others xs same)
 
--- what a name needs, where the known prefixes are those of the names
-pub need_beyond : (names : List (List ℕ)) (name : List ℕ) (known : List (List ℕ)) → SameMembers known (flat_map prefixes_of names)
-    → 13 + words_beyond known (prefixes_of name) ≡ need_of names name
+-- what an absent name needs, where the known prefixes are those of the names
+pub need_beyond : (sized : List Sized) (name : List ℕ) (len : ℕ) (known : List (List ℕ)) → is_among (names_in sized) name ≡ false
+    → SameMembers known (flat_map prefixes_of (names_in sized)) → cell_words len + words_beyond known (prefixes_of name) ≡ need_of sized name len
 unfolding need_of
-need_beyond names name known same =
-    let beyond = used-beyond names name in
-    let known_too = total_beyond-same node_words known (flat_map prefixes_of names) (prefixes_of name) same in
-    omega arith
+need_beyond sized name len known absent same =
+    let beyond = used-beyond sized name len in
+    let known_too = total_beyond-same node_words known (flat_map prefixes_of (names_in sized)) (prefixes_of name) same in
+    let more : cell_words len + words_beyond known (prefixes_of name) ≡ used_of ((name, len) ∷ sized) - used_of sized = omega arith in
+    more ∙ ap (λ (b : Bool). if b then 0 else used_of ((name, len) ∷ sized) - used_of sized) (sym absent)
+
+pub held_needs : (sized : List Sized) (name : List ℕ) (len : ℕ) → is_among (names_in sized) name ≡ true → need_of sized name len ≡ 0
+unfolding need_of
+held_needs sized name len held = ap (λ (b : Bool). if b then 0 else used_of ((name, len) ∷ sized) - used_of sized) held
 
 -- an absent name at the end
-pub used_end : (names : List (List ℕ)) (name : List ℕ) → used_of (names ++ name ∷ []) ≡ used_of names + need_of names name
-unfolding need_of
-used_end names name =
-    let front = used-beyond names name in
-    let end = used_permuted (names ++ name ∷ []) (name ∷ names) (IsPermutation-to_front names name) in
+pub used_end : (sized : List Sized) (name : List ℕ) (len : ℕ) → is_among (names_in sized) name ≡ false
+    → used_of (sized ++ (name, len) ∷ []) ≡ used_of sized + need_of sized name len
+used_end sized name len absent =
+    let front = used-beyond sized name len in
+    let need = need_beyond sized name len (flat_map prefixes_of (names_in sized)) absent (λ z. refl) in
+    let end = used_permuted (sized ++ (name, len) ∷ []) ((name, len) ∷ sized) (IsPermutation-to_front sized (name, len)) in
     omega arith
 
 among-distinct : (xs : List (List ℕ)) (z : List ℕ) → is_among (distinct xs) z ≡ is_among xs z
@@ -90,11 +102,10 @@ beyond-filter w qs (x ∷ xs) =
       | false ↦ ap (λ n. w x + n) (beyond-filter w qs xs)
     ])
 
-pub need_by_new_nodes : (names : List (List ℕ)) (name : List ℕ)
-    → need_of names name ≡ 13 + sum (map node_words (filter (λ prefix. not (is_among (nodes_of names) prefix)) (prefixes_of name)))
-unfolding need_of
-need_by_new_nodes names name =
-    let beyond = used-beyond names name in
-    let new = beyond-filter node_words (flat_map prefixes_of names) (prefixes_of name) in
-    let nodes = sum-total (filter (λ prefix. not (is_among (nodes_of names) prefix)) (prefixes_of name)) in
+pub need_by_new_nodes : (sized : List Sized) (name : List ℕ) (len : ℕ) → is_among (names_in sized) name ≡ false
+    → need_of sized name len ≡ cell_words len + sum (map node_words (filter (λ prefix. not (is_among (nodes_of (names_in sized)) prefix)) (prefixes_of name)))
+need_by_new_nodes sized name len absent =
+    let need = need_beyond sized name len (flat_map prefixes_of (names_in sized)) absent (λ z. refl) in
+    let new = beyond-filter node_words (flat_map prefixes_of (names_in sized)) (prefixes_of name) in
+    let nodes = sum-total (filter (λ prefix. not (is_among (nodes_of (names_in sized)) prefix)) (prefixes_of name)) in
     omega arith

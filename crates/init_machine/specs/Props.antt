@@ -2,7 +2,8 @@
 -- as the list of its entries in the order of their first set; and what a set does to it (AOSP, system properties).
 use Rattle.std.specs.Prelude.{◌≡◌, ℕ, ◌+◌, Bool, true, false, ◌&&◌, ◌==◌, nat_lt, List, [], ◌∷◌, ◌++◌, length, take, Option, Some, None, if◌then◌else◌}
 use Rattle.std.specs.Str.{bytes_eq}
-use Rattle.init_machine.specs.Words.{used_of, need_of}
+use Rattle.init_base.specs.Name.{is_read_only}
+use Rattle.init_machine.specs.Words.{Sized, used_of, need_of}
 use Rattle.init_machine.specs.declared.store.Full.{Full}
 use Rattle.init_machine.specs.declared.store.Full.TheVariants.{Words, Numbers}
 
@@ -39,6 +40,16 @@ abbrev pub names_of : List Property → List (List ℕ)
 names_of [] = []
 names_of (h ∷ rest) = h.name ∷ names_of rest
 
+-- the names with the lengths of their values
+abbrev pub sizes_of : List Property → List Sized
+sizes_of [] = []
+sizes_of (h ∷ rest) = (h.name, length h.value) ∷ sizes_of rest
+
+-- the number of the set that gave the value, none where the property is absent
+abbrev pub number_of : Option Property → Option ℕ
+number_of None = None
+number_of (Some h) = Some h.number
+
 abbrev pub is_absent : Option Property → Bool
 is_absent None = true
 is_absent (Some h) = false
@@ -53,19 +64,23 @@ with_set p name value = record {
 
 -- the words in use
 abbrev pub used_in : Props → ℕ
-used_in p = used_of (names_of p.held)
+used_in p = used_of (sizes_of p.held)
 
 -- the largest number of a set, 2 ^ 55 - 1, since a serial has 55 bits for it
 abbrev pub last_number : ℕ
 last_number = 36028797018963967
 
--- why a set of the name has no room, none where it has: the name is absent, and the words in use and those that it
--- needs pass the capacity; else the count is the last number
-abbrev pub full_for : Props → List ℕ → Option Full
-full_for p name =
-    if is_absent (lookup_in p.held name) && nat_lt p.capacity (used_in p + need_of (names_of p.held) name)
-    then Some (Words (used_in p) (need_of (names_of p.held) name))
+-- why a set of the name by a value of so many bytes has no room, none where it has: the name is absent, and the words in use
+-- and those that it needs pass the capacity; else the count is the last number
+abbrev pub full_for : Props → List ℕ → ℕ → Option Full
+full_for p name len =
+    if is_absent (lookup_in p.held name) && nat_lt p.capacity (used_in p + need_of (sizes_of p.held) name len)
+    then Some (Words (used_in p) (need_of (sizes_of p.held) name len))
     else (if p.count == last_number then Some (Numbers p.count) else None)
+
+-- a name that begins with `ro.` is set once
+abbrev pub MayBeSet : Props → List ℕ → Type 0
+MayBeSet p name = is_absent (lookup_in p.held name) ≡ false → is_read_only name ≡ false
 
 -- none for an absent name; else the length of the value and the number of its set, and the value stands at the front
 -- of the buffer

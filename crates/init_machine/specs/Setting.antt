@@ -1,11 +1,12 @@
 -- Sets of properties: whether a set is accepted, and what it does (AOSP, system properties; the order of the refusals, the
--- 91 bytes for `ro.` properties too, and that `ctl.start` and the like are allowed by their own names, for all services at
+-- 8,191 bytes for `ro.` properties, and that `ctl.start` and the like are allowed by their own names, for all services at
 -- once, are this project's profile).
-use Rattle.std.specs.Prelude.{ℕ, ◌+◌, Bool, false, not, ◌&&◌, List, [], ◌∷◌, ◌++◌, codes, nat_eq, Option, Some, None, is_none, if◌then◌else◌}
+use Rattle.std.specs.Prelude.{ℕ, ◌+◌, Bool, false, not, ◌&&◌, List, [], ◌∷◌, ◌++◌, codes, length, nat_eq, Option, Some, None, is_none, if◌then◌else◌}
 use Rattle.std.specs.List.{list_any, starts_with}
 use Rattle.std.specs.Str.{bytes_eq}
+pub use Rattle.init_base.specs.Name.{is_read_only}
 use Rattle.init_base.specs.Name.{is_legal_name}
-use Rattle.init_base.specs.Value.{value_fault}
+use Rattle.init_base.specs.Value.{value_fault_under}
 use Rattle.init_base.specs.declared.value.BadValue.{BadValue}
 use Rattle.init_base.specs.declared.value.BadValue.TheVariants.{TooLong, NotUtf8}
 use Rattle.init_machine.specs.Changes.{Change, change, nothing}
@@ -36,9 +37,6 @@ begins name beginning = starts_with nat_eq name beginning
 
 abbrev pub is_control : List ℕ → Bool
 is_control name = begins name (codes "ctl.")
-
-abbrev pub is_read_only : List ℕ → Bool
-is_read_only name = begins name (codes "ro.")
 
 abbrev pub is_persistent : List ℕ → Bool
 is_persistent name = begins name (codes "persist.")
@@ -99,9 +97,9 @@ abbrev pub property_refusals : PolicyLines → Props → Option (List ℕ) → L
 property_refusals policy props by name value =
     denied policy by name
     ∷ only_if (not (is_typed (context_of policy name).kind value)) refusal.InvalidType
-    ∷ bad_value (value_fault value)
+    ∷ bad_value (value_fault_under name value)
     ∷ read_only props name
-    ∷ no_room (full_for props name)
+    ∷ no_room (full_for props name (length value))
     ∷ []
 
 -- the answer to a set: the first refusal whose condition holds, or none, and then the set is accepted

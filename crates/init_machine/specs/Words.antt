@@ -1,8 +1,8 @@
--- Names in the property area, in words of 64 bits (after bionic's prop_area; the layout is this project's profile): 16
+-- Properties in the property area, in words of 64 bits (after bionic's prop_area; the layout is this project's profile): 16
 -- for the head; for each distinct dotted prefix of the names a node, which is five words and its part's bytes, eight to
--- a word; for each name a cell, which is a serial and the twelve value words that hold the 91 bytes of any legal value. (46
--- is the dot.)
-use Rattle.std.specs.Prelude.{ℕ, ◌+◌, ◌-◌, ◌*◌, ◌/◌, Bool, false, ◌||◌, ◌==◌, List, [], ◌∷◌, ◌++◌, length, map, sum, if◌then◌else◌}
+-- a word; for each name a cell. A short cell is a serial and twelve value words, for a value of up to 91 bytes. A long cell is a
+-- serial, the value's length, and its words. (46 is the dot.)
+use Rattle.std.specs.Prelude.{ℕ, ◌+◌, ◌-◌, ◌*◌, ◌/◌, Bool, false, ◌||◌, ◌==◌, nat_le, List, [], ◌∷◌, ◌++◌, length, map, sum, if◌then◌else◌}
 use Rattle.std.specs.List.{flat_map}
 use Rattle.std.specs.Str.{bytes_eq}
 
@@ -39,10 +39,26 @@ distinct (x ∷ xs) = if is_among xs x then distinct xs else x ∷ distinct xs
 abbrev pub nodes_of : List (List ℕ) → List (List ℕ)
 nodes_of names = distinct (flat_map prefixes_of names)
 
--- the words that names take
-unfoldable pub used_of : List (List ℕ) → ℕ
-used_of names = 16 + sum (map node_words (nodes_of names)) + 13 * length names
+-- the words of the cell of a value of so many bytes
+abbrev pub cell_words : ℕ → ℕ
+cell_words len = if nat_le len 91 then 13 else 2 + (len + 7) / 8
 
--- the words that an absent name would add
-unfoldable pub need_of : List (List ℕ) → List ℕ → ℕ
-need_of names name = used_of (name ∷ names) - used_of names
+-- a map, as far as its words tell: each name with the length of its value
+abbrev pub Sized : Type 0
+Sized = List ℕ × ℕ
+
+abbrev pub names_in : List Sized → List (List ℕ)
+names_in sized = map (λ (s : Sized). s.0) sized
+
+-- the words of the cells
+abbrev pub cells_of : List Sized → ℕ
+cells_of [] = 0
+cells_of (s ∷ sized) = cell_words s.1 + cells_of sized
+
+-- the words that a map takes
+unfoldable pub used_of : List Sized → ℕ
+used_of sized = 16 + sum (map node_words (nodes_of (names_in sized))) + cells_of sized
+
+-- the words that a set of the name would add, by a value of so many bytes: none where the name is in the map
+unfoldable pub need_of : List Sized → List ℕ → ℕ → ℕ
+need_of sized name len = if is_among (names_in sized) name then 0 else used_of ((name, len) ∷ sized) - used_of sized

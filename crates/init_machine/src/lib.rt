@@ -16,6 +16,7 @@ mod input;
 mod laws;
 mod limit;
 mod list_store;
+mod look_up;
 mod node;
 mod number;
 mod output;
@@ -36,11 +37,12 @@ pub use diagnostic::{DiagKind, Diagnostic};
 pub use event::Event;
 pub use input::Input;
 pub use laws::{
-    absent_takes_its_need, adds_its_new_nodes, each_word_has_its_text, held_takes_nothing,
-    order_is_free,
+    absent_takes_its_need, adds_its_new_nodes, each_word_has_its_text, held_needs_nothing,
+    held_takes_nothing, order_is_free,
 };
 pub use limit::Limit;
-pub use list_store::ListStore;
+pub use list_store::{ListStore, cell_words};
+pub use look_up::has_value;
 pub use node::Node;
 pub use number::decimal;
 pub use output::{Cause, FsRefusal, How, Output, SetRefusal};

@@ -12,17 +12,21 @@ mod nodes;
 mod room;
 
 use crate::store::{Full, PropStore};
-use entries::{look_up, need_if_absent, set};
+use entries::{look_up, need_if_absent, number_of, set};
 use held::Held;
 use indexmap::{IndexMap, IndexSet};
 use init_base::{NoMemory, PropName, PropValue};
 use name::Name;
+pub use room::cell_words;
 use room::{check_numbers, check_room, has_room_for_any};
 use std::alloc::Global;
 use std::marker::Model;
 
 /// The words in use before the first set.
 const HEAD_WORDS: u64 = 16;
+
+/// The most bytes of any value.
+const MOST_VALUE_BYTES: usize = 8191;
 
 /// More than the dotted prefixes of any name.
 const MAX_PREFIXES: usize = 256;
@@ -32,6 +36,8 @@ const MAX_PREFIXES: usize = 256;
 pub struct ListStore {
     held: IndexMap<Name, Held>,
     prefixes: IndexSet<Name>,
+    /// Where a long value goes that is set next.
+    buffer: Option<Vec<u8>>,
     used: u64,
     count: u64,
     capacity: u64,
@@ -60,6 +66,7 @@ impl ListStore {
         Ok(ListStore {
             held: IndexMap::new(alloc),
             prefixes: IndexSet::new(alloc),
+            buffer: None,
             used: HEAD_WORDS,
             count: 0,
             capacity,
@@ -80,8 +87,12 @@ impl PropStore for ListStore {
 
     ghost Beside = { λ s t. s.props.capacity ≡ t.props.capacity };
 
-    fn get(&mut self, name: PropName<'_>, out: &mut [u8; 91]) -> Option<(usize, u64)> {
+    fn get(&mut self, name: PropName<'_>, out: &mut [u8]) -> Option<(usize, u64)> {
         look_up(&self.held, name.bytes(), out)
+    }
+
+    fn number_of(&mut self, name: PropName<'_>) -> Option<u64> {
+        number_of(&self.held, name.bytes())
     }
 
     fn count(&self) -> u64 {
@@ -92,23 +103,26 @@ impl PropStore for ListStore {
         self.used
     }
 
-    fn room(&mut self, name: PropName<'_>) -> Result<(), Full> {
-        if has_room_for_any(self.used, self.capacity) {
+    fn room(&mut self, name: PropName<'_>, len: usize) -> Result<(), Full> {
+        if has_room_for_any(self.used, len, self.capacity) {
             return check_numbers(self.count);
         }
-        let need = need_if_absent(&self.held, &self.prefixes, name.bytes());
+        let need = need_if_absent(&self.held, &self.prefixes, name.bytes(), len);
         check_room(need, self.used, self.capacity, self.count)
     }
 
-    fn reserve(&mut self, _: Global) -> Result<(), NoMemory> {
+    fn reserve(&mut self, alloc: Global) -> Result<(), NoMemory> {
         self.held.reserve(1)?;
         self.prefixes.reserve(MAX_PREFIXES)?;
+        if self.buffer.is_none() {
+            self.buffer = Some(Vec::with_capacity(alloc, MOST_VALUE_BYTES)?);
+        }
         Ok(())
     }
 
     fn put(&mut self, name: PropName<'_>, value: PropValue<'_>) -> u64 {
         let number = self.count + 1;
-        let held = Held::new(value, number);
+        let held = Held::new(value, number, &mut self.buffer);
         self.used += set(&mut self.held, &mut self.prefixes, name.bytes(), held);
         self.count = number;
         number

@@ -1,8 +1,9 @@
 //! `PropStore`: what a store of properties is to the layers above. Its meaning is `Props` of `specs/Props.antt`.
 
-ghost use Rattle.std.specs.Prelude.{◌≡◌, ◌+◌, ◌≤◌, ◌∷◌, [], ℕ, List, Option, None, OnOk};
+ghost use Rattle.std.specs.Prelude.{◌≡◌, ◌+◌, ◌≤◌, ◌∷◌, [], ℕ, List, length, Option, None, OnOk};
 ghost use Rattle.std.specs.Result.{result_err};
-ghost use Rattle.init_machine.specs.Props.{Props, lookup_in, more_sets, with_set, used_in, full_for, IsLookUp};
+ghost use Rattle.init_base.specs.Value.{LegalValue, max_value_len};
+ghost use Rattle.init_machine.specs.Props.{Props, lookup_in, number_of as number_in, more_sets, with_set, used_in, full_for, IsLookUp, MayBeSet};
 
 use init_base::{NoMemory, PropName, PropValue};
 use std::alloc::Global;
@@ -31,9 +32,18 @@ pub trait PropStore {
     ghost Beside: { Self → Self → Type 0 };
 
     /// None exactly where the name is absent; else the length of the value, which stands at the front of `out`, and
-    /// the number of the set that gave it.
-    fn get(&mut self, name: PropName<'_>, out: &mut [u8; 91]) -> Option<(usize, u64)>
+    /// the number of the set that gave it. The buffer has room for any value that is legal under the name.
+    fn get(&mut self, name: PropName<'_>, out: &mut [u8]) -> Option<(usize, u64)>
+        requires room { max_value_len name.bytes.now ≤ length out.old }
         ensures found { IsLookUp (lookup_in (meaning self.old).held name.entry.bytes.now) result out.new }
+        ensures same { meaning self.new ≡ meaning self.old }
+        ensures told { told self.new ≡ told self.old }
+        ensures spare { spare self.new ≡ spare self.old }
+        ensures beside { Beside self.old self.new };
+
+    /// None exactly where the name is absent; else the number of the set that gave the value. It takes no buffer.
+    fn number_of(&mut self, name: PropName<'_>) -> Option<u64>
+        ensures number { result ≡ number_in (lookup_in (meaning self.old).held name.entry.bytes.now) }
         ensures same { meaning self.new ≡ meaning self.old }
         ensures told { told self.new ≡ told self.old }
         ensures spare { spare self.new ≡ spare self.old }
@@ -47,9 +57,9 @@ pub trait PropStore {
     fn used(&self) -> u64
         ensures { result ≡ used_in (meaning self.now) };
 
-    /// Whether a set of the name has room, and if not, why.
-    fn room(&mut self, name: PropName<'_>) -> Result<(), Full>
-        ensures full { result_err result ≡ full_for (meaning self.old) name.entry.bytes.now }
+    /// Whether a set of the name by a value of so many bytes has room, and if not, why.
+    fn room(&mut self, name: PropName<'_>, len: usize) -> Result<(), Full>
+        ensures full { result_err result ≡ full_for (meaning self.old) name.entry.bytes.now len }
         ensures same { meaning self.new ≡ meaning self.old }
         ensures told { told self.new ≡ told self.old }
         ensures spare { spare self.new ≡ spare self.old }
@@ -64,7 +74,9 @@ pub trait PropStore {
 
     /// Sets the property, and answers the set's number. It can't fail.
     fn put(&mut self, name: PropName<'_>, value: PropValue<'_>) -> u64
-        requires room { full_for (meaning self.old) name.bytes.now ≡ None }
+        requires legal { LegalValue name.bytes.now value.bytes.now }
+        requires room { full_for (meaning self.old) name.bytes.now (length value.bytes.now) ≡ None }
+        requires once { MayBeSet (meaning self.old) name.bytes.now }
         requires spare { 1 ≤ spare self.old }
         ensures number { result ≡ (meaning self.old).count + 1 }
         ensures set { meaning self.new ≡ with_set (meaning self.old) name.entry.bytes.now value.entry.bytes.now }

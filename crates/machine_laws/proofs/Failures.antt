@@ -1,7 +1,7 @@
 -- What is answered where a set, a call on the tree or an expansion fails has a text; and what an accepted set says.
 use Rattle.std.proofs.Common.{◌≡◌, ℕ, Bool, true, false, not, ◌||◌, nat_lt, List, [], ◌∷◌, length, Option, Some, None, is_none, Result, Ok, Err, if◌then◌else◌, refl}
 use Rattle.init_base.specs.Name.{is_legal_name}
-use Rattle.init_base.specs.Value.{value_fault}
+use Rattle.init_base.specs.Value.{value_fault_under}
 use Rattle.init_base.specs.declared.value.BadValue.{BadValue}
 use Rattle.init_base.specs.declared.value.BadValue.TheVariants.{TooLong, NotUtf8}
 use Rattle.init_machine.specs.Choices.{first_of, only_if}
@@ -98,8 +98,8 @@ answer_has_text rules s by name value =
           (
             if_only RefusalHasText (not (is_typed (context_of rules.policy name).kind value)) refusal.InvalidType tt,
             (
-              value_has_text (value_fault value),
-              (read_only_has_text (is_read_only name) (lookup_in s.props.held name), (room_has_text (full_for s.props name), tt)),
+              value_has_text (value_fault_under name value),
+              (read_only_has_text (is_read_only name) (lookup_in s.props.held name), (room_has_text (full_for s.props name (length value)), tt)),
             ),
           ),
         ),
@@ -142,7 +142,7 @@ not_held (Some property) none = absurd (cc)
 pub record Accepted (rules : Rules) (s : State) (name value : List ℕ) : Type 0 where
   pub on : s.over ≡ None
   pub legal : is_legal_name name ≡ true
-  pub sound : is_control name ≡ false → value_fault value ≡ None
+  pub sound : is_control name ≡ false → value_fault_under name value ≡ None
   pub fresh : is_control name ≡ false → is_read_only name ≡ true → lookup_in s.props.held name ≡ None
 
 choice_false : {T : Type 0} (b : Bool) (first second : List (Option T)) → NoneOf (if b then first else second) → b ≡ false → NoneOf second
@@ -164,7 +164,7 @@ accepted rules s by name value none =
     record {
       on = not_down s.over all.0;
       legal = not_not (is_legal_name name) (not_only_if (not (is_legal_name name)) refusal.InvalidName all.1.0);
-      sound = λ plain. no_fault (value_fault value) (of_property plain).1.1.0;
+      sound = λ plain. no_fault (value_fault_under name value) (of_property plain).1.1.0;
       fresh = λ plain once. read_only_none (is_read_only name) (lookup_in s.props.held name) (of_property plain).1.1.1.0 once;
     }
 

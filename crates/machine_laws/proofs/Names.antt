@@ -1,10 +1,10 @@
 -- Names by their beginning, and values without a fault.
-use Rattle.std.proofs.Common.{◌≡◌, ℕ, Bool, true, false, ◌&&◌, nat_eq, nat_lt, nat_le, List, ◌++◌, length, drop, codes, Some, None, if◌then◌else◌, refl, ap, arith}
+use Rattle.std.proofs.Common.{◌≡◌, ℕ, Bool, true, false, ◌&&◌, nat_eq, nat_lt, nat_le, List, ◌++◌, length, drop, codes, Some, None, if◌then◌else◌, refl, ap, subst, arith}
 use Rattle.std.proofs.lemmas.Bool.Decides.{Decides-eqb, nat_tests}
 use Rattle.std.proofs.lemmas.Slice.Eq.{starts_is}
 use Rattle.std.specs.List.{starts_with}
 use Rattle.std.specs.Str.{is_utf8}
-use Rattle.init_base.specs.Value.{is_legal_value, value_fault}
+use Rattle.init_base.specs.Value.{fault_past, is_short_value, value_fault_under}
 use Rattle.init_base.specs.declared.value.BadValue.TheVariants.{TooLong, NotUtf8}
 use Rattle.init_machine.specs.Setting.{is_control, is_read_only, is_persistent}
 
@@ -25,5 +25,9 @@ value_by true utf8 n is none = absurd (cc)
 value_by false true n is none = ap (λ b. b && true) (short n is)
 value_by false false n is none = absurd (cc)
 
-pub value_is_legal : (value : List ℕ) → value_fault value ≡ None → is_legal_value value ≡ true
-value_is_legal value none = value_by (nat_lt 91 (length value)) (is_utf8 value) (length value) refl none
+pub persistent_is_not_read_only : (name : List ℕ) → is_persistent name ≡ true → is_read_only name ≡ false
+persistent_is_not_read_only name begins = ap is_read_only (begins_with name (codes "persist.") begins)
+
+pub value_is_short : (name value : List ℕ) → is_read_only name ≡ false → value_fault_under name value ≡ None → is_short_value value ≡ true
+value_is_short name value often none =
+    value_by (nat_lt 91 (length value)) (is_utf8 value) (length value) refl (subst (λ b. fault_past (if b then 8191 else 91) value ≡ None) often none)

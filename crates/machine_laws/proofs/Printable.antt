@@ -5,7 +5,7 @@ use Rattle.std.proofs.lemmas.Slice.Eq.{bytes_eq-Decides}
 use Rattle.std.specs.List.{AllByRecursion, list_all}
 use Rattle.std.specs.Str.{bytes_eq}
 use Rattle.init_base.specs.Name.{is_legal_name}
-use Rattle.init_base.specs.Value.{is_legal_value}
+use Rattle.init_base.specs.Value.{is_short_value}
 use Rattle.init_machine.specs.Changes.{Change, nothing, unless_over, and_then, each}
 use Rattle.init_machine.specs.Effect.{keep_saved, set_saved, save_from_now, load_saved}
 use Rattle.init_machine.specs.History.{after, Legal, inputs_of}
@@ -22,7 +22,7 @@ use Rattle.machine_laws.proofs.Ascending.{Ascends, from_ascend, to_ascend, all_w
 use Rattle.machine_laws.proofs.Failures.{Accepted, accepted}
 use Rattle.machine_laws.proofs.Members.{all_map, all_filter, all_tests, test_all}
 use Rattle.machine_laws.proofs.Options.{value_is_none}
-use Rattle.machine_laws.proofs.Names.{persistent_is_no_control, value_is_legal}
+use Rattle.machine_laws.proofs.Names.{persistent_is_no_control, persistent_is_not_read_only, value_is_short}
 use Rattle.machine_laws.proofs.Relation.{By, Sets}
 use Rattle.machine_laws.proofs.Stepping.{Clocks, Steps, tick_by, exit_by, step_by, history_by}
 use Rattle.machine_laws.proofs.Tests.{left_holds, both_hold, fails_not}
@@ -52,8 +52,8 @@ same_saves s t saved saving was = record {
 -- an accepted set of a persistent property can be printed
 accepted_prints : (rules : Rules) (s : State) (name value : List ℕ) → Accepted rules s name value → is_persistent name ≡ true → IsPrintable (pair name value)
 accepted_prints rules s name value accepted named =
-    both_hold (is_legal_name name && is_persistent name) (is_legal_value value) (both_hold (is_legal_name name) (is_persistent name) accepted.legal named)
-    (value_is_legal value (accepted.sound (persistent_is_no_control name named)))
+    both_hold (is_legal_name name && is_persistent name) (is_short_value value) (both_hold (is_legal_name name) (is_persistent name) accepted.legal named)
+    (value_is_short name value (persistent_is_not_read_only name named) (accepted.sound (persistent_is_no_control name named)))
 
 -- a set
 put_saves : (rules : Rules) (s : State) (by : Option (List ℕ)) (name value : List ℕ) → set_answer rules s by name value ≡ None

@@ -1,11 +1,11 @@
 //! Whether a set of a property is accepted (`set_answer` of `init_machine`'s `specs/Setting.antt`).
 
-ghost use Rattle.std.specs.Prelude.{◌≡◌, None, IfOk, OnOk, false, not};
+ghost use Rattle.std.specs.Prelude.{◌≡◌, None, IfOk, OnOk, false, length, not};
 ghost use Rattle.std.specs.Option.{option_copied};
 ghost use Rattle.init_base.specs.Name.{is_legal_name};
-ghost use Rattle.init_base.specs.Value.{value_fault};
+ghost use Rattle.init_base.specs.Value.{LegalValue, value_fault_under};
 ghost use Rattle.init_machine.specs.Choices.{first_of, only_if};
-ghost use Rattle.init_machine.specs.Props.{full_for};
+ghost use Rattle.init_machine.specs.Props.{MayBeSet, full_for};
 ghost use Rattle.init_machine.specs.Setting.{bad_value, denied, down, is_control as is_control_lem, no_room, property_refusals, read_only, set_answer};
 ghost use Rattle.machine_parts.specs.Answers.{IsAnswer};
 ghost use Rattle.machine_parts.specs.Parts.{rules_of, state_of};
@@ -17,8 +17,6 @@ use prop_contexts::Policy;
 use prop_rules::check_type;
 
 const CONTROL: &[u8] = b"ctl.";
-
-const READ_ONLY: &[u8] = b"ro.";
 
 /// Whether a set of this name is asked of a service.
 pub fn is_control(name: &[u8]) -> bool
@@ -71,12 +69,13 @@ pub fn legal_name(name: &[u8]) -> Result<PropName<'_>, SetRefusal>
     }
 }
 
-/// The value, if it is legal.
-fn legal_value(value: &[u8]) -> Result<PropValue<'_>, SetRefusal>
-    ensures answer { IsAnswer result (bad_value (value_fault value.entry.now)) }
+/// The value, if it is legal under the name.
+fn legal_value<'a>(name: PropName<'_>, value: &'a [u8]) -> Result<PropValue<'a>, SetRefusal>
+    ensures answer { IsAnswer result (bad_value (value_fault_under name.entry.bytes.now value.entry.now)) }
     ensures same { IfOk result (λ legal. legal.bytes ≡ value.entry) }
+    ensures legal { OnOk result (LegalValue name.entry.bytes.now value.entry.now) }
 {
-    match PropValue::of(value) {
+    match PropValue::under(name, value) {
         Ok(value) => Ok(value),
         Err(BadValue::TooLong { len }) => Err(SetRefusal::ValueTooLong { len: len as u64 }),
         Err(BadValue::NotUtf8) => Err(SetRefusal::NotUtf8),
@@ -86,29 +85,29 @@ fn legal_value(value: &[u8]) -> Result<PropValue<'_>, SetRefusal>
 /// Whether the property may be set again: one that is read only may not.
 fn check_read_only<S: PropStore>(store: &mut S, name: PropName<'_>) -> Result<(), SetRefusal>
     ensures answer { IsAnswer result (read_only (S.meaning store.old) name.entry.bytes.now) }
+    ensures once { OnOk result (MayBeSet (S.meaning store.old) name.entry.bytes.now) }
     ensures same { S.meaning store.new ≡ S.meaning store.old }
     ensures told { S.told store.new ≡ S.told store.old }
     ensures beside { S.Beside store.old store.new }
 {
-    if !name.bytes().starts_with(READ_ONLY) {
+    if !name.is_read_only() {
         return Ok(());
     }
-    let mut value = [0; 91];
-    match store.get(name, &mut value) {
-        Some((_, number)) => Err(SetRefusal::ReadOnly { number }),
+    match store.number_of(name) {
+        Some(number) => Err(SetRefusal::ReadOnly { number }),
         None => Ok(()),
     }
 }
 
-/// Whether there is room for the set.
-fn check_room<S: PropStore>(store: &mut S, name: PropName<'_>) -> Result<(), SetRefusal>
-    ensures answer { IsAnswer result (no_room (full_for (S.meaning store.old) name.entry.bytes.now)) }
-    ensures room { OnOk result (full_for (S.meaning store.old) name.entry.bytes.now ≡ None) }
+/// Whether there is room for a set by a value of so many bytes.
+fn check_room<S: PropStore>(store: &mut S, name: PropName<'_>, len: usize) -> Result<(), SetRefusal>
+    ensures answer { IsAnswer result (no_room (full_for (S.meaning store.old) name.entry.bytes.now len)) }
+    ensures room { OnOk result (full_for (S.meaning store.old) name.entry.bytes.now len ≡ None) }
     ensures same { S.meaning store.new ≡ S.meaning store.old }
     ensures told { S.told store.new ≡ S.told store.old }
     ensures beside { S.Beside store.old store.new }
 {
-    match store.room(name) {
+    match store.room(name, len) {
         Ok(()) => Ok(()),
         Err(Full::Words { used, need }) => Err(SetRefusal::AreaFull { used, need }),
         Err(Full::Numbers { last }) => Err(SetRefusal::NumberSpent { last }),
@@ -125,7 +124,9 @@ fn judge_named<'a, S: PropStore>(
 ) -> Result<PropValue<'a>, SetRefusal>
     ensures answer { IsAnswer result (first_of (property_refusals policy.now (S.meaning store.old) (option_copied by.entry) name.entry.bytes.now value.entry.now)) }
     ensures value { IfOk result (λ legal. legal.bytes ≡ value.entry) }
-    ensures room { OnOk result (full_for (S.meaning store.old) name.entry.bytes.now ≡ None) }
+    ensures legal { OnOk result (LegalValue name.entry.bytes.now value.entry.now) }
+    ensures once { OnOk result (MayBeSet (S.meaning store.old) name.entry.bytes.now) }
+    ensures room { OnOk result (full_for (S.meaning store.old) name.entry.bytes.now (length value.entry.now) ≡ None) }
     ensures same { S.meaning store.new ≡ S.meaning store.old }
     ensures told { S.told store.new ≡ S.told store.old }
     ensures beside { S.Beside store.old store.new }
@@ -134,10 +135,10 @@ fn judge_named<'a, S: PropStore>(
     if !check_type(&policy.context_of(name).kind, value) {
         return Err(SetRefusal::InvalidType);
     }
-    let value = legal_value(value)?;
+    let legal = legal_value(name, value)?;
     check_read_only(store, name)?;
-    check_room(store, name)?;
-    Ok(value)
+    check_room(store, name, value.len())?;
+    Ok(legal)
 }
 
 /// Whether there is a reason against a set of a name that is no control name.
@@ -152,7 +153,9 @@ pub fn judge<'a, S: PropStore>(
     ensures answer { IsAnswer result (set_answer (rules_of parts.old) (state_of S.meaning parts.old) (option_copied by.entry) name.entry.now value.entry.now) }
     ensures name { IfOk result (λ pair. pair.0.bytes ≡ name.entry) }
     ensures value { IfOk result (λ pair. pair.1.bytes ≡ value.entry) }
-    ensures room { OnOk result (full_for (S.meaning parts.old.store) name.entry.now ≡ None) }
+    ensures legal { OnOk result (LegalValue name.entry.now value.entry.now) }
+    ensures once { OnOk result (MayBeSet (S.meaning parts.old.store) name.entry.now) }
+    ensures room { OnOk result (full_for (S.meaning parts.old.store) name.entry.now (length value.entry.now) ≡ None) }
     ensures same { S.meaning parts.new.store ≡ S.meaning parts.old.store }
     ensures told { S.told parts.new.store ≡ S.told parts.old.store }
     ensures beside { S.Beside parts.old.store parts.new.store }

@@ -1,9 +1,10 @@
 //! Sets of properties that are no control names (`init_machine`'s `specs/Setting.antt`).
 
-ghost use Rattle.std.specs.Prelude.{◌≡◌, ◌++◌, ◌∷◌, [], None, IfOk, OnOk, false, if◌then◌else◌, ◌&&◌};
+ghost use Rattle.std.specs.Prelude.{◌≡◌, ◌++◌, ◌∷◌, [], None, IfOk, OnOk, false, length, if◌then◌else◌, ◌&&◌};
 ghost use Rattle.std.specs.Option.{option_copied};
+ghost use Rattle.init_base.specs.Value.{LegalValue};
 ghost use Rattle.init_machine.specs.Pairs.{with_saved};
-ghost use Rattle.init_machine.specs.Props.{full_for};
+ghost use Rattle.init_machine.specs.Props.{MayBeSet, full_for};
 ghost use Rattle.init_machine.specs.Setting.{awaits, change_event, is_control, is_persistent as is_persistent_lem, put_property as put_property_lem, released_lines, set_property as set_property_lem, still_waits, unset_lines};
 ghost use Rattle.init_machine.specs.declared.output.Output.TheVariants as output;
 ghost use Rattle.machine_parts.specs.Parts.{Does, rules_of, state_of};
@@ -93,7 +94,9 @@ fn put_property<S: PropStore>(
 ) -> Result<(), NoMemory>
     requires name { property.bytes.now ≡ name.now }
     requires value { legal.bytes.now ≡ value.now }
-    requires room { full_for (S.meaning parts.old.store) name.now ≡ None }
+    requires legal { LegalValue name.now value.now }
+    requires once { MayBeSet (S.meaning parts.old.store) name.now }
+    requires room { full_for (S.meaning parts.old.store) name.now (length value.now) ≡ None }
     ensures done { OnOk result (Does S.meaning S.told parts.old parts.new (put_property_lem (state_of S.meaning parts.old) name.now value.now)) }
     ensures beside { S.Beside parts.old.store parts.new.store }
 {

@@ -1,6 +1,7 @@
 //! Legal names and values, and a text that threads share.
 
 use init_base::{BadValue, PropName, PropValue, Text};
+use std::alloc::Global;
 use std::test::Fail;
 use std::thread;
 
@@ -10,7 +11,16 @@ fn is_legal_name(name: &[u8]) -> bool {
 
 /// 0 for a legal value, the length of one that is too long, and 1 for one that isn't UTF-8.
 fn value_answer(value: &[u8]) -> usize {
-    match PropValue::of(value) {
+    answer(PropValue::of(value))
+}
+
+/// The same of a value under a name, which is legal.
+fn answer_under(name: &[u8], value: &[u8]) -> Option<usize> {
+    Some(answer(PropValue::under(PropName::of(name)?, value)))
+}
+
+fn answer(judged: Result<PropValue<'_>, BadValue>) -> usize {
+    match judged {
         Ok(_) => 0,
         Err(BadValue::TooLong { len }) => len,
         Err(BadValue::NotUtf8) => 1,
@@ -25,8 +35,34 @@ fn legal_names_and_values(rt: HostRuntime) {
     assert!(rt; is_legal_name(&[b'a'; 255]));
     assert_eq!(rt; value_answer(b""), 0);
     assert_eq!(rt; value_answer(&[b'a'; 91]), 0);
-    assert_eq!(rt; value_answer(&[0xff; 92]), 92);
     assert_eq!(rt; value_answer(b"\xff"), 1);
+    assert!(rt; answer_under(b"b", &[b'a'; 91]) == Some(0));
+    assert!(rt; answer_under(b"b", &[0xff; 92]) == Some(92));
+    assert!(rt; answer_under(b"ro", &[b'a'; 92]) == Some(92));
+    assert!(rt; answer_under(b"ro.b", &[b'a'; 92]) == Some(0));
+    assert!(rt; answer_under(b"ro.b", b"\xff") == Some(1));
+}
+
+/// So many bytes of this kind.
+fn repeated(alloc: Global, byte: u8, count: usize) -> Result<Vec<u8>, Fail> {
+    let mut bytes = Vec::new(alloc);
+    for _ in 0..count {
+        bytes.push(byte)?;
+    }
+    Ok(bytes)
+}
+
+#[test]
+fn long_values(rt: HostRuntime) -> Result<(), Fail> {
+    let alloc = rt.alloc();
+    let longest = repeated(alloc, b'a', 8191)?;
+    assert_eq!(rt; value_answer(&longest), 0);
+    assert!(rt; answer_under(b"ro.b", &longest) == Some(0));
+    assert!(rt; answer_under(b"b", &longest) == Some(8191));
+    let longer = repeated(alloc, 0xff, 8192)?;
+    assert_eq!(rt; value_answer(&longer), 8192);
+    assert!(rt; answer_under(b"ro.b", &longer) == Some(8192));
+    Ok(())
 }
 
 #[test]

@@ -9,7 +9,7 @@ use Rattle.std.proofs.lemmas.Bool.{false≢true}
 use Rattle.hex.specs.Hex.{decode_of}
 use Rattle.hex.specs.declared.error.FromHexError.{FromHexError}
 use Rattle.init_base.specs.Name.{is_legal_name}
-use Rattle.init_base.specs.Value.{is_legal_value}
+use Rattle.init_base.specs.Value.{is_short_value}
 use Rattle.init_machine.specs.declared.config.Pair.{Pair}
 use Rattle.persist_file.specs.Lines.{lacks, IsLineOf, IsValueOf, TakesPair}
 use Rattle.persist_file.specs.Store.{are_saved, names_ascend, ended, line_text, value_text, store_text, BeginsWith, BeginsWithNext, IsStore, IsUnfitAt}
@@ -25,11 +25,11 @@ ValueOrNot text = ((value : List ℕ) × IsValueOf text value) ⊎ ((value : Lis
 
 found_or_not : (text found : List ℕ) → (text ≡ codes "-" → ⊥) → decode_of text ≡ Ok found → ValueOrNot text
 unfolding ValueOrNot
-found_or_not text found other h = by (is_legal_value found) (bytes_eq (value_text found) text) refl refl
+found_or_not text found other h = by (is_short_value found) (bytes_eq (value_text found) text) refl refl
   where
-    by : (legal same : Bool) → is_legal_value found ≡ legal → bytes_eq (value_text found) text ≡ same
+    by : (legal same : Bool) → is_short_value found ≡ legal → bytes_eq (value_text found) text ≡ same
         → ((value : List ℕ) × IsValueOf text value) ⊎ ((value : List ℕ) → IsValueOf text value → ⊥)
-    by false same e f = inr (λ value of. false≢true (sym e ∙ sym (ap is_legal_value (one_value text found other h value of)) ∙ of.0))
+    by false same e f = inr (λ value of. false≢true (sym e ∙ sym (ap is_short_value (one_value text found other h value of)) ∙ of.0))
     by true false e f = inr (other_case text found false other h (sym f) refl)
     by true true e f = inl (found, (e, sym (same_text (value_text found) text (sym f))))
 
@@ -65,7 +65,7 @@ parted line name value is none = by (starts_with nat_eq name (codes "persist."))
         inl (
           record { name = name; value = v },
           (
-            join (is_legal_name name && starts_with nat_eq name (codes "persist.")) (is_legal_value v) (join (is_legal_name name) (starts_with nat_eq name (codes "persist.")) f e) legal,
+            join (is_legal_name name && starts_with nat_eq name (codes "persist.")) (is_short_value v) (join (is_legal_name name) (starts_with nat_eq name (codes "persist.")) f e) legal,
             is ∙ ap (λ t. name ++ 32 ∷ t) text,
           ),
         )

@@ -6,7 +6,7 @@ use Rattle.std.proofs.lemmas.List.Folds.{list_all-append}
 use Rattle.hex.specs.Hex.{IsBytes, encode_lower, encode_with, lower_digits, hex_digit_value}
 use Rattle.hex.proofs.HexLemmas.{IsDigits-lower_digits}
 use Rattle.init_base.specs.Name.{LegalName, is_legal_name, is_name_byte, has_only_lone_dots}
-use Rattle.init_base.specs.Value.{is_legal_value}
+use Rattle.init_base.specs.Value.{is_short_value}
 use Rattle.init_machine.specs.declared.config.Pair.{Pair}
 use Rattle.persist_file.specs.Lines.{lacks, IsLineOf, IsValueOf}
 use Rattle.persist_file.specs.Store.{is_saved, line_text, value_text}
@@ -30,11 +30,11 @@ lacks_from q c fails (x ∷ xs) h =
 pub record Saved (pair : Pair) : Type 0 where
   pub name : is_legal_name pair.name ≡ true
   pub front : starts_with nat_eq pair.name (codes "persist.") ≡ true
-  pub value : is_legal_value pair.value ≡ true
+  pub value : is_short_value pair.value ≡ true
 
 pub saved_parts : (pair : Pair) → IsTrue (is_saved pair) → Saved pair
 saved_parts pair h =
-    let p = and_parts (is_legal_name pair.name && starts_with nat_eq pair.name (codes "persist.")) (is_legal_value pair.value) h in
+    let p = and_parts (is_legal_name pair.name && starts_with nat_eq pair.name (codes "persist.")) (is_short_value pair.value) h in
     let q = and_parts (is_legal_name pair.name) (starts_with nat_eq pair.name (codes "persist.")) p.0 in
     record { name = q.0; front = q.1; value = p.1 }
 
@@ -60,7 +60,7 @@ digits_lack (b ∷ rest) h =
     join (not (slice_index lower_digits (b / 16) == 10)) _ (ap not (no_digit (b / 16) (omega arith)))
     (join (not (slice_index lower_digits (b % 16) == 10)) _ (ap not (no_digit (b % 16) (omega arith))) (digits_lack rest (tail_bytes b rest h)))
 
-value_lacks : (value : List ℕ) → is_legal_value value ≡ true → lacks 10 (value_text value) ≡ true
+value_lacks : (value : List ℕ) → is_short_value value ≡ true → lacks 10 (value_text value) ≡ true
 value_lacks [] h = refl
 value_lacks (b ∷ rest) h = digits_lack (b ∷ rest) (legal_bytes (b ∷ rest) h)
 

@@ -10,7 +10,7 @@ use Rattle.std.proofs.lemmas.List.Folds.{list_all-append}
 use lib.Utf8.{scalar, scalars, scalar_cases, encode, encodes, next}
 use Rattle.hex.specs.Hex.{IsBytes, decode_of}
 use Rattle.hex.proofs.HexLemmas.{decode_of-encode_lower}
-use Rattle.init_base.specs.Value.{is_legal_value, value_fault}
+use Rattle.init_base.specs.Value.{is_short_value, short_value_fault}
 use Rattle.init_base.specs.declared.value.BadValue.{BadValue}
 use Rattle.persist_file.specs.Lines.{IsValueOf}
 use Rattle.persist_file.specs.Store.{value_text}
@@ -61,7 +61,7 @@ byte_at [] h i = omega arith
 byte_at (x ∷ xs) h zero = ltb-true x 256 (and_parts (is_byte x) (are_bytes xs) h).0
 byte_at (x ∷ xs) h (suc i) = byte_at xs (and_parts (is_byte x) (are_bytes xs) h).1 i
 
-pub legal_bytes : (value : List ℕ) → is_legal_value value ≡ true → IsBytes value
+pub legal_bytes : (value : List ℕ) → is_short_value value ≡ true → IsBytes value
 unfolding is_utf8
 legal_bytes value h =
     let utf8 = (and_parts _ (is_utf8 value) h).1 in
@@ -70,7 +70,7 @@ legal_bytes value h =
 
 -- ---- a text of a value
 
-decoded : (value : List ℕ) → is_legal_value value ≡ true → (value_text value ≡ codes "-" → ⊥) → decode_of (value_text value) ≡ Ok value
+decoded : (value : List ℕ) → is_short_value value ≡ true → (value_text value ≡ codes "-" → ⊥) → decode_of (value_text value) ≡ Ok value
 decoded [] h other = absurd (other refl)
 decoded (b ∷ rest) h other = decode_of-encode_lower (b ∷ rest) (legal_bytes (b ∷ rest) h)
 
@@ -85,7 +85,7 @@ one_value text found other h value (legal, is) =
 
 -- ---- as the reader finds it
 
-legal_empty : is_legal_value [] ≡ true
+legal_empty : is_short_value [] ≡ true
 unfolding is_utf8 chars
 legal_empty = refl
 
@@ -95,20 +95,20 @@ empty_value text value same is equal none = rw none (legal_empty, same_text text
 pub not_empty : (text : List ℕ) (same : Bool) → same ≡ bytes_eq text (codes "-") → same ≡ false → text ≡ codes "-" → ⊥
 not_empty text same is differs h = other_text text (codes "-") (sym differs ∙ is) h
 
-no_fault : (value : List ℕ) → is_legal_value value ≡ true → value_fault value ≡ None
+no_fault : (value : List ℕ) → is_short_value value ≡ true → short_value_fault value ≡ None
 no_fault value h =
     let parts = and_parts (nat_le (length value) 91) (is_utf8 value) h in
     let short : nat_lt 91 (length value) ≡ false = false_from_ne_true _ (λ long. absurd (omega (arith, ltb-true 91 (length value) long, leb-true (length value) 91 parts.0))) in
     rw (short, parts.1) refl
 
-pub faulty : {A : Type 0} (r : Result A BadValue) (value : List ℕ) → result_err r ≡ value_fault value → is_err r ≡ true → is_legal_value value ≡ true → ⊥
+pub faulty : {A : Type 0} (r : Result A BadValue) (value : List ℕ) → result_err r ≡ short_value_fault value → is_err r ≡ true → is_short_value value ≡ true → ⊥
 faulty (Ok x) value fault bad legal = cc bad
 faulty (Err e) value fault bad legal = cc (fault ∙ no_fault value legal)
 
-pub faulty_value : {A : Type 0} (text found : List ℕ) (r : Result A BadValue) → (text ≡ codes "-" → ⊥) → decode_of text ≡ Ok found → result_err r ≡ value_fault found → is_err r ≡ true
+pub faulty_value : {A : Type 0} (text found : List ℕ) (r : Result A BadValue) → (text ≡ codes "-" → ⊥) → decode_of text ≡ Ok found → result_err r ≡ short_value_fault found → is_err r ≡ true
     → (value : List ℕ) → IsValueOf text value → ⊥
 faulty_value text found r other h fault bad value is =
-    faulty r found fault bad (sym (ap is_legal_value (one_value text found other h value is)) ∙ is.0)
+    faulty r found fault bad (sym (ap is_short_value (one_value text found other h value is)) ∙ is.0)
 
 pub other_case : (text found : List ℕ) (same : Bool) → (text ≡ codes "-" → ⊥) → decode_of text ≡ Ok found → same ≡ bytes_eq (value_text found) text → same ≡ false
     → (value : List ℕ) → IsValueOf text value → ⊥
@@ -116,7 +116,7 @@ other_case text found same other h is differs value of =
     other_text (value_text found) text (sym differs ∙ is) (sym (of.1 ∙ ap value_text (one_value text found other h value of)))
 
 -- two legal values of one text are one
-pub same_value : (value other : List ℕ) → is_legal_value value ≡ true → is_legal_value other ≡ true → value_text value ≡ value_text other → value ≡ other
+pub same_value : (value other : List ℕ) → is_short_value value ≡ true → is_short_value other ≡ true → value_text value ≡ value_text other → value ≡ other
 same_value [] [] h i e = refl
 same_value [] (b ∷ rest) h i e = cc (ap decode_of e ∙ decode_of-encode_lower (b ∷ rest) (legal_bytes (b ∷ rest) i))
 same_value (b ∷ rest) [] h i e = cc (ap decode_of (sym e) ∙ decode_of-encode_lower (b ∷ rest) (legal_bytes (b ∷ rest) h))

@@ -1,7 +1,7 @@
 -- What the reader of a store looks for in a line.
 use Rattle.std.specs.Prelude.{◌≡◌, ℕ, Bool, not, ◌==◌, IsTrue, List, [], ◌∷◌, ◌++◌}
 use Rattle.std.specs.List.{list_all}
-use Rattle.init_base.specs.Value.{is_legal_value}
+use Rattle.init_base.specs.Value.{is_short_value}
 use Rattle.init_machine.specs.declared.config.Pair.{Pair}
 use Rattle.persist_file.specs.Store.{are_saved, is_saved, ended, line_text, value_text}
 
@@ -13,7 +13,7 @@ abbrev pub IsLineOf : List ℕ → Pair → Type 0
 IsLineOf line pair = IsTrue (is_saved pair) × (line ≡ line_text pair)
 
 abbrev pub IsValueOf : List ℕ → List ℕ → Type 0
-IsValueOf text value = IsTrue (is_legal_value value) × (text ≡ value_text value)
+IsValueOf text value = IsTrue (is_short_value value) × (text ≡ value_text value)
 
 -- the pair of the first line was taken
 pub record TakesPair (old new : List Pair) (bytes behind : List ℕ) : Type 0 where

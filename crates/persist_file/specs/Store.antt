@@ -4,7 +4,7 @@ use Rattle.std.specs.Prelude.{◌≡◌, ◌≢◌, ℕ, ◌+◌, ⊤, Bool, tru
 use Rattle.std.specs.List.{flat_map, list_all, starts_with}
 use Rattle.hex.specs.Hex.{encode_lower}
 use Rattle.init_base.specs.Name.{is_legal_name}
-use Rattle.init_base.specs.Value.{is_legal_value}
+use Rattle.init_base.specs.Value.{is_short_value}
 use Rattle.init_machine.specs.Pairs.{is_before}
 use Rattle.init_machine.specs.declared.config.Pair.{Pair}
 use Rattle.persist_file.specs.declared.refusal.StoreRefusal.{StoreRefusal}
@@ -25,9 +25,9 @@ ended line = line ++ 10 ∷ []
 abbrev pub store_text : List Pair → List ℕ
 store_text pairs = ended (codes "persist 1") ++ flat_map (λ pair. ended (line_text pair)) pairs
 
--- a pair that may be saved: its name is legal and begins with `persist.`, and its value is legal
+-- a pair that may be saved: its name is legal and begins with `persist.`, and its value is legal under it, so of at most 91 bytes
 abbrev pub is_saved : Pair → Bool
-is_saved pair = is_legal_name pair.name && starts_with nat_eq pair.name (codes "persist.") && is_legal_value pair.value
+is_saved pair = is_legal_name pair.name && starts_with nat_eq pair.name (codes "persist.") && is_short_value pair.value
 
 -- each name is before the next in the order of bytes
 abbrev pub names_ascend : List Pair → Bool

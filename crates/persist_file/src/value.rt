@@ -23,7 +23,7 @@ pub fn read_value(alloc: Global, text: &[u8]) -> Result<Option<Text>, NoMemory>
     let Some(value) = decode(alloc, text)? else {
         return Ok(None);
     };
-    if PropValue::of(&value).is_err() || !is_text_of(alloc, text, &value)? {
+    if PropValue::short(&value).is_err() || !is_text_of(alloc, text, &value)? {
         return Ok(None);
     }
     Ok(Some(Text::of(alloc, &value)?))

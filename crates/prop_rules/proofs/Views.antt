@@ -9,7 +9,7 @@ use Rattle.std.specs.List.{list_any, position_or_len}
 use Rattle.std.specs.Str.{bytes_eq}
 use Rattle.init_base.specs.Name.{is_legal_name}
 use Rattle.init_base.specs.Value.{is_legal_value}
-use Rattle.init_machine.specs.Props.{Property, Props, lookup_in, put_in, value_in, value_of, with_set}
+use Rattle.init_machine.specs.Props.{Property, Props, is_absent, lookup_in, put_in, value_in, value_of, with_set}
 use Rattle.init_machine.specs.declared.config.Pair.{Pair}
 use Rattle.text_index.specs.Texts.{with_text}
 use Rattle.prop_rules.specs.View.{found_or, last_pair, legal_value_of}
@@ -126,7 +126,7 @@ name_more there false None p name same is = rw (is, same) refl
 
 -- what a name's value is now, where the pair is legal and where it isn't
 value_more : (legal named : Bool) (p : Pair) (found : Option Pair) (was : Option (List ℕ)) (name : List ℕ) → bytes_eq p.name name ≡ named
-    → (is_legal_name p.name && is_legal_value p.value) ≡ legal → (named ≡ true → found ≡ None) → was ≡ legal_value_of found
+    → (is_legal_name p.name && is_legal_value p.name p.value) ≡ legal → (named ≡ true → found ≡ None) → was ≡ legal_value_of found
     → (if legal then (if named then Some p.value else was) else was) ≡ legal_value_of (found_or found p name)
 value_more true true p found was name same legal none is = rw (none refl, same, legal) refl
 value_more false true p found was name same legal none is = is ∙ rw (none refl, same, legal) refl
@@ -153,8 +153,8 @@ decides decided new props next p absent added set later shows =
           ∙ ap (λ b. list_any (bytes_eq name) decided || (b || false)) (swapped p.name name (bytes_eq p.name name) refl)
           ∙ name_more (list_any (bytes_eq name) decided) (bytes_eq p.name name) (last_pair later name) p name refl (shows.names name);
       values = λ name.
-          ap (λ q. value_in q name) set ∙ legal_set (is_legal_name p.name && is_legal_value p.value) props p name
-          ∙ value_more (is_legal_name p.name && is_legal_value p.value) (bytes_eq p.name name) p (last_pair later name) (value_in props name) name refl refl
+          ap (λ q. value_in q name) set ∙ legal_set (is_legal_name p.name && is_legal_value p.name p.value) props p name
+          ∙ value_more (is_legal_name p.name && is_legal_value p.name p.value) (bytes_eq p.name name) p (last_pair later name) (value_in props name) name refl refl
           (λ same. ap (λ n. last_pair later n) (sym (same_bytes p.name name same)) ∙ none) (shows.values name);
     }
 
@@ -179,4 +179,17 @@ nothing_shown decided props no_names none = record {
 }
 
 pub illegal_stays : (props : Props) (p : Pair) → is_legal_name p.name ≡ false → props ≡ with_legal props p
-illegal_stays props p e = ap (λ b. if b && is_legal_value p.value then with_set props p.name p.value else props) (sym e)
+illegal_stays props p e = ap (λ b. if b && is_legal_value p.name p.value then with_set props p.name p.value else props) (sym e)
+
+-- ---- a name that isn't decided is absent
+
+no_value : (found : Option Property) → value_of found ≡ None → is_absent found ≡ true
+no_value None none = refl
+no_value (Some h) none = absurd (false≢true (sym (ap is_some none)))
+
+pub undecided : (decided : List (List ℕ)) (props : Props) (name : List ℕ) → ((taken : List Pair) × Shows decided props taken)
+    → is_some (position (bytes_eq name) decided) ≡ false → is_absent (lookup_in props.held name) ≡ true
+undecided decided props name shown absent =
+    let out : list_any (bytes_eq name) decided ≡ false = sym (place_any decided name) ∙ absent in
+    let none : last_pair shown.0 name ≡ None = none_of (last_pair shown.0 name) (sym (shown.1.names name) ∙ out) in
+    no_value (lookup_in props.held name) (shown.1.values name ∙ ap legal_value_of none)

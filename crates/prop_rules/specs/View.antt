@@ -17,7 +17,7 @@ last_pair (p ∷ later) name = found_or (last_pair later name) p name
 
 abbrev pub legal_value_of : Option Pair → Option (List ℕ)
 legal_value_of None = None
-legal_value_of (Some p) = if is_legal_name p.name && is_legal_value p.value then Some p.value else None
+legal_value_of (Some p) = if is_legal_name p.name && is_legal_value p.name p.value then Some p.value else None
 
 -- The value of a name in the view of the pairs: that of its last pair, where that pair's name and value are legal. Where
 -- they aren't, the name is absent, and an earlier pair doesn't come back.

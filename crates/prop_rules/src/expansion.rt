@@ -2,6 +2,7 @@
 
 ghost use Rattle.std.specs.Prelude.{◌≡◌, ◌+◌, ◌<◌, ◌≤◌, length, Ok, IfOk, not, ◌==◌};
 ghost use Rattle.std.specs.List.{list_all};
+ghost use Rattle.init_base.specs.Value.{max_value_len};
 ghost use Rattle.init_machine.specs.Expand.{expand as expand_lem, joined, piece_value, values_of, pieces_of, within_limit};
 ghost use Rattle.init_machine.specs.Props.{value_in};
 ghost use Rattle.prop_rules.specs.Answers.{IsExpansion, IsAppended, AppendsValue};
@@ -9,7 +10,7 @@ ghost use Rattle.prop_rules.specs.Pieces.{meant, piece_at};
 
 use crate::piece::{Dollar, behind_dollar};
 use crate::value::look_up;
-use init_base::{NoMemory, PropName, Text};
+use init_base::{NoMemory, PropName, Text, ValueBuffer};
 use init_machine::PropStore;
 use std::alloc::{AllocError, Global};
 
@@ -62,8 +63,28 @@ fn append_value<S: PropStore>(
     ensures spare { S.spare store.new ≡ S.spare store.old }
     ensures beside { S.Beside store.old store.new }
 {
-    let mut buffer = [0; 91];
-    match look_up(store, name, &mut buffer) {
+    if name.is_read_only() {
+        append_value_by(store, name, out, ValueBuffer::new().bytes())
+    } else {
+        append_value_by(store, name, out, &mut [0; 91])
+    }
+}
+
+/// The same by a buffer that the value is copied to.
+fn append_value_by<S: PropStore>(
+    store: &mut S,
+    name: PropName<'_>,
+    out: &mut Vec<u8>,
+    buffer: &mut [u8],
+) -> Result<bool, ExpandRefusal>
+    requires { max_value_len name.bytes.now ≤ length buffer.old }
+    ensures value { AppendsValue result out.old.items out.new.items (value_in (S.meaning store.old) name.entry.bytes.now) }
+    ensures same { S.meaning store.new ≡ S.meaning store.old }
+    ensures told { S.told store.new ≡ S.told store.old }
+    ensures spare { S.spare store.new ≡ S.spare store.old }
+    ensures beside { S.Beside store.old store.new }
+{
+    match look_up(store, name, buffer) {
         Some(value) if !value.is_empty() => {
             out.extend_from_slice(value)?;
             Ok(true)

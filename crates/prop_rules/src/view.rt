@@ -1,8 +1,9 @@
 //! The view of the build files' pairs against which the paths of imports are expanded. What it gives is `view` of
 //! `specs/View.antt`.
 
-ghost use Rattle.std.specs.Prelude.{◌≡◌, ◌∷◌, ℕ, List as Items, IfOk, OnOk};
-ghost use Rattle.init_machine.specs.Props.{value_in, with_set};
+ghost use Rattle.std.specs.Prelude.{◌≡◌, ◌∷◌, ℕ, List as Items, IfOk, OnOk, true};
+ghost use Rattle.init_base.specs.Value.{LegalValue};
+ghost use Rattle.init_machine.specs.Props.{is_absent, lookup_in, value_in, with_set};
 ghost use Rattle.init_machine.specs.declared.config.Pair.{Pair as AnyPair};
 ghost use Rattle.prop_rules.specs.View.{view as view_lem};
 ghost use Rattle.prop_rules.specs.Code.Views.{Shows, with_legal};
@@ -31,13 +32,14 @@ pub fn boot_view(alloc: Global, pairs: &List<Pair>) -> Result<ListStore, NoMemor
 }
 
 /// Takes the pair before those that were taken, which decide the names that they have.
-#[tactic(auto, using(crate::proofs::Views::decided_stays, crate::proofs::Views::decides))]
+#[tactic(auto, using(crate::proofs::Views::decided_stays, crate::proofs::Views::decides, crate::proofs::Views::undecided))]
 fn take_earlier(
     alloc: Global,
     decided: &mut TextIndex,
     view: &mut ListStore,
     pair: &Pair,
 ) -> Result<(), NoMemory>
+    requires { (taken : Items AnyPair) × Shows decided.old view.old.props taken }
     ensures { OnOk result ((later : Items AnyPair) → Shows decided.old view.old.props later → Shows decided.new view.new.props (pair.now ∷ later)) }
 {
     let name = pair.name.bytes();
@@ -50,12 +52,13 @@ fn take_earlier(
 
 /// Sets the property of a pair, where its name and value are legal.
 fn put_legal(alloc: Global, view: &mut ListStore, pair: &Pair) -> Result<(), NoMemory>
+    requires { is_absent (lookup_in view.old.props.held pair.now.name) ≡ true }
     ensures { OnOk result (view.new.props ≡ with_legal view.old.props pair.now) }
 {
     let Some(name) = PropName::of(pair.name.bytes()) else {
         return Ok(());
     };
-    let Ok(value) = PropValue::of(pair.value.bytes()) else {
+    let Ok(value) = PropValue::under(name, pair.value.bytes()) else {
         return Ok(());
     };
     put(alloc, view, name, value)
@@ -67,10 +70,12 @@ fn put(
     name: PropName<'_>,
     value: PropValue<'_>,
 ) -> Result<(), NoMemory>
+    requires legal { LegalValue name.bytes.now value.bytes.now }
+    requires absent { is_absent (lookup_in view.old.props.held name.bytes.now) ≡ true }
     ensures { OnOk result (view.new.props ≡ with_set view.old.props name.entry.bytes.now value.entry.bytes.now) }
 {
     view.reserve(alloc)?;
-    if view.room(name).is_err() {
+    if view.room(name, value.bytes().len()).is_err() {
         return Err(NoMemory);
     }
     view.put(name, value);

@@ -13,11 +13,11 @@ use Rattle.property_trie.specs.Places.{InCell}
 use Rattle.property_trie.specs.TrieSteps.{tree_of}
 use Rattle.property_trie.proofs.Extending.{extends_self}
 use Rattle.property_area.specs.declared.view.AreaView.{AreaView}
-use Rattle.property_area.specs.Area.{tree_now, Moment, world_of, WordsHold, PartHolds, ViewHolds, AreaHolds}
+use Rattle.property_area.specs.Area.{tree_now, cell_of, Moment, world_of, WordsHold, PartHolds, ViewHolds, AreaHolds}
 use Rattle.property_area.specs.Seats.{settled_view}
 use Rattle.property_area.specs.Kept.Trees.{mark_now, mark_high, adding_else, node_lies, word_else}
 use Rattle.property_area.specs.Kept.Frame.{Mine, mine, clients_later, After, writes, goes_on}
-use Rattle.property_area.specs.Kept.CellStores.{now, stands_beside}
+use Rattle.property_area.specs.Kept.CellStores.{now, stands_beside, serial_apart}
 
 module _ (words : List ℕ) (m : Moment) (h : WordsHold words m) (id : ℕ) (v : AreaView) (view : ViewHolds words m id v) (making : Option Making)
     (is : v.cell ≡ Writer (sets_of v.cell) making) where
@@ -33,7 +33,7 @@ module _ (words : List ℕ) (m : Moment) (h : WordsHold words m) (id : ℕ) (v :
   pub known : Mine words m id v (sets_of v.cell) making
   known = mine words m id v (sets_of v.cell) making view is
 
-  outside : (q : List ℕ) → InCell (find (tree_of m.sets) (parts_of q)) 0 → ⊥
+  outside : (q : List ℕ) → InCell (cell_of m.sets q) 0 → ⊥
   outside q t = let a = t.0 in let b = t.1 in omega arith
 
   room : 0 < length words
@@ -43,6 +43,7 @@ module _ (words : List ℕ) (m : Moment) (h : WordsHold words m) (id : ℕ) (v :
   holds = record {
     few = h.few;
     legal = h.legal;
+    fit = h.fit;
     head = get_or-set_same words 0 n 0 room;
     late = inl (ap (λ (s : List Set). length s) known.sets_are);
     empty = (get_or-set_other words 0 2 n 0 (λ e. omega arith) ∙ h.empty.0, get_or-set_other words 0 3 n 0 (λ e. omega arith) ∙ h.empty.1);
@@ -50,7 +51,7 @@ module _ (words : List ℕ) (m : Moment) (h : WordsHold words m) (id : ℕ) (v :
         (λ t. let low = (node_lies words (tree_now m.sets m.adding) (mark_now m.sets m.adding) (now words m h) 0 t).0 in omega arith)
         (let high = mark_high m.sets m.adding in omega arith);
     made = h.made;
-    cells = λ q some. stands_beside words 0 n m.sets m.making q some (outside q) (λ k small e. omega arith) (h.cells q some);
+    cells = λ q some. stands_beside words 0 n m.sets m.making q h.made some (outside q) (λ k small e. omega arith) (h.cells q some);
   }
 
   pub after : After words m words' m'
@@ -58,7 +59,7 @@ module _ (words : List ℕ) (m : Moment) (h : WordsHold words m) (id : ℕ) (v :
     wide = length-set words 0 n;
     holds = holds;
     later = goes_on words words' m m.making m.adding n (λ q e. e)
-        (λ q. stays (word_else words 0 n (find (tree_of m.sets) (parts_of q)) (outside q)) (λ k value above below e. omega arith));
+        (λ q. stays (word_else words 0 n (find (tree_of m.sets) (parts_of q)) (serial_apart words m h q 0 (outside q))) (λ k value above below e. omega arith));
     extends = extends_self (tree_now m.sets m.adding);
     writer = refl;
     seats = refl;

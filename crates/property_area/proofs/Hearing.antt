@@ -79,12 +79,12 @@ module _ (table : TableId) (v : AreaView) (number : ℕ) (h : IsReaderView table
         let a = subst (λ (c : CellView). Answers with_cell noted c w name (CellFound len value_number) before out after) cell answer in
         let seen : ℕ = max number value_number in
         let reading : Reading = Found name seen a.0 in
-        let heard = hears v w after reading seen walked a.4 in
+        let heard = hears v w after reading seen walked a.5 in
         let low = le-max_left number value_number in
         let was = own in (
-          (a.0, a.1, a.2, a.3, omega arith, heard),
-          seat_after after reading seen heard (rests_after after reading seen a.4),
-          knows_more after place (known_after after reading seen a.4),
+          (a.0, a.1, a.2, a.3, a.4, omega arith, heard),
+          seat_after after reading seen heard (rests_after after reading seen a.5),
+          knows_more after place (known_after after reading seen a.5),
         )
 
     pub reads_again : (first second : ℕ) (before out : List ℕ) (after : AreaView) → Answers with_cell noted w.cell w name (CellAgain first second) before out after

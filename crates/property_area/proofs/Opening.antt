@@ -27,6 +27,10 @@ first_words : (n : ℕ) → 64 ≤ n → WordsHold (replicate n zero) first_mome
 first_words n wide = record {
   few = omega arith;
   legal = λ i set e. absurd (some-ne-none set (sym e));
+  fit = record {
+    fits = λ i set e. absurd (some-ne-none set (sym e));
+    once = λ i j name long other e. absurd (some-ne-none (name, long) (sym e));
+  };
   head = zeros n 0;
   late = inl refl;
   empty = (zeros n 2, zeros n 3);

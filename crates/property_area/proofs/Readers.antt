@@ -138,6 +138,7 @@ module _ (words : List ℕ) (m : Moment) (out : List (ℕ × ℕ)) (seats : ℕ)
   words_on h = record {
     few = h.few;
     legal = h.legal;
+    fit = h.fit;
     head = h.head;
     late = h.late;
     empty = h.empty;

@@ -4,6 +4,8 @@ use Rattle.std.specs.Str.{bytes_eq}
 use mathlib.Core.Option.{some}
 use lib.ListN.{get_elem?}
 use Rattle.atomic_table.specs.Table.{State}
+use Rattle.init_base.specs.Value.{max_value_len}
+use Rattle.init_machine.specs.Words.{cell_words}
 use Rattle.init_machine.specs.Sets.{Set, LastSet}
 use Rattle.init_machine.specs.declared.report.Reading.{Reading}
 use Rattle.init_machine.specs.declared.client.ClientItem.{ClientItem}
@@ -12,12 +14,12 @@ use Rattle.init_machine.specs.declared.client.ClientRequest.{ClientRequest}
 use Rattle.serial_value.specs.declared.view.Making.{Making}
 use Rattle.serial_value.specs.declared.view.CellView.{CellView}
 use Rattle.serial_value.specs.declared.view.CellView.TheVariants.{Writer, Reader}
-use Rattle.serial_value.specs.Words.{IsValue}
-use Rattle.serial_value.specs.Cell.{sets_of, name_of}
+use Rattle.serial_value.specs.Words.{IsValue, IsShortValue}
+use Rattle.serial_value.specs.Cell.{sets_of, name_of, HasShortCell}
 use Rattle.serial_value.specs.World.{World, ListHolds, ReaderHolds}
 use Rattle.serial_value.specs.One.{CellHolds, done_of, new_value}
 use Rattle.property_trie.specs.Parts.{parts_of}
-use Rattle.property_trie.specs.Tree.{Tree, find}
+use Rattle.property_trie.specs.Tree.{Tree, Cell, cell_in, find}
 use Rattle.property_trie.specs.TrieSteps.{tree_of}
 use Rattle.property_trie.specs.Additions.{tree_with, mark_of}
 use Rattle.property_trie.specs.Held.{TrieStands, SeatStands, AdditionStands}
@@ -44,6 +46,10 @@ abbrev pub made_on : List ℕ → Option Making → Option Making
 made_on name None = None
 made_on name (Some making) = if bytes_eq making.name name then Some making else None
 
+-- where the cell of a name lies, and how many words it has
+abbrev pub cell_of : List Set → List ℕ → Cell
+cell_of sets name = cell_in (tree_of sets) (parts_of name)
+
 -- the word at the place of a cell, 0 for none
 abbrev pub word_at : List ℕ → ℕ → ℕ
 word_at words zero = 0
@@ -53,18 +59,20 @@ word_at words (suc n) = slice_index words (suc n)
 abbrev pub serial_in : List ℕ → List Set → List ℕ → ℕ
 serial_in words sets name = word_at words (find (tree_of sets) (parts_of name))
 
--- The cell of a name has the value of its last set, or is being updated from it.
+-- The cell of a name has the value of its last set, or is being updated from it, and as many words as its value needs.
 pub record CellStands (words : List ℕ) (sets : List Set) (making : Option Making) (name : List ℕ) : Type 0 where
   pub number : ℕ
   pub value : List ℕ
   pub last : LastSet sets (length sets) name number value
+  pub sized : (cell_of sets name).words ≡ cell_words (length value)
   pub cell : CellHolds words (find (tree_of sets) (parts_of name)) number value (new_value (made_on name making)) (done_of (made_on name making))
 
--- an update is of a name that has a cell, at its place, by a legal value, and isn't accepted yet
+-- an update is of a name that has a short cell, at its place, by a value that fits it, and isn't accepted yet
 abbrev pub MayMake : List Set → Option Making → Type 0
 MayMake sets None = Unit {0}
 MayMake sets (Some making) =
-    (find (tree_of sets) (parts_of making.name) ≡ making.place) × (making.place ≢ 0) × IsValue making.value × (making.done ≤ 25)
+    (find (tree_of sets) (parts_of making.name) ≡ making.place) × (making.place ≢ 0) × IsShortValue making.value
+    × HasShortCell sets making.name × (making.done ≤ 25)
 
 -- the requests in a client's list
 abbrev pub requests_in : List ClientItem → List ClientRequest
@@ -87,6 +95,12 @@ abbrev pub list_in : List Client → ℕ → List ClientItem
 list_in [] who = []
 list_in (c ∷ clients) who = if c.who == who then c.list else list_in clients who
 
+-- Each value is as long as its name allows, and of the sets of a name with a long value there is one.
+pub record SetsFit (sets : List Set) : Type 0 where
+  pub fits : (i : ℕ) (set : Set) → get_elem? sets i ≡ some set → length set.1 ≤ max_value_len set.0
+  pub once : (i j : ℕ) (name long other : List ℕ)
+      → get_elem? sets i ≡ some (name, long) → get_elem? sets j ≡ some (name, other) → 91 < length long → i ≡ j
+
 -- What the writer knows at one moment: its seat, the accepted sets, the update or the addition that is under way, and the
 -- number that word 0 has.
 pub record Moment : Type 0 where
@@ -108,6 +122,7 @@ world_of words m = record { sets = m.sets; making = name_of m.making; serial = s
 pub record WordsHold (words : List ℕ) (m : Moment) : Type 0 where
   pub few : length m.sets < 2 ^ 55
   pub legal : (i : ℕ) (set : Set) → get_elem? m.sets i ≡ some set → IsValue set.1
+  pub fit : SetsFit m.sets
   -- word 0 is the number of sets, or one less from an acceptance on to the store of word 0
   pub head : slice_index words 0 ≡ m.head
   pub late : (m.head ≡ length m.sets) ⊎ (m.head + 1 ≡ length m.sets)

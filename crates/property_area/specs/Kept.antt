@@ -5,9 +5,10 @@ pub mod Sets
 pub mod Requests
 pub mod Frame
 pub mod CellStores
+pub mod Fits
+pub mod Present
 pub mod CellSteps
 pub mod Accepting
-pub mod Present
 pub mod CellLoads
 pub mod Lists
 pub mod Walks

@@ -2,4 +2,5 @@ pub mod Area
 pub mod Seats
 pub mod Readers
 pub mod Meaning
+pub mod Room
 pub mod Kept

@@ -18,6 +18,7 @@ use Rattle.init_machine.specs.declared.report.Reading.TheVariants.{Found, Absent
 use Rattle.init_machine.specs.declared.client.ClientItem.TheVariants.{Told, Asked}
 use Rattle.serial_value.specs.declared.view.CellView.{CellView}
 use Rattle.serial_value.specs.declared.view.CellView.TheVariants.{Writer, Reader}
+use Rattle.init_base.specs.Value.{max_value_len}
 use Rattle.serial_value.specs.Words.{IsValue}
 use Rattle.serial_value.specs.History.{FewAgains}
 use Rattle.property_area.specs.declared.view.LogLine.{LogLine}
@@ -125,7 +126,8 @@ Hears v reading seen after = after ≡ with_trie (noted (with_cell v (Reader see
 -- which else is as before
 abbrev pub Reads : AreaView → List ℕ → ReadAnswer → List ℕ → List ℕ → AreaView → Type 0
 Reads v name (AnswerFound len number) before out after =
-    (value : List ℕ) × IsValue value × (len ≡ length value) × (take len out ≡ value) × (seen_by v.cell ≤ number)
+    (value : List ℕ) × IsValue value × (length value ≤ max_value_len name) × (len ≡ length value) × (take len out ≡ value)
+    × (seen_by v.cell ≤ number)
     × Hears v (Found name number value) number after
 Reads v name (AnswerAbsent number) before out after =
     (number ≡ seen_by v.cell) × (out ≡ before) × Hears v (Absent name number) number after

@@ -10,7 +10,7 @@ use Rattle.property_area.specs.declared.area.AreaRefusal.{AreaRefusal}
 use Rattle.property_area.specs.declared.area.AreaRefusal.TheVariants.{TooSmall, TooBig}
 use Rattle.init_machine.specs.Props.{Props}
 use Rattle.property_area.specs.Meaning.{props_of}
-use Rattle.property_area.specs.Area.{Linked, Settled, with_trie, with_cell}
+use Rattle.property_area.specs.Area.{Linked, Settled, SetsFit, with_trie, with_cell}
 
 -- which area a seat is of, which of its seats it is, and its view
 pub record Seated : Type 0 where
@@ -41,6 +41,7 @@ pub record IsWriterView (table : TableId) (v : AreaView) : Type 0 where
   pub rests : IsAtRest v.trie
   pub wide : v.words ≡ table.words
   pub few : length (sets_of v.cell) < 2 ^ 55
+  pub fit : SetsFit (sets_of v.cell)
   pub still : IsStill v
 
 -- the view of a reader's seat between its calls

@@ -1,6 +1,7 @@
 //! A client's seat at an area, which reads.
 
-ghost use Rattle.std.specs.Prelude.{◌≡◌, ◌≤◌, [], max, None};
+ghost use Rattle.std.specs.Prelude.{◌≡◌, ◌≤◌, [], max, length, None};
+ghost use Rattle.init_base.specs.Value.{max_value_len};
 ghost use Rattle.init_machine.specs.Orderly.{seen_again};
 ghost use Rattle.serial_value.specs.Steps.{IsSameSeat};
 ghost use Rattle.property_area.specs.Seats.{IsReaderView, KnowsStill};
@@ -20,7 +21,7 @@ use std::marker::Model;
 pub enum ReadAnswer {
     /// The value has this length and stands at the front of the buffer; the property has it after so many sets.
     Found {
-        len: u8,
+        len: u16,
         number: u64,
     },
     /// The property is absent after so many sets.
@@ -68,8 +69,9 @@ fn read_once(
     seat: &mut Seat<(), AreaView>,
     number: u64,
     name: PropName<'_>,
-    out: &mut [u8; 91],
+    out: &mut [u8],
 ) -> ReadAnswer
+    requires wide { max_value_len name.bytes.now ≤ length out.old }
     requires reader { (seat.old.table_id ≡ area.now) × (seat.old.me.1 ≡ []) × IsReaderView seat.old.table_id seat.old.me.0 number }
     ensures seat { IsSameSeat seat.old seat.new × (seat.new.me.1 ≡ []) }
     ensures told { Reads seat.old.me.0 name.entry.bytes.now result out.old out.new seat.new.me.0
@@ -112,16 +114,18 @@ impl ReadAnswer {
 }
 
 impl Reader {
-    ghost use Rattle.std.specs.Prelude.{◌≡◌, max};
+    ghost use Rattle.std.specs.Prelude.{◌≡◌, ◌≤◌, max, length};
+    ghost use Rattle.init_base.specs.Value.{max_value_len};
     ghost use Rattle.serial_value.specs.History.{SomeHistory, FewRanks};
     ghost use Rattle.property_area.specs.Seats.{IsSameReader};
     ghost use Rattle.property_area.specs.Readers.{seen_by, Reads, Catches};
 
     /// One attempt to read a property. It adds one reading to the client's list, and answers that reading: the value, which
     /// stands at the front of `out` then, or that the property is absent, or that a write was met, exactly where the two
-    /// serials that it loaded differ.
-    pub fn read(&mut self, area: &Area, name: PropName<'_>, out: &mut [u8; 91]) -> ReadAnswer
+    /// serials that it loaded differ. The buffer has room for any value that is legal under the name.
+    pub fn read(&mut self, area: &Area, name: PropName<'_>, out: &mut [u8]) -> ReadAnswer
         requires area { self.old.table ≡ area.now }
+        requires wide { max_value_len name.bytes.now ≤ length out.old }
         ensures reader { IsSameReader self.old self.new }
         ensures told { Reads self.old.view name.entry.bytes.now result out.old out.new self.new.view }
     {

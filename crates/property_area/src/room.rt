@@ -3,6 +3,7 @@
 ghost use Rattle.std.specs.Prelude.{◌≡◌, ◌+◌, nat_lt};
 ghost use Rattle.std.specs.Result.{result_err};
 ghost use Rattle.init_machine.specs.Kept.Room.{full_with, numbers_full};
+ghost use Rattle.property_area.specs.Room.{some_need};
 
 use init_machine::Full;
 
@@ -10,25 +11,20 @@ use init_machine::Full;
 const LAST_NUMBER: u64 = 36028797018963967;
 
 /// Whether there is room for so many words more, if any are needed, and for another number.
-pub(crate) fn check_room(
-    need: Option<usize>,
-    used: usize,
-    capacity: usize,
-    last: u64,
-) -> Result<(), Full>
-    ensures { result_err result ≡ full_with need used capacity last }
+pub(crate) fn check_room(need: u64, used: u64, capacity: u64, last: u64) -> Result<(), Full>
+    ensures { result_err result ≡ full_with (some_need need) used capacity last }
 {
-    match need {
-        Some(need) if is_past(used, need, capacity) => Err(Full::Words {
-            used: used as u64,
-            need: need as u64,
-        }),
-        _ => check_numbers(last),
+    if need == 0 {
+        return check_numbers(last);
     }
+    if is_past(used, need, capacity) {
+        return Err(Full::Words { used, need });
+    }
+    check_numbers(last)
 }
 
 /// Whether the words in use and those that are needed together pass the capacity.
-fn is_past(used: usize, need: usize, capacity: usize) -> bool
+fn is_past(used: u64, need: u64, capacity: u64) -> bool
     ensures { result ≡ nat_lt capacity (used + need) }
 {
     need > capacity || used > capacity - need

@@ -32,6 +32,8 @@ impl CellRule<AreaView, u64> for WordArea {
 
     ghost list = { λ v. v.list };
 
+    ghost words = { λ v. v.words };
+
     ghost noted = { noted_area };
 
     ghost Linked = { LinkedArea };
@@ -51,6 +53,10 @@ impl CellRule<AreaView, u64> for WordArea {
     ghost cell_noted = { λ v r. refl };
 
     ghost list_noted = { λ v r. (refl, refl) };
+
+    ghost words_beside = { λ v c. refl };
+
+    ghost words_noted = { λ v r. refl };
 
     ghost linked_with = { λ v c name place linked. linked };
 
@@ -89,8 +95,6 @@ impl TrieRule<AreaView, u64> for WordArea {
 
     ghost with_trie = { with_area_trie };
 
-    ghost words = { λ v. v.words };
-
     fn no_trie_call(&self) {}
 
     ghost trie_with = { λ v t. refl };
@@ -106,10 +110,6 @@ impl TrieRule<AreaView, u64> for WordArea {
     ghost trie_noted = { λ v r. refl };
 
     ghost words_stay = { λ v t. refl };
-
-    ghost words_beside = { λ v c. refl };
-
-    ghost words_noted = { λ v r. refl };
 
     ghost list_beside = { λ v t. (refl, refl) };
 

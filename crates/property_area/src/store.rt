@@ -1,25 +1,28 @@
 //! The writer's looks at a name, and its sets, at its own seat.
 
-ghost use Rattle.std.specs.Prelude.{◌≡◌, ◌<◌, ◌≤◌, ◌+◌, ◌^◌, [], length, None};
-ghost use Rattle.init_machine.specs.Props.{lookup_in, full_for, IsLookUp};
+ghost use Rattle.std.specs.Prelude.{◌≡◌, ◌<◌, ◌≤◌, ◌+◌, ◌^◌, [], length, None, Some};
+ghost use Rattle.init_base.specs.Value.{LegalValue, max_value_len};
+ghost use Rattle.init_machine.specs.Props.{lookup_in, number_of as number_in, full_for, IsLookUp, MayBeSet};
+ghost use Rattle.init_machine.specs.Words.{cell_words as cell_words_of, need_of};
+ghost use Rattle.serial_value.specs.Cell.{HasShortCell};
 ghost use Rattle.serial_value.specs.Steps.{IsSameSeat, HasCell};
 ghost use Rattle.property_trie.specs.Additions.{mark_of, new_place};
 ghost use Rattle.property_trie.specs.Parts.{parts_of};
 ghost use Rattle.property_trie.specs.Tree.{each_once, find as find_in};
-ghost use Rattle.property_trie.specs.TrieSteps.{names_of, need_if_absent, tree_of};
+ghost use Rattle.property_trie.specs.TrieSteps.{sizes_of, tree_of};
 ghost use Rattle.property_area.specs.Area.{Linked};
 ghost use Rattle.property_area.specs.Seats.{sets_in, IsWriterView, IsBeside, IsSet, store_of};
 
 use crate::area::Area;
 use crate::head::store_serial;
+use crate::rule::WordArea;
 use crate::view::AreaView;
 use atomic_table::Seat;
 use init_base::{PropName, PropValue};
+use init_machine::cell_words;
 use property_trie::{add, find, need};
-use serial_value::{CellAnswer, read_cell, write_cell};
-
-/// The words of a cell: a serial and twelve value words.
-const CELL_WORDS: usize = 13;
+use serial_value::{Asked, CellAnswer, first_serial, parts, read_cell, write_cell};
+use std::marker::Brand;
 
 /// None exactly where the name is absent; else the length of its value, which stands at the front of `out`, and the number of
 /// the set that gave it.
@@ -27,9 +30,10 @@ pub(crate) fn look_up(
     area: &Area,
     seat: &mut Seat<(), AreaView>,
     name: PropName<'_>,
-    out: &mut [u8; 91],
+    out: &mut [u8],
 ) -> Option<(usize, u64)>
     requires writer { (seat.old.table_id ≡ area.now) × (seat.old.me.1 ≡ []) × IsWriterView seat.old.table_id seat.old.me.0 }
+    requires wide { max_value_len name.bytes.now ≤ length out.old }
     ensures seat { IsSameSeat seat.old seat.new × (seat.new.me.1 ≡ []) × IsWriterView seat.new.table_id seat.new.me.0 }
     ensures view { IsBeside seat.old.me.0 seat.new.me.0 }
     ensures found { IsLookUp (lookup_in (store_of seat.old.me.0).held name.entry.bytes.now) result out.new }
@@ -41,18 +45,47 @@ pub(crate) fn look_up(
     }
 }
 
-/// The words that the name needs, none where it is in a set.
-pub(crate) fn need_if_new(
+/// The number of the set that the serial of a name's cell has.
+fn number_at<Q: Asked>(area: &Area, seat: &mut Seat<(), AreaView>, at: usize, name: &[u8]) -> u64
+    requires asked { (name.now ≡ Q.name) × (at ≡ Q.place) }
+    requires writer { (seat.old.table_id ≡ area.now) × (seat.old.me.1 ≡ []) × IsWriterView seat.old.table_id seat.old.me.0 }
+    requires cell { HasCell area.now at × Linked seat.old.me.0 name.now at }
+    ensures seat { IsSameSeat seat.old seat.new × (seat.new.me ≡ seat.old.me) }
+    ensures number { Some result ≡ number_in (lookup_in (store_of seat.old.me.0).held name.now) }
+{
+    let word = first_serial::<AreaView, u64, WordArea, Q>(&area.table, seat, at);
+    let (_, number, _) = parts(word);
+    number
+}
+
+/// None exactly where the name is absent; else the number of the set that gave its value.
+pub(crate) fn number_of(
     area: &Area,
     seat: &mut Seat<(), AreaView>,
     name: PropName<'_>,
-) -> Option<usize>
+) -> Option<u64>
     requires writer { (seat.old.table_id ≡ area.now) × (seat.old.me.1 ≡ []) × IsWriterView seat.old.table_id seat.old.me.0 }
     ensures seat { IsSameSeat seat.old seat.new × (seat.new.me.1 ≡ []) × IsWriterView seat.new.table_id seat.new.me.0 }
     ensures view { IsBeside seat.old.me.0 seat.new.me.0 }
-    ensures need { result ≡ need_if_absent (each_once (names_of (sets_in seat.old.me.0))) name.entry.bytes.now }
+    ensures number { result ≡ number_in (lookup_in (store_of seat.old.me.0).held name.entry.bytes.now) }
 {
-    need(&area.table, seat, name)
+    let at = find(&area.table, seat, name)?;
+    Some(number_at::<Brand>(area, seat, at, name.bytes))
+}
+
+/// The words that a set of the name by a value of so many bytes would add, 0 where the name is in a set.
+pub(crate) fn words_needed(
+    area: &Area,
+    seat: &mut Seat<(), AreaView>,
+    name: PropName<'_>,
+    len: usize,
+) -> u64
+    requires writer { (seat.old.table_id ≡ area.now) × (seat.old.me.1 ≡ []) × IsWriterView seat.old.table_id seat.old.me.0 }
+    ensures seat { IsSameSeat seat.old seat.new × (seat.new.me.1 ≡ []) × IsWriterView seat.new.table_id seat.new.me.0 }
+    ensures view { IsBeside seat.old.me.0 seat.new.me.0 }
+    ensures need { result ≡ need_of (each_once (sizes_of (sets_in seat.old.me.0))) name.entry.bytes.now len }
+{
+    need(&area.table, seat, name, len)
 }
 
 /// Sets the property at its cell, and then stores the area serial.
@@ -66,6 +99,7 @@ fn set_at(
 )
     requires writer { (seat.old.table_id ≡ area.now) × (seat.old.me.1 ≡ []) × IsWriterView seat.old.table_id seat.old.me.0 }
     requires cell { HasCell area.now at × Linked seat.old.me.0 name.bytes.now at }
+    requires short { HasShortCell (sets_in seat.old.me.0) name.bytes.now × (length value.bytes.now ≤ 91) }
     requires number { (number ≡ length (sets_in seat.old.me.0) + 1) × (number < 2 ^ 55) }
     ensures seat { IsSameSeat seat.old seat.new × (seat.new.me.1 ≡ []) × IsWriterView seat.new.table_id seat.new.me.0 }
     ensures view { IsSet seat.old.me.0 name.entry.bytes.now value.entry.bytes.now seat.new.me.0 }
@@ -85,16 +119,18 @@ fn set_new(
 ) -> usize
     requires writer { (seat.old.table_id ≡ area.now) × (seat.old.me.1 ≡ []) × IsWriterView seat.old.table_id seat.old.me.0 }
     requires absent { find_in (tree_of (sets_in seat.old.me.0)) (parts_of name.bytes.now) ≡ 0 }
-    requires room { new_place (sets_in seat.old.me.0) name.bytes.now + 13 ≤ area.now.words }
+    requires legal { LegalValue name.bytes.now value.bytes.now }
+    requires room { new_place (sets_in seat.old.me.0) name.bytes.now
+        + cell_words_of (length value.bytes.now) ≤ area.now.words }
     requires number { (number ≡ length (sets_in seat.old.me.0) + 1) × (number < 2 ^ 55) }
     requires used { used ≡ mark_of (sets_in seat.old.me.0) }
     ensures seat { IsSameSeat seat.old seat.new × (seat.new.me.1 ≡ []) × IsWriterView seat.new.table_id seat.new.me.0 }
     ensures view { IsSet seat.old.me.0 name.entry.bytes.now value.entry.bytes.now seat.new.me.0 }
-    ensures used { result ≡ new_place (sets_in seat.old.me.0) name.entry.bytes.now + 13 }
+    ensures used { result ≡ new_place (sets_in seat.old.me.0) name.entry.bytes.now + cell_words_of (length value.entry.bytes.now) }
 {
     let place = add(&area.table, seat, name, number, value, used);
     store_serial(area, seat, number);
-    place + CELL_WORDS
+    place + cell_words(value.bytes.len()) as usize
 }
 
 /// Sets the property, by an update of its cell or an addition, and then stores the area serial. It answers the first free
@@ -108,7 +144,9 @@ pub(crate) fn set(
     used: usize,
 ) -> usize
     requires writer { (seat.old.table_id ≡ area.now) × (seat.old.me.1 ≡ []) × IsWriterView seat.old.table_id seat.old.me.0 }
-    requires room { full_for (store_of seat.old.me.0) name.bytes.now ≡ None }
+    requires legal { LegalValue name.bytes.now value.bytes.now }
+    requires room { full_for (store_of seat.old.me.0) name.bytes.now (length value.bytes.now) ≡ None }
+    requires once { MayBeSet (store_of seat.old.me.0) name.bytes.now }
     requires number { number ≡ length (sets_in seat.old.me.0) + 1 }
     requires used { used ≡ mark_of (sets_in seat.old.me.0) }
     ensures seat { IsSameSeat seat.old seat.new × (seat.new.me.1 ≡ []) × IsWriterView seat.new.table_id seat.new.me.0 }

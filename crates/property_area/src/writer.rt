@@ -6,7 +6,7 @@ use crate::area::{Area, WriterSeat};
 use crate::handing::{join_in, open_log, put_in_place, record_entry, split_off, tell_count};
 use crate::reader::Reader;
 use crate::room::check_room;
-use crate::store::{look_up, need_if_new, set};
+use crate::store::{look_up, number_of, set, words_needed};
 use crate::view::AreaView;
 use atomic_table::Seat;
 use init_base::{ClientId, NoMemory, PropName, PropValue};
@@ -155,8 +155,12 @@ impl<'a> PropStore for AreaWriter<'a> {
 
     ghost Beside = { IsSameBeside };
 
-    fn get(&mut self, name: PropName<'_>, out: &mut [u8; 91]) -> Option<(usize, u64)> {
+    fn get(&mut self, name: PropName<'_>, out: &mut [u8]) -> Option<(usize, u64)> {
         look_up(self.area, &mut self.seat, name, out)
+    }
+
+    fn number_of(&mut self, name: PropName<'_>) -> Option<u64> {
+        number_of(self.area, &mut self.seat, name)
     }
 
     fn count(&self) -> u64 {
@@ -167,9 +171,10 @@ impl<'a> PropStore for AreaWriter<'a> {
         self.used as u64
     }
 
-    fn room(&mut self, name: PropName<'_>) -> Result<(), Full> {
-        let need = need_if_new(self.area, &mut self.seat, name);
-        check_room(need, self.used, self.area.words(), self.count)
+    fn room(&mut self, name: PropName<'_>, len: usize) -> Result<(), Full> {
+        let need = words_needed(self.area, &mut self.seat, name, len);
+        let words = self.area.words() as u64;
+        check_room(need, self.used as u64, words, self.count)
     }
 
     fn reserve(&mut self, _: Global) -> Result<(), NoMemory>

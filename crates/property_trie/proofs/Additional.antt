@@ -12,7 +12,7 @@ use Rattle.property_trie.specs.Parts.{parts_of, node_size}
 use Rattle.property_trie.specs.Tree.{Tree, node_sizes, find, cell_place, trie_of}
 use Rattle.property_trie.specs.TreeWords.{link_at}
 use Rattle.property_trie.specs.Walk.{EndsAt}
-use Rattle.property_trie.specs.TrieSteps.{names_of, tree_of, missing_parts, rested, Searches, LinkInside}
+use Rattle.property_trie.specs.TrieSteps.{sizes_of, tree_of, missing_parts, rested, Searches, LinkInside}
 use Rattle.property_trie.specs.declared.addition.NewCell.{NewCell}
 use Rattle.property_trie.specs.declared.walk.SearchEnd.{SearchEnd}
 use Rattle.property_trie.specs.declared.walk.SearchEnd.TheVariants.{Cell, NoCell, NoNode}
@@ -168,13 +168,13 @@ pub record MadeSoFar {V X : Type 0} (trie : V → TrieView) (with_trie : V → T
 
 pub none_made : {V X : Type 0} {cell : V → CellView} {trie : V → TrieView} {with_trie : V → TrieView → V} {words_of : V → ℕ} {Settled : V → Type 0} (L : Parted cell trie with_trie words_of Settled)
     → (m : V × X) (sets : List Set) (name : List ℕ) (words link place : ℕ) (left : List (List ℕ)) → (trie m.0).adding ≡ None
-    → left ≡ missing_parts (tree_of sets) (parts_of name) → link ≡ link_at 1 (tree_of sets) (parts_of name) → place ≡ (trie_of (names_of sets)).mark → link < words
+    → left ≡ missing_parts (tree_of sets) (parts_of name) → link ≡ link_at 1 (tree_of sets) (parts_of name) → place ≡ (trie_of (sizes_of sets)).mark → link < words
     → MadeSoFar trie with_trie m m sets name words link place left
 none_made L m sets name words link place left none is at mark inside = record {
   count = 0;
   far = far_none L m name 0 [] none;
   left_is = is;
-  link_is = at ∙ ap (λ (t : Tree). link_at 1 t (parts_of name)) (sym (grown_none (tree_of sets) (parts_of name) (trie_of (names_of sets)).mark));
+  link_is = at ∙ ap (λ (t : Tree). link_at 1 t (parts_of name)) (sym (grown_none (tree_of sets) (parts_of name) (trie_of (sizes_of sets)).mark));
   place_is = mark ∙ (omega arith);
   inside = inside;
 }
@@ -191,7 +191,7 @@ module _ {V X : Type 0} (trie : V → TrieView) (with_trie : V → TrieView → 
   next_part = (behind, next_is)
 
   -- the next node has room, as all have
-  pub node_room : cell_place (trie_of (names_of sets)) (parts_of name) ≤ words → place + node_size part ≤ words
+  pub node_room : cell_place (trie_of (sizes_of sets)) (parts_of name) ≤ words → place + node_size part ≤ words
   node_room room =
       let more = sizes_more h.count missing part behind next_is in
       let all = sizes_whole (suc h.count) missing in
@@ -206,7 +206,7 @@ module _ {V X : Type 0} (trie : V → TrieView) (with_trie : V → TrieView → 
     far = far;
     left_is = sym (drop_next h.count missing part behind next_is);
     link_is =
-        let l = link_after h.count (tree_of sets) (parts_of name) (trie_of (names_of sets)).mark 1 part q qs (next_is ∙ ap (λ (r : List (List ℕ)). part ∷ r) more) in
+        let l = link_after h.count (tree_of sets) (parts_of name) (trie_of (sizes_of sets)).mark 1 part q qs (next_is ∙ ap (λ (r : List (List ℕ)). part ∷ r) more) in
         ap (λ (k : ℕ). k + 3) h.place_is ∙ sym l;
     place_is = let s = sizes_more h.count missing part behind next_is in let p = h.place_is in omega arith;
     inside = omega arith;
@@ -224,13 +224,13 @@ module _ {V X : Type 0} (trie : V → TrieView) (with_trie : V → TrieView → 
       let more = sizes_more h.count missing part behind next_is in
       let p = h.place_is in record {
         ends = subst (λ (x : ℕ × ℕ). EndsAt (tree_with sets name x.0) (parts_of name) x.1) (λ i. (count i, (ap (λ (k : ℕ). k + 4) (sym h.place_is) ∙ sym at) i))
-            (end_after h.count (tree_of sets) (parts_of name) (trie_of (names_of sets)).mark part last);
+            (end_after h.count (tree_of sets) (parts_of name) (trie_of (sizes_of sets)).mark part last);
         free = omega arith;
         inside = omega arith;
       }
 
 -- a name whose parts all have nodes
-pub path_there : (words : ℕ) (sets : List Set) (name : List ℕ) (new : NewCell) → EndsAt (tree_of sets) (parts_of name) new.link → new.place ≡ (trie_of (names_of sets)).mark → new.link < words
+pub path_there : (words : ℕ) (sets : List Set) (name : List ℕ) (new : NewCell) → EndsAt (tree_of sets) (parts_of name) new.link → new.place ≡ (trie_of (sizes_of sets)).mark → new.link < words
     → (missing_count sets name ≡ 0) × HasPath words sets name new
 path_there words sets name new ends mark inside =
     let deep = ends_deep (tree_of sets) (parts_of name) new.link ends in
@@ -238,7 +238,7 @@ path_there words sets name new ends mark inside =
     let count : missing_count sets name ≡ 0 = ap length none in (
       count,
       record {
-        ends = subst (λ (t : Tree). EndsAt t (parts_of name) new.link) (sym (ap (λ (k : ℕ). tree_with sets name k) count ∙ grown_none (tree_of sets) (parts_of name) (trie_of (names_of sets)).mark)) ends;
+        ends = subst (λ (t : Tree). EndsAt t (parts_of name) new.link) (sym (ap (λ (k : ℕ). tree_with sets name k) count ∙ grown_none (tree_of sets) (parts_of name) (trie_of (sizes_of sets)).mark)) ends;
         free = mark ∙ (let e = ap node_sizes none in omega arith);
         inside = inside;
       },
@@ -254,8 +254,8 @@ module _ {V : Type 0} (with_trie : V → TrieView → V) (noted : V → Reading 
   absent_ends (Reader number copying) end writer none s inside = absurd writer
 
 -- the free place behind all nodes is the cell's
-pub place_behind : (sets : List Set) (name : List ℕ) → free_place sets name (missing_count sets name) ≡ cell_place (trie_of (names_of sets)) (parts_of name)
-place_behind sets name = ap (λ (ps : List (List ℕ)). (trie_of (names_of sets)).mark + node_sizes ps) (take_whole (missing_parts (tree_of sets) (parts_of name)))
+pub place_behind : (sets : List Set) (name : List ℕ) → free_place sets name (missing_count sets name) ≡ cell_place (trie_of (sizes_of sets)) (parts_of name)
+place_behind sets name = ap (λ (ps : List (List ℕ)). (trie_of (sizes_of sets)).mark + node_sizes ps) (take_whole (missing_parts (tree_of sets) (parts_of name)))
 
 module _ {V X : Type 0} {cell : V → CellView} {trie : V → TrieView} {with_trie : V → TrieView → V} {words : V → ℕ} {Settled : V → Type 0}
     (L : Parted cell trie with_trie words Settled) (with_cell : V → CellView → V) (m n : V × X) (name : List ℕ) (linked : ℕ) (fresh : List ℕ) (far : Far trie with_trie m n name linked fresh) where

@@ -2,7 +2,7 @@
 use Rattle.std.proofs.Common.{◌≡◌, ℕ, ◌+◌, ◌<◌, ◌⊎◌, List, [], ◌∷◌, length, get_or, set, sym, refl, ap, ◌∙◌, subst, inl, inr, ⊎_elim, arith, get_or-set_other, get_or-set_same}
 use Rattle.std.specs.declared.cmp.Ordering.TheVariants.{Less, Equal, Greater}
 use Rattle.property_trie.specs.Parts.{compare_parts, node_size}
-use Rattle.property_trie.specs.Tree.{Tree, by_order, depth, chain, grown}
+use Rattle.property_trie.specs.Tree.{Tree, Cell, no_cell, by_order, depth, chain, grown}
 use Rattle.property_trie.specs.Tree.Tree.{leaf, node}
 use Rattle.property_trie.specs.Places.{link_to, InNode, Takes, IsApart}
 use Rattle.property_trie.specs.TreeWords.{NodeHolds, TreeHolds, link_at, missing_part}
@@ -103,7 +103,7 @@ module _ (words : List ℕ) (i n place : ℕ) (part : List ℕ) (left right chil
 pub tree_else : (words : List ℕ) (i n : ℕ) (t : Tree) → (InNodes t i → ⊥) → TreeHolds words t → TreeHolds (set words i n) t
 tree_else words i n leaf outside h = tt
 tree_else words i n (node place part l r c cell) outside h = (
-  node_else words i n place part (link_to l) (link_to r) (link_to c) cell h.0 (λ own. outside (inl own)),
+  node_else words i n place part (link_to l) (link_to r) (link_to c) cell.place h.0 (λ own. outside (inl own)),
   tree_else words i n l (λ left. outside (inr (inl left))) h.1,
   tree_else words i n r (λ right. outside (inr (inr (inl right)))) h.2,
   tree_else words i n c (λ children. outside (inr (inr (inr children)))) h.3,
@@ -120,7 +120,7 @@ pub record Ready (t : Tree) (top : ℕ) (words : List ℕ) (place : ℕ) : Type 
   pub link : get_or words top 0 ≡ link_to t
   pub holds : TreeHolds words t
 
-module _ (at : ℕ) (part : List ℕ) (l r c : Tree) (cell top : ℕ) (words : List ℕ) (place : ℕ) (h : Ready (node at part l r c cell) top words place) where
+module _ (at : ℕ) (part : List ℕ) (l r c : Tree) (cell : Cell) (top : ℕ) (words : List ℕ) (place : ℕ) (h : Ready (node at part l r c cell) top words place) where
   own : (j : ℕ) → j < 5 → InNode at part (at + j)
   own j small = (omega arith, omega arith)
 
@@ -176,7 +176,7 @@ link_in top (node at part l r c cell) (p ∷ ps) short =
 abbrev pub Spells : List ℕ → ℕ → ℕ → ℕ → Tree → Type 0
 Spells words top link place t = (get_or (set words link place) top 0 ≡ link_to t) × TreeHolds (set words link place) t
 
-module _ (at : ℕ) (part : List ℕ) (l r c : Tree) (cell top : ℕ) (words : List ℕ) (place : ℕ) (h : Ready (node at part l r c cell) top words place) where
+module _ (at : ℕ) (part : List ℕ) (l r c : Tree) (cell : Cell) (top : ℕ) (words : List ℕ) (place : ℕ) (h : Ready (node at part l r c cell) top words place) where
   abbrev whole : Tree
   whole = node at part l r c cell
 
@@ -189,7 +189,7 @@ module _ (at : ℕ) (part : List ℕ) (l r c : Tree) (cell top : ℕ) (words : L
       let in_whole : InNodes whole link = ⊎_elim (λ (e : link ≡ at + 1). inl (omega arith, omega arith)) (λ is. inr (inl is)) where_is in (
         top_stays link in_whole,
         (
-          node_left words link place at part (link_to l) (link_to r) (link_to c) cell h.holds.0
+          node_left words link place at part (link_to l) (link_to r) (link_to c) cell.place h.holds.0
               (⊎_elim (λ e. inl e) (λ is. inr (λ own. h.apart.1 link own (nodes_take l link is))) where_is) (link_to more) spells.0,
           spells.1,
           tree_else words link place r (λ is. ⊎_elim
@@ -206,7 +206,7 @@ module _ (at : ℕ) (part : List ℕ) (l r c : Tree) (cell top : ℕ) (words : L
       let in_whole : InNodes whole link = ⊎_elim (λ (e : link ≡ at + 2). inl (omega arith, omega arith)) (λ is. inr (inr (inl is))) where_is in (
         top_stays link in_whole,
         (
-          node_right words link place at part (link_to l) (link_to r) (link_to c) cell h.holds.0
+          node_right words link place at part (link_to l) (link_to r) (link_to c) cell.place h.holds.0
               (⊎_elim (λ e. inl e) (λ is. inr (λ own. h.apart.2 link own (nodes_take r link is))) where_is) (link_to more) spells.0,
           tree_else words link place l (λ is. ⊎_elim
               (λ (e : link ≡ at + 2). h.apart.1 link (omega arith, omega arith) (nodes_take l link is))
@@ -223,7 +223,7 @@ module _ (at : ℕ) (part : List ℕ) (l r c : Tree) (cell top : ℕ) (words : L
       let in_whole : InNodes whole link = ⊎_elim (λ (e : link ≡ at + 3). inl (omega arith, omega arith)) (λ is. inr (inr (inr is))) where_is in (
         top_stays link in_whole,
         (
-          node_children words link place at part (link_to l) (link_to r) (link_to c) cell h.holds.0
+          node_children words link place at part (link_to l) (link_to r) (link_to c) cell.place h.holds.0
               (⊎_elim (λ e. inl e) (λ is. inr (λ own. h.apart.3 link own (nodes_take c link is))) where_is) (link_to more) spells.0,
           tree_else words link place l (λ is. ⊎_elim
               (λ (e : link ≡ at + 3). h.apart.1 link (omega arith, omega arith) (nodes_take l link is))
@@ -239,8 +239,8 @@ chain_none : (ps : Parts) (place : ℕ) → chain 0 ps place ≡ leaf
 chain_none [] place = refl
 chain_none (p ∷ ps) place = refl
 
-first_node : (p : List ℕ) (ps : Parts) (place : ℕ) → chain 1 (p ∷ ps) place ≡ node place p leaf leaf leaf 0
-first_node p ps place = ap (λ (t : Tree). node place p leaf leaf t 0) (chain_none ps (place + node_size p))
+first_node : (p : List ℕ) (ps : Parts) (place : ℕ) → chain 1 (p ∷ ps) place ≡ node place p leaf leaf leaf no_cell
+first_node p ps place = ap (λ (t : Tree). node place p leaf leaf t no_cell) (chain_none ps (place + node_size p))
 
 -- the link to a new node, whose words stand already, is growth by that node
 pub links : (t : Tree) (parts : Parts) (top : ℕ) (words : List ℕ) (place : ℕ) → depth t parts < length parts

@@ -3,7 +3,7 @@ use Rattle.std.proofs.Common.{◌≡◌, ℕ, zero, suc, ◌+◌, ◌≤◌, min
 use Rattle.std.specs.declared.cmp.Ordering.{Ordering}
 use Rattle.std.specs.declared.cmp.Ordering.TheVariants.{Less, Equal, Greater}
 use Rattle.property_trie.specs.Parts.{compare_parts, node_size}
-use Rattle.property_trie.specs.Tree.{Tree, by_order, alike, at_last, find, depth, chain, grown, with_cell}
+use Rattle.property_trie.specs.Tree.{Tree, Cell, no_cell, by_order, alike, at_last, cell_in, find, depth, chain, grown, with_cell}
 use Rattle.property_trie.specs.Tree.Tree.{leaf, node}
 use Rattle.property_trie.proofs.Orders.{same_part, compare_same, by_cases, at_less, at_equal, at_greater, orders}
 
@@ -37,30 +37,30 @@ pub alike_one : (p q : List ℕ) (ps qs : Parts) → q ≡ p → alike (p ∷ ps
 alike_one p q ps qs is =
     at_equal (compare_parts q p) 0 (1 + alike ps qs) 0 (ap (λ (x : List ℕ). compare_parts x p) is ∙ compare_same p)
 
-none_at_last : (qs : Parts) (more : ℕ) → more ≡ 0 → at_last qs 0 more ≡ 0
+none_at_last : (qs : Parts) (more : Cell) → more ≡ no_cell → at_last qs no_cell more ≡ no_cell
 none_at_last [] more e = refl
 none_at_last (q ∷ qs) more e = e
 
-find-chain : (n : ℕ) (parts : Parts) (place : ℕ) (others : Parts) → find (chain n parts place) others ≡ 0
-find-chain n [] place others = refl
-find-chain zero (p ∷ ps) place others = refl
-find-chain (suc n) (p ∷ ps) place [] = refl
-find-chain (suc n) (p ∷ ps) place (q ∷ qs) =
-    by_cases (λ d. d ≡ 0) (compare_parts q p) _ _ _ (λ e. refl)
-    (λ e. none_at_last qs (find (chain n ps (place + node_size p)) qs) (find-chain n ps (place + node_size p) qs))
+cell-chain : (n : ℕ) (parts : Parts) (place : ℕ) (others : Parts) → cell_in (chain n parts place) others ≡ no_cell
+cell-chain n [] place others = refl
+cell-chain zero (p ∷ ps) place others = refl
+cell-chain (suc n) (p ∷ ps) place [] = refl
+cell-chain (suc n) (p ∷ ps) place (q ∷ qs) =
+    by_cases (λ d. d ≡ no_cell) (compare_parts q p) _ _ _ (λ e. refl)
+    (λ e. none_at_last qs (cell_in (chain n ps (place + node_size p)) qs) (cell-chain n ps (place + node_size p) qs))
     (λ e. refl)
 
 -- growth changes no cell
-pub find-grown : (n : ℕ) (t : Tree) (parts : Parts) (place : ℕ) (others : Parts) → find (grown n t parts place) others ≡ find t others
-find-grown n leaf parts place others = find-chain n parts place others
-find-grown n (node at part l r c cell) [] place others = refl
-find-grown n (node at part l r c cell) (p ∷ ps) place [] =
-    by_cases (λ t. find t [] ≡ 0) (compare_parts p part) _ _ _ (λ e. refl) (λ e. refl) (λ e. refl)
-find-grown n (node at part l r c cell) (p ∷ ps) place (q ∷ qs) =
-    by_cases (λ t. find t (q ∷ qs) ≡ find (node at part l r c cell) (q ∷ qs)) (compare_parts p part) _ _ _
-    (λ e. ap (λ x. by_order (compare_parts q part) x (at_last qs cell (find c qs)) (find r (q ∷ qs))) (find-grown n l (p ∷ ps) place (q ∷ qs)))
-    (λ e. ap (λ x. by_order (compare_parts q part) (find l (q ∷ qs)) (at_last qs cell x) (find r (q ∷ qs))) (find-grown n c ps place qs))
-    (λ e. ap (λ x. by_order (compare_parts q part) (find l (q ∷ qs)) (at_last qs cell (find c qs)) x) (find-grown n r (p ∷ ps) place (q ∷ qs)))
+pub cell-grown : (n : ℕ) (t : Tree) (parts : Parts) (place : ℕ) (others : Parts) → cell_in (grown n t parts place) others ≡ cell_in t others
+cell-grown n leaf parts place others = cell-chain n parts place others
+cell-grown n (node at part l r c cell) [] place others = refl
+cell-grown n (node at part l r c cell) (p ∷ ps) place [] =
+    by_cases (λ t. cell_in t [] ≡ no_cell) (compare_parts p part) _ _ _ (λ e. refl) (λ e. refl) (λ e. refl)
+cell-grown n (node at part l r c cell) (p ∷ ps) place (q ∷ qs) =
+    by_cases (λ t. cell_in t (q ∷ qs) ≡ cell_in (node at part l r c cell) (q ∷ qs)) (compare_parts p part) _ _ _
+    (λ e. ap (λ x. by_order (compare_parts q part) x (at_last qs cell (cell_in c qs)) (cell_in r (q ∷ qs))) (cell-grown n l (p ∷ ps) place (q ∷ qs)))
+    (λ e. ap (λ x. by_order (compare_parts q part) (cell_in l (q ∷ qs)) (at_last qs cell x) (cell_in r (q ∷ qs))) (cell-grown n c ps place qs))
+    (λ e. ap (λ x. by_order (compare_parts q part) (cell_in l (q ∷ qs)) (at_last qs cell (cell_in c qs)) x) (cell-grown n r (p ∷ ps) place (q ∷ qs)))
 
 depth-chain : (n : ℕ) (parts : Parts) (place : ℕ) (others : Parts) → depth (chain n parts place) others ≡ min (alike parts others) n
 depth-chain n [] place others = omega arith
@@ -119,7 +119,7 @@ depth-grown n (node at part l r c cell) (p ∷ ps) place (q ∷ qs) =
     ] refl
 
 -- a new cell makes no node
-pub depth-with_cell : (t : Tree) (parts : Parts) (new : ℕ) (others : Parts) → depth (with_cell t parts new) others ≡ depth t others
+pub depth-with_cell : (t : Tree) (parts : Parts) (new : Cell) (others : Parts) → depth (with_cell t parts new) others ≡ depth t others
 depth-with_cell leaf parts new others = refl
 depth-with_cell (node at part l r c cell) [] new others = refl
 depth-with_cell (node at part l r c cell) (p ∷ []) new [] = by_cases (λ t. depth t [] ≡ 0) (compare_parts p part) _ _ _ (λ e. refl) (λ e. refl) (λ e. refl)
@@ -141,45 +141,55 @@ same_where Equal less equal equal' greater same = same refl
 same_where Greater less equal equal' greater same = refl
 
 -- a new cell changes no other property
-pub find-with_cell_other : (t : Tree) (parts : Parts) (new : ℕ) (others : Parts) → (others ≡ parts → ⊥) → find (with_cell t parts new) others ≡ find t others
-find-with_cell_other leaf parts new others other = refl
-find-with_cell_other (node at part l r c cell) [] new others other = refl
-find-with_cell_other (node at part l r c cell) (p ∷ []) new [] other = by_cases (λ t. find t [] ≡ 0) (compare_parts p part) _ _ _ (λ e. refl) (λ e. refl) (λ e. refl)
-find-with_cell_other (node at part l r c cell) (p ∷ y ∷ ys) new [] other = by_cases (λ t. find t [] ≡ 0) (compare_parts p part) _ _ _ (λ e. refl) (λ e. refl) (λ e. refl)
-find-with_cell_other (node at part l r c cell) (p ∷ []) new (q ∷ []) other =
-    by_cases (λ t. find t (q ∷ []) ≡ find (node at part l r c cell) (q ∷ [])) (compare_parts p part) _ _ _
-    (λ e. ap (λ x. by_order (compare_parts q part) x cell (find r (q ∷ []))) (find-with_cell_other l (p ∷ []) new (q ∷ []) other))
-    (λ e. same_where (compare_parts q part) (find l (q ∷ [])) new cell (find r (q ∷ [])) (λ e'. absurd (other (ap (λ (x : List ℕ). x ∷ []) (same_part q part e' ∙ sym (same_part p part e))))))
-    (λ e. ap (λ x. by_order (compare_parts q part) (find l (q ∷ [])) cell x) (find-with_cell_other r (p ∷ []) new (q ∷ []) other))
-find-with_cell_other (node at part l r c cell) (p ∷ []) new (q ∷ x ∷ xs) other =
-    by_cases (λ t. find t (q ∷ x ∷ xs) ≡ find (node at part l r c cell) (q ∷ x ∷ xs)) (compare_parts p part) _ _ _
-    (λ e. ap (λ z. by_order (compare_parts q part) z (find c (x ∷ xs)) (find r (q ∷ x ∷ xs))) (find-with_cell_other l (p ∷ []) new (q ∷ x ∷ xs) other))
+pub cell-with_cell_other : (t : Tree) (parts : Parts) (new : Cell) (others : Parts) → (others ≡ parts → ⊥) → cell_in (with_cell t parts new) others ≡ cell_in t others
+cell-with_cell_other leaf parts new others other = refl
+cell-with_cell_other (node at part l r c cell) [] new others other = refl
+cell-with_cell_other (node at part l r c cell) (p ∷ []) new [] other = by_cases (λ t. cell_in t [] ≡ no_cell) (compare_parts p part) _ _ _ (λ e. refl) (λ e. refl) (λ e. refl)
+cell-with_cell_other (node at part l r c cell) (p ∷ y ∷ ys) new [] other = by_cases (λ t. cell_in t [] ≡ no_cell) (compare_parts p part) _ _ _ (λ e. refl) (λ e. refl) (λ e. refl)
+cell-with_cell_other (node at part l r c cell) (p ∷ []) new (q ∷ []) other =
+    by_cases (λ t. cell_in t (q ∷ []) ≡ cell_in (node at part l r c cell) (q ∷ [])) (compare_parts p part) _ _ _
+    (λ e. ap (λ x. by_order (compare_parts q part) x cell (cell_in r (q ∷ []))) (cell-with_cell_other l (p ∷ []) new (q ∷ []) other))
+    (λ e. same_where (compare_parts q part) (cell_in l (q ∷ [])) new cell (cell_in r (q ∷ [])) (λ e'. absurd (other (ap (λ (x : List ℕ). x ∷ []) (same_part q part e' ∙ sym (same_part p part e))))))
+    (λ e. ap (λ x. by_order (compare_parts q part) (cell_in l (q ∷ [])) cell x) (cell-with_cell_other r (p ∷ []) new (q ∷ []) other))
+cell-with_cell_other (node at part l r c cell) (p ∷ []) new (q ∷ x ∷ xs) other =
+    by_cases (λ t. cell_in t (q ∷ x ∷ xs) ≡ cell_in (node at part l r c cell) (q ∷ x ∷ xs)) (compare_parts p part) _ _ _
+    (λ e. ap (λ z. by_order (compare_parts q part) z (cell_in c (x ∷ xs)) (cell_in r (q ∷ x ∷ xs))) (cell-with_cell_other l (p ∷ []) new (q ∷ x ∷ xs) other))
     (λ e. refl)
-    (λ e. ap (λ z. by_order (compare_parts q part) (find l (q ∷ x ∷ xs)) (find c (x ∷ xs)) z) (find-with_cell_other r (p ∷ []) new (q ∷ x ∷ xs) other))
-find-with_cell_other (node at part l r c cell) (p ∷ y ∷ ys) new (q ∷ []) other =
-    by_cases (λ t. find t (q ∷ []) ≡ find (node at part l r c cell) (q ∷ [])) (compare_parts p part) _ _ _
-    (λ e. ap (λ x. by_order (compare_parts q part) x cell (find r (q ∷ []))) (find-with_cell_other l (p ∷ y ∷ ys) new (q ∷ []) other))
+    (λ e. ap (λ z. by_order (compare_parts q part) (cell_in l (q ∷ x ∷ xs)) (cell_in c (x ∷ xs)) z) (cell-with_cell_other r (p ∷ []) new (q ∷ x ∷ xs) other))
+cell-with_cell_other (node at part l r c cell) (p ∷ y ∷ ys) new (q ∷ []) other =
+    by_cases (λ t. cell_in t (q ∷ []) ≡ cell_in (node at part l r c cell) (q ∷ [])) (compare_parts p part) _ _ _
+    (λ e. ap (λ x. by_order (compare_parts q part) x cell (cell_in r (q ∷ []))) (cell-with_cell_other l (p ∷ y ∷ ys) new (q ∷ []) other))
     (λ e. refl)
-    (λ e. ap (λ x. by_order (compare_parts q part) (find l (q ∷ [])) cell x) (find-with_cell_other r (p ∷ y ∷ ys) new (q ∷ []) other))
-find-with_cell_other (node at part l r c cell) (p ∷ y ∷ ys) new (q ∷ x ∷ xs) other =
-    by_cases (λ t. find t (q ∷ x ∷ xs) ≡ find (node at part l r c cell) (q ∷ x ∷ xs)) (compare_parts p part) _ _ _
-    (λ e. ap (λ z. by_order (compare_parts q part) z (find c (x ∷ xs)) (find r (q ∷ x ∷ xs))) (find-with_cell_other l (p ∷ y ∷ ys) new (q ∷ x ∷ xs) other))
-    (λ e. same_where (compare_parts q part) (find l (q ∷ x ∷ xs)) (find (with_cell c (y ∷ ys) new) (x ∷ xs)) (find c (x ∷ xs)) (find r (q ∷ x ∷ xs))
-    (λ e'. find-with_cell_other c (y ∷ ys) new (x ∷ xs) (λ same. other (λ i. (same_part q part e' ∙ sym (same_part p part e)) i ∷ same i))))
-    (λ e. ap (λ z. by_order (compare_parts q part) (find l (q ∷ x ∷ xs)) (find c (x ∷ xs)) z) (find-with_cell_other r (p ∷ y ∷ ys) new (q ∷ x ∷ xs) other))
+    (λ e. ap (λ x. by_order (compare_parts q part) (cell_in l (q ∷ [])) cell x) (cell-with_cell_other r (p ∷ y ∷ ys) new (q ∷ []) other))
+cell-with_cell_other (node at part l r c cell) (p ∷ y ∷ ys) new (q ∷ x ∷ xs) other =
+    by_cases (λ t. cell_in t (q ∷ x ∷ xs) ≡ cell_in (node at part l r c cell) (q ∷ x ∷ xs)) (compare_parts p part) _ _ _
+    (λ e. ap (λ z. by_order (compare_parts q part) z (cell_in c (x ∷ xs)) (cell_in r (q ∷ x ∷ xs))) (cell-with_cell_other l (p ∷ y ∷ ys) new (q ∷ x ∷ xs) other))
+    (λ e. same_where (compare_parts q part) (cell_in l (q ∷ x ∷ xs)) (cell_in (with_cell c (y ∷ ys) new) (x ∷ xs)) (cell_in c (x ∷ xs)) (cell_in r (q ∷ x ∷ xs))
+    (λ e'. cell-with_cell_other c (y ∷ ys) new (x ∷ xs) (λ same. other (λ i. (same_part q part e' ∙ sym (same_part p part e)) i ∷ same i))))
+    (λ e. ap (λ z. by_order (compare_parts q part) (cell_in l (q ∷ x ∷ xs)) (cell_in c (x ∷ xs)) z) (cell-with_cell_other r (p ∷ y ∷ ys) new (q ∷ x ∷ xs) other))
 
 -- where all parts have nodes, the new cell is found
-pub find-with_cell_same : (t : Tree) (p : List ℕ) (ps : Parts) (new : ℕ) → depth t (p ∷ ps) ≡ length (p ∷ ps) → find (with_cell t (p ∷ ps) new) (p ∷ ps) ≡ new
-find-with_cell_same leaf p ps new all = absurd (omega arith)
-find-with_cell_same (node at part l r c cell) p [] new all =
-    by_cases (λ t. by_order (compare_parts p part) (depth l (p ∷ [])) (1 + depth c []) (depth r (p ∷ [])) ≡ 1 → find t (p ∷ []) ≡ new) (compare_parts p part) _ _ _
-    (λ e d. at_less (compare_parts p part) _ _ _ e ∙ find-with_cell_same l p [] new (sym (at_less (compare_parts p part) _ _ _ e) ∙ d))
+pub cell-with_cell_same : (t : Tree) (p : List ℕ) (ps : Parts) (new : Cell) → depth t (p ∷ ps) ≡ length (p ∷ ps) → cell_in (with_cell t (p ∷ ps) new) (p ∷ ps) ≡ new
+cell-with_cell_same leaf p ps new all = absurd (omega arith)
+cell-with_cell_same (node at part l r c cell) p [] new all =
+    by_cases (λ t. by_order (compare_parts p part) (depth l (p ∷ [])) (1 + depth c []) (depth r (p ∷ [])) ≡ 1 → cell_in t (p ∷ []) ≡ new) (compare_parts p part) _ _ _
+    (λ e d. at_less (compare_parts p part) _ _ _ e ∙ cell-with_cell_same l p [] new (sym (at_less (compare_parts p part) _ _ _ e) ∙ d))
     (λ e d. at_equal (compare_parts p part) _ _ _ e)
-    (λ e d. at_greater (compare_parts p part) _ _ _ e ∙ find-with_cell_same r p [] new (sym (at_greater (compare_parts p part) _ _ _ e) ∙ d))
+    (λ e d. at_greater (compare_parts p part) _ _ _ e ∙ cell-with_cell_same r p [] new (sym (at_greater (compare_parts p part) _ _ _ e) ∙ d))
     all
-find-with_cell_same (node at part l r c cell) p (y ∷ ys) new all =
-    by_cases (λ t. by_order (compare_parts p part) (depth l (p ∷ y ∷ ys)) (1 + depth c (y ∷ ys)) (depth r (p ∷ y ∷ ys)) ≡ length (p ∷ y ∷ ys) → find t (p ∷ y ∷ ys) ≡ new) (compare_parts p part) _ _ _
-    (λ e d. at_less (compare_parts p part) _ _ _ e ∙ find-with_cell_same l p (y ∷ ys) new (sym (at_less (compare_parts p part) _ _ _ e) ∙ d))
-    (λ e d. at_equal (compare_parts p part) _ _ _ e ∙ find-with_cell_same c y ys new (let d' = sym (at_equal (compare_parts p part) (depth l (p ∷ y ∷ ys)) (1 + depth c (y ∷ ys)) (depth r (p ∷ y ∷ ys)) e) ∙ d in omega arith))
-    (λ e d. at_greater (compare_parts p part) _ _ _ e ∙ find-with_cell_same r p (y ∷ ys) new (sym (at_greater (compare_parts p part) _ _ _ e) ∙ d))
+cell-with_cell_same (node at part l r c cell) p (y ∷ ys) new all =
+    by_cases (λ t. by_order (compare_parts p part) (depth l (p ∷ y ∷ ys)) (1 + depth c (y ∷ ys)) (depth r (p ∷ y ∷ ys)) ≡ length (p ∷ y ∷ ys) → cell_in t (p ∷ y ∷ ys) ≡ new) (compare_parts p part) _ _ _
+    (λ e d. at_less (compare_parts p part) _ _ _ e ∙ cell-with_cell_same l p (y ∷ ys) new (sym (at_less (compare_parts p part) _ _ _ e) ∙ d))
+    (λ e d. at_equal (compare_parts p part) _ _ _ e ∙ cell-with_cell_same c y ys new (let d' = sym (at_equal (compare_parts p part) (depth l (p ∷ y ∷ ys)) (1 + depth c (y ∷ ys)) (depth r (p ∷ y ∷ ys)) e) ∙ d in omega arith))
+    (λ e d. at_greater (compare_parts p part) _ _ _ e ∙ cell-with_cell_same r p (y ∷ ys) new (sym (at_greater (compare_parts p part) _ _ _ e) ∙ d))
     all
+
+-- the same of places
+pub find-grown : (n : ℕ) (t : Tree) (parts : Parts) (place : ℕ) (others : Parts) → find (grown n t parts place) others ≡ find t others
+find-grown n t parts place others = ap (λ (c : Cell). c.place) (cell-grown n t parts place others)
+
+pub find-with_cell_other : (t : Tree) (parts : Parts) (new : Cell) (others : Parts) → (others ≡ parts → ⊥) → find (with_cell t parts new) others ≡ find t others
+find-with_cell_other t parts new others other = ap (λ (c : Cell). c.place) (cell-with_cell_other t parts new others other)
+
+pub find-with_cell_same : (t : Tree) (p : List ℕ) (ps : Parts) (new : Cell) → depth t (p ∷ ps) ≡ length (p ∷ ps) → find (with_cell t (p ∷ ps) new) (p ∷ ps) ≡ new.place
+find-with_cell_same t p ps new all = ap (λ (c : Cell). c.place) (cell-with_cell_same t p ps new all)

@@ -1,11 +1,14 @@
 -- Growth and a new cell keep the tree in order, rising and apart.
-use Rattle.std.proofs.Common.{◌≡◌, ℕ, zero, suc, ◌+◌, ◌<◌, ◌≤◌, ◌⊎◌, List, [], ◌∷◌, drop, sym, ap, subst, inl, inr, ⊎_elim, arith}
+use Rattle.std.proofs.Common.{◌≡◌, ◌≢◌, ℕ, zero, suc, ◌+◌, ◌/◌, ◌<◌, ◌≤◌, ◌⊎◌, Bool, true, false, nat_le, refl, if◌then◌else◌, List, [], ◌∷◌, drop, sym, ap, subst, inl, inr, ⊎_elim, arith}
 use Rattle.std.specs.declared.cmp.Ordering.{Ordering}
 use Rattle.std.specs.declared.cmp.Ordering.TheVariants.{Less, Equal, Greater}
 use Rattle.property_trie.specs.Parts.{compare_parts, node_size}
-use Rattle.property_trie.specs.Tree.{Tree, by_order, depth, chain, grown, with_cell, node_sizes}
+use Rattle.std.proofs.lemmas.Bool.{cases_Bool}
+use Rattle.std.proofs.lemmas.Bool.Decides.{nat_tests}
+use Rattle.init_machine.specs.Words.{cell_words}
+use Rattle.property_trie.specs.Tree.{Tree, Cell, no_cell, cell_in, by_order, depth, chain, grown, with_cell, node_sizes}
 use Rattle.property_trie.specs.Tree.Tree.{leaf, node}
-use Rattle.property_trie.specs.Places.{EachSibling, IsOrdered, LiesFrom, IsRising, InNode, InCell, Takes}
+use Rattle.property_trie.specs.Places.{EachSibling, IsOrdered, LiesFrom, IsRising, InNode, InCell, Takes, HasWideCells}
 use Rattle.property_trie.proofs.Orders.{by_cases}
 
 abbrev Parts : Type 0
@@ -35,7 +38,7 @@ ordered-grown n (node at part l r c cell) (p ∷ ps) place h =
     (λ e. (h.0, h.1, h.2, h.3, ordered-grown n c ps place h.4))
     (λ e. (h.0, each-grown Greater n r p ps place part e h.1, h.2, ordered-grown n r (p ∷ ps) place h.3, h.4))
 
-each-with_cell : (o : Ordering) (t : Tree) (ps : Parts) (new : ℕ) (x : List ℕ) → EachSibling o t x → EachSibling o (with_cell t ps new) x
+each-with_cell : (o : Ordering) (t : Tree) (ps : Parts) (new : Cell) (x : List ℕ) → EachSibling o t x → EachSibling o (with_cell t ps new) x
 each-with_cell o leaf ps new x h = tt
 each-with_cell o (node at part l r c cell) [] new x h = h
 each-with_cell o (node at part l r c cell) (p ∷ []) new x h =
@@ -45,7 +48,7 @@ each-with_cell o (node at part l r c cell) (p ∷ y ∷ ys) new x h =
     by_cases (λ t. EachSibling o t x) (compare_parts p part) _ _ _
     (λ _. (h.0, each-with_cell o l (p ∷ y ∷ ys) new x h.1, h.2)) (λ _. (h.0, h.1, h.2)) (λ _. (h.0, h.1, each-with_cell o r (p ∷ y ∷ ys) new x h.2))
 
-pub ordered-with_cell : (t : Tree) (ps : Parts) (new : ℕ) → IsOrdered t → IsOrdered (with_cell t ps new)
+pub ordered-with_cell : (t : Tree) (ps : Parts) (new : Cell) → IsOrdered t → IsOrdered (with_cell t ps new)
 ordered-with_cell leaf ps new h = tt
 ordered-with_cell (node at part l r c cell) [] new h = h
 ordered-with_cell (node at part l r c cell) (p ∷ []) new h =
@@ -90,7 +93,7 @@ rising-chain (suc n) (p ∷ ps) place = let next = place + node_size p in
 abbrev pub Below : ℕ → Tree → Type 0
 Below high t = (word : ℕ) → Takes t word → word < high
 
-module _ (high at : ℕ) (part : List ℕ) (l r c : Tree) (cell : ℕ) (h : Below high (node at part l r c cell)) where
+module _ (high at : ℕ) (part : List ℕ) (l r c : Tree) (cell : Cell) (h : Below high (node at part l r c cell)) where
   pub below_own : (word : ℕ) → InNode at part word → word < high
   below_own word is = h word (inl is)
 
@@ -119,7 +122,7 @@ rising-grown n (node at part l r c cell) (p ∷ ps) place below h =
     (λ e. (h.0, h.1, lies-grown (at + 1) n c ps place le h.2, h.3, h.4, rising-grown n c ps place (below_children place at part l r c cell below) h.5))
     (λ e. (h.0, lies-grown (at + 1) n r (p ∷ ps) place le h.1, h.2, h.3, rising-grown n r (p ∷ ps) place (below_right place at part l r c cell below) h.4, h.5))
 
-lies-with_cell : (low : ℕ) (t : Tree) (ps : Parts) (new : ℕ) → LiesFrom low t → LiesFrom low (with_cell t ps new)
+lies-with_cell : (low : ℕ) (t : Tree) (ps : Parts) (new : Cell) → LiesFrom low t → LiesFrom low (with_cell t ps new)
 lies-with_cell low leaf ps new h = tt
 lies-with_cell low (node at part l r c cell) [] new h = h
 lies-with_cell low (node at part l r c cell) (p ∷ []) new h =
@@ -129,7 +132,7 @@ lies-with_cell low (node at part l r c cell) (p ∷ y ∷ ys) new h =
     by_cases (LiesFrom low) (compare_parts p part) _ _ _
     (λ e. (h.0, lies-with_cell low l (p ∷ y ∷ ys) new h.1, h.2, h.3)) (λ e. (h.0, h.1, h.2, lies-with_cell low c (y ∷ ys) new h.3)) (λ e. (h.0, h.1, lies-with_cell low r (p ∷ y ∷ ys) new h.2, h.3))
 
-pub rising-with_cell : (t : Tree) (ps : Parts) (new : ℕ) → IsRising t → IsRising (with_cell t ps new)
+pub rising-with_cell : (t : Tree) (ps : Parts) (new : Cell) → IsRising t → IsRising (with_cell t ps new)
 rising-with_cell leaf ps new h = tt
 rising-with_cell (node at part l r c cell) [] new h = h
 rising-with_cell (node at part l r c cell) (p ∷ []) new h =
@@ -150,7 +153,7 @@ takes-chain zero (p ∷ ps) place word is = absurd is
 takes-chain (suc n) (p ∷ ps) place word is = ⊎_elim
     (λ (own : InNode place p word). let a = own.0 in let b = own.1 in (a, omega arith))
     (λ other. ⊎_elim
-    (λ (cell : InCell 0 word). let a = cell.0 in absurd (omega arith))
+    (λ (cell : InCell no_cell word). let a = cell.0 in absurd (omega arith))
     (λ other'. ⊎_elim (λ none. absurd none)
     (λ other''. ⊎_elim (λ none. absurd none)
     (λ below. let rest = takes-chain n ps (place + node_size p) word below in let a = rest.0 in let b = rest.1 in (omega arith, omega arith))
@@ -183,7 +186,7 @@ takes-grown n (node at part l r c cell) (p ∷ ps) place word is =
           (λ a. inl (inr (inr (inr (inr a))))) b) b) b) is
     ] is
 
-pub takes-with_cell : (t : Tree) (ps : Parts) (new word : ℕ) → Takes (with_cell t ps new) word → Takes t word ⊎ InCell new word
+pub takes-with_cell : (t : Tree) (ps : Parts) (new : Cell) (word : ℕ) → Takes (with_cell t ps new) word → Takes t word ⊎ InCell new word
 takes-with_cell leaf ps new word is = absurd is
 takes-with_cell (node at part l r c cell) [] new word is = inl is
 takes-with_cell (node at part l r c cell) (p ∷ []) new word is =
@@ -207,3 +210,49 @@ takes-with_cell (node at part l r c cell) (p ∷ y ∷ ys) new word is =
     (λ a. ⊎_elim (λ old. inl (inr (inr (inr (inl old))))) (λ new. inr new) (takes-with_cell r (p ∷ y ∷ ys) new word a))
     (λ a. inl (inr (inr (inr (inr a))))) b) b) b) is)
     is
+
+-- the cells are wide
+wide-chain : (n : ℕ) (ps : Parts) (place : ℕ) → HasWideCells (chain n ps place)
+wide-chain n [] place = tt
+wide-chain zero (p ∷ ps) place = tt
+wide-chain (suc n) (p ∷ ps) place = ((λ some. absurd (some refl)), tt, tt, wide-chain n ps (place + node_size p))
+
+pub wide-grown : (n : ℕ) (t : Tree) (ps : Parts) (place : ℕ) → HasWideCells t → HasWideCells (grown n t ps place)
+wide-grown n leaf ps place h = wide-chain n ps place
+wide-grown n (node at part l r c cell) [] place h = h
+wide-grown n (node at part l r c cell) (p ∷ ps) place h =
+    by_cases HasWideCells (compare_parts p part) _ _ _
+    (λ e. (h.0, wide-grown n l (p ∷ ps) place h.1, h.2, h.3))
+    (λ e. (h.0, h.1, h.2, wide-grown n c ps place h.3))
+    (λ e. (h.0, h.1, wide-grown n r (p ∷ ps) place h.2, h.3))
+
+pub wide-with_cell : (t : Tree) (ps : Parts) (new : Cell) → 13 ≤ new.words → HasWideCells t → HasWideCells (with_cell t ps new)
+wide-with_cell leaf ps new wide h = tt
+wide-with_cell (node at part l r c cell) [] new wide h = h
+wide-with_cell (node at part l r c cell) (p ∷ []) new wide h =
+    by_cases HasWideCells (compare_parts p part) _ _ _
+    (λ e. (h.0, wide-with_cell l (p ∷ []) new wide h.1, h.2, h.3)) (λ e. ((λ some. wide), h.1, h.2, h.3)) (λ e. (h.0, h.1, wide-with_cell r (p ∷ []) new wide h.2, h.3))
+wide-with_cell (node at part l r c cell) (p ∷ y ∷ ys) new wide h =
+    by_cases HasWideCells (compare_parts p part) _ _ _
+    (λ e. (h.0, wide-with_cell l (p ∷ y ∷ ys) new wide h.1, h.2, h.3))
+    (λ e. (h.0, h.1, h.2, wide-with_cell c (y ∷ ys) new wide h.3))
+    (λ e. (h.0, h.1, wide-with_cell r (p ∷ y ∷ ys) new wide h.2, h.3))
+
+pub wide_cell : (t : Tree) (ps : Parts) → HasWideCells t → (cell_in t ps).place ≢ 0 → 13 ≤ (cell_in t ps).words
+wide_cell leaf ps h some = absurd (some refl)
+wide_cell (node at part l r c cell) [] h some = absurd (some refl)
+wide_cell (node at part l r c cell) (p ∷ []) h some =
+    by_cases (λ (x : Cell). x.place ≢ 0 → 13 ≤ x.words) (compare_parts p part) _ _ _ (λ e. wide_cell l (p ∷ []) h.1) (λ e. h.0) (λ e. wide_cell r (p ∷ []) h.2) some
+wide_cell (node at part l r c cell) (p ∷ y ∷ ys) h some =
+    by_cases (λ (x : Cell). x.place ≢ 0 → 13 ≤ x.words) (compare_parts p part) _ _ _ (λ e. wide_cell l (p ∷ y ∷ ys) h.1) (λ e. wide_cell c (y ∷ ys) h.3) (λ e. wide_cell r (p ∷ y ∷ ys) h.2) some
+
+-- a cell has at least 13 words
+pub cell_wide : (len : ℕ) → 13 ≤ cell_words len
+cell_wide len = ⊎_elim
+    (λ (short : nat_le len 91 ≡ true). let is : cell_words len ≡ 13 = ap (λ (b : Bool). if b then 13 else 2 + (len + 7) / 8) short in omega arith)
+    (λ (long : nat_le len 91 ≡ false). let is : cell_words len ≡ 2 + (len + 7) / 8 = ap (λ (b : Bool). if b then 13 else 2 + (len + 7) / 8) long in
+    let more : 91 < len = past len long in omega arith)
+    (cases_Bool (nat_le len 91))
+  where
+    past : (len : ℕ) → nat_le len 91 ≡ false → 91 < len
+    past len f = grind (arith, nat_tests)

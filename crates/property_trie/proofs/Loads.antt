@@ -4,7 +4,7 @@ use Rattle.std.proofs.Common.{◌≡◌, ◌≢◌, ℕ, zero, suc, ◌+◌, ◌
 use Rattle.std.proofs.lemmas.List.{length-drop}
 use Rattle.serial_value.specs.Words.{text_word}
 use Rattle.property_trie.specs.Parts.{parts_of, node_size}
-use Rattle.property_trie.specs.Tree.{Tree, find, depth, Extends}
+use Rattle.property_trie.specs.Tree.{Tree, Cell, find, depth, Extends}
 use Rattle.property_trie.specs.Tree.Tree.{leaf, node}
 use Rattle.property_trie.specs.Places.{Takes, LiesFrom, link_to}
 use Rattle.property_trie.specs.TreeWords.{link_at, part_words}
@@ -14,7 +14,7 @@ use Rattle.property_trie.specs.Walk.{WalksTo, Stands, EndsAt}
 use Rattle.property_trie.specs.declared.view.Trail.{Trail}
 use Rattle.property_trie.specs.declared.view.TrieView.{TrieView}
 use Rattle.property_trie.proofs.Names.{first_part}
-use Rattle.property_trie.proofs.Lies.{lies-lower}
+use Rattle.property_trie.proofs.Lies.{wide_cell, lies-lower}
 use Rattle.property_trie.proofs.Cells.{found_takes}
 use Rattle.property_trie.proofs.Extending.{extends-find}
 use Rattle.property_trie.proofs.Walks.{walk_begins, Reached, reaches, ends_find}
@@ -39,7 +39,7 @@ record IsNode (t : Tree) : Type 0 where
   left : Tree
   right : Tree
   children : Tree
-  cell : ℕ
+  cell : Cell
   is : t ≡ node place part left right children cell
 
 leaf_or_node : (t : Tree) → (t ≡ leaf) ⊎ IsNode t
@@ -121,7 +121,7 @@ module _ (words : List ℕ) (tree : Tree) (mark : ℕ) (h : TrieStands words tre
         absurd (omega arith))
         (leaf_or_node k.below)
 
-    standing_first : (place : ℕ) (part : List ℕ) (l r c : Tree) (cell : ℕ) (q : List ℕ) (qs : Parts) → Stands (node place part l r c cell) (q ∷ qs) place part (q ∷ qs)
+    standing_first : (place : ℕ) (part : List ℕ) (l r c : Tree) (cell : Cell) (q : List ℕ) (qs : Parts) → Stands (node place part l r c cell) (q ∷ qs) place part (q ∷ qs)
     standing_first place part l r c cell q qs = inl (refl, refl, refl)
 
     first_left : (k : ℕ) (ps : Parts) → k < length ps → (q : List ℕ) × (qs : Parts) × (drop k ps ≡ q ∷ qs)
@@ -166,6 +166,7 @@ module _ (words : List ℕ) (tree : Tree) (mark : ℕ) (h : TrieStands words tre
     cell_inside link comes some =
         let at : find tree parts ≡ get_or words link 0 = sym (cell_found link comes) in
         let place : ℕ = find tree parts in
+        let wide = wide_cell tree parts h.lies.wide (λ none. some (sym at ∙ none)) in
         let low = (h.lies.within place (found_takes tree parts place (omega arith, omega arith, omega arith))).0 in
         let high = (h.lies.within (place + 12) (found_takes tree parts (place + 12) (omega arith, omega arith, omega arith))).1 in
         let room = h.room in

@@ -6,7 +6,7 @@ use Rattle.std.proofs.Math.Seq.{drop-nil}
 use Rattle.std.proofs.lemmas.Bool.{ltb-true, ltb-false}
 use Rattle.std.proofs.lemmas.Bool.Decides.{nat_tests}
 use Rattle.init_machine.specs.Kept.Nodes.{total_beyond}
-use Rattle.init_machine.specs.Words.{is_among, prefixes_of, node_words, need_of}
+use Rattle.init_machine.specs.Words.{is_among, prefixes_of, node_words, Sized, names_in, cell_words, need_of}
 use Rattle.init_machine.proofs.DistinctSums.{total, among-append}
 use Rattle.init_machine.proofs.Needs.{sum-total, need_beyond}
 use Rattle.init_machine.proofs.Prefixes.{parts, prefixes-are}
@@ -141,13 +141,15 @@ total_beyond-marked w qs (p ∷ ps) j k m =
     ap (λ b. (if b then 0 else w p) + total_beyond w qs ps) m.0 ∙ ap (λ n. (if nat_lt j k then 0 else w p) + n) (total_beyond-marked w qs ps (j + 1) k m.1) ∙ beyond_step w p ps j k
 
 -- what an absent name needs: its cell, and the nodes of the prefixes that it doesn't share
-pub need_is : (names : List (List ℕ)) (name : List ℕ) → need_of names name ≡ 13 + sum (map node_words (drop (shared_with names name) (prefixes_of name)))
-need_is names name =
+pub need_is : (sized : List Sized) (name : List ℕ) (len : ℕ) → is_among (names_in sized) name ≡ false
+    → need_of sized name len ≡ cell_words len + sum (map node_words (drop (shared_with (names_in sized) name) (prefixes_of name)))
+need_is sized name len absent =
+    let names = names_in sized in
     let held : List (List ℕ) = flat_map prefixes_of names in
     let most : ℕ = shared_with names name in
     let whole : most - 0 ≡ most = omega arith in
     let first : Marked held (prefixes_of name) 0 most = rw (prefixes-are name) (marks_all names name) in
     let beyond : total_beyond node_words held (prefixes_of name) ≡ total node_words (drop most (prefixes_of name)) =
     total_beyond-marked node_words held (prefixes_of name) 0 most first ∙ ap (λ k. total node_words (drop k (prefixes_of name))) whole in
-    let needed = need_beyond names name held (λ z. refl) in
-    sym needed ∙ (ap (λ n. 13 + n) beyond ∙ ap (λ n. 13 + n) (sym (sum-total (drop most (prefixes_of name)))))
+    let needed = need_beyond sized name len held absent (λ z. refl) in
+    sym needed ∙ (ap (λ n. cell_words len + n) beyond ∙ ap (λ n. cell_words len + n) (sym (sum-total (drop most (prefixes_of name)))))

@@ -4,7 +4,7 @@ use Rattle.std.specs.declared.cmp.Ordering.{Ordering}
 use Rattle.std.specs.declared.cmp.Ordering.TheVariants.{Less, Equal, Greater}
 use Rattle.serial_value.specs.Words.{text_word}
 use Rattle.property_trie.specs.Parts.{compare_parts}
-use Rattle.property_trie.specs.Tree.{Tree, by_order, Extends}
+use Rattle.property_trie.specs.Tree.{Tree, Cell, by_order, Extends}
 use Rattle.property_trie.specs.Tree.Tree.{leaf, node}
 use Rattle.property_trie.specs.Places.{InNode, Takes}
 use Rattle.property_trie.specs.TreeWords.{TreeHolds, part_words}
@@ -42,7 +42,7 @@ pub record Node (t : Tree) (words : List ℕ) (at : ℕ) (own : List ℕ) : Type
   pub length_is : TreeHolds words t → get_or words at 0 ≡ length own
   pub word_is : TreeHolds words t → (k : ℕ) → k < part_words own → get_or words (at + 5 + k) 0 ≡ text_word own k
 
-module _ (place : ℕ) (part : List ℕ) (l r c : Tree) (cell : ℕ) (words : List ℕ) (at : ℕ) (own : List ℕ) where
+module _ (place : ℕ) (part : List ℕ) (l r c : Tree) (cell : Cell) (words : List ℕ) (at : ℕ) (own : List ℕ) where
   abbrev whole : Tree
   whole = node place part l r c cell
 
@@ -103,7 +103,7 @@ stands_node (node place part l r c cell) (p ∷ y ∷ ys) at own rest words s = 
     s
 
 -- a walk that begins at a node goes on from it
-goes_here : (place : ℕ) (part : List ℕ) (l r c : Tree) (cell top : ℕ) (parts : Parts) (link : ℕ) (rest : Parts) → GoesOn place part parts link rest
+goes_here : (place : ℕ) (part : List ℕ) (l r c : Tree) (cell : Cell) (top : ℕ) (parts : Parts) (link : ℕ) (rest : Parts) → GoesOn place part parts link rest
     → WalksTo (node place part l r c cell) top parts link rest
 goes_here place part l r c cell top [] link rest goes = absurd goes
 goes_here place part l r c cell top (p ∷ []) link rest goes = inr (chosen_on (compare_parts p part)
@@ -141,7 +141,7 @@ stands_goes (node place part l r c cell) top (p ∷ y ∷ ys) at own left link r
     (λ e w. stands_goes r (place + 2) (p ∷ y ∷ ys) at own left link rest w goes) on))
     s
 
-ends_here : (place : ℕ) (part : List ℕ) (l r c : Tree) (cell : ℕ) (p : List ℕ) (ps : Parts) (own : List ℕ) → own ≡ part → own ∷ [] ≡ p ∷ ps → EndsAt (node place part l r c cell) (p ∷ ps) (place + 4)
+ends_here : (place : ℕ) (part : List ℕ) (l r c : Tree) (cell : Cell) (p : List ℕ) (ps : Parts) (own : List ℕ) → own ≡ part → own ∷ [] ≡ p ∷ ps → EndsAt (node place part l r c cell) (p ∷ ps) (place + 4)
 ends_here place part l r c cell p [] own same last =
     let e : p ≡ part = cc in
     subst (λ (o : Ordering). by_order o (EndsAt l (p ∷ []) (place + 4)) (place + 4 ≡ place + 4) (EndsAt r (p ∷ []) (place + 4))) (sym (ap (λ (q : List ℕ). compare_parts q part) e ∙ compare_same part)) refl

@@ -11,13 +11,13 @@ use Rattle.property_trie.specs.Tree.{Tree, by_order, alike, depth, grown, trie_o
 use Rattle.property_trie.specs.Tree.Tree.{leaf, node}
 use Rattle.property_trie.specs.Places.{Takes}
 use Rattle.property_trie.specs.TreeWords.{NodeHolds, link_at, missing_part}
-use Rattle.property_trie.specs.TrieSteps.{IsShortText, names_of, tree_of, missing_parts}
+use Rattle.property_trie.specs.TrieSteps.{IsShortText, sizes_of, tree_of, missing_parts}
 use Rattle.property_trie.specs.Additions.{first_words, new_node_word, new_node, tree_with, free_place, IsNext}
 use Rattle.property_trie.specs.Held.{HasShortParts, TrieStands, AdditionStands}
 use Rattle.property_trie.proofs.Growth.{depth-grown}
 use Rattle.property_trie.proofs.Names.{alike_self}
 use Rattle.property_trie.proofs.Marks.{trie_is}
-use Rattle.property_trie.proofs.Lies.{ordered-grown, rising-grown, drop_more}
+use Rattle.property_trie.proofs.Lies.{ordered-grown, rising-grown, wide-grown, drop_more}
 use Rattle.property_trie.proofs.Apart.{apart-grown}
 use Rattle.property_trie.proofs.Extending.{grown_more}
 use Rattle.property_trie.proofs.Frames.{nodes_take, tree_else, links}
@@ -38,7 +38,7 @@ snoc_new (x ∷ xs) w = snoc_new xs w
 
 -- a mark lies behind the head
 mark_high : (sets : List Set) (name : List ℕ) (linked : ℕ) → 16 ≤ free_place sets name linked
-mark_high sets name linked = let high = (trie_is (names_of sets)).above in omega arith
+mark_high sets name linked = let high = (trie_is (sizes_of sets)).above in omega arith
 
 -- the next fresh word
 pub fresh_stored : (words : List ℕ) (sets : List Set) (name : List ℕ) (linked : ℕ) (fresh : List ℕ) (word : ℕ) → AdditionStands words sets name linked fresh
@@ -158,7 +158,7 @@ pub node_stored : (words : List ℕ) (sets : List Set) (name : List ℕ) (linked
 node_stored words sets name linked part h next short =
     let ps : Parts = parts_of name in
     let t0 : Tree = tree_of sets in
-    let mark : ℕ = (trie_of (names_of sets)).mark in
+    let mark : ℕ = (trie_of (sizes_of sets)).mark in
     let t : Tree = tree_with sets name linked in
     let free : ℕ = free_place sets name linked in
     let link : ℕ = link_at 1 t ps in
@@ -198,6 +198,7 @@ node_stored words sets name linked part h next short =
               (λ (n : (free ≤ word) × (word < free + node_size (missing_part t ps))). let a = n.0 in let b = n.1 in let e = ap node_size first in (omega arith, omega arith))
               (takes_one t ps free word is);
           apart = apart-grown 1 t ps free below h.trie.lies.apart;
+          wide = wide-grown 1 t ps free h.trie.lies.wide;
         };
         room = omega arith;
         parts = short_grown t ps free h.trie.parts (subst IsShortText (sym first) short);

@@ -5,7 +5,7 @@ use native.Mathlib.Decide.{dec_le}
 use Rattle.std.specs.declared.cmp.Ordering.{Ordering}
 use Rattle.std.specs.declared.cmp.Ordering.TheVariants.{Less, Equal, Greater}
 use Rattle.property_trie.specs.Parts.{compare_parts}
-use Rattle.property_trie.specs.Tree.{Tree, by_order, at_last, find, depth, Extends}
+use Rattle.property_trie.specs.Tree.{Tree, Cell, by_order, at_last, find, depth, Extends}
 use Rattle.property_trie.specs.Tree.Tree.{leaf, node}
 use Rattle.property_trie.specs.Places.{link_to, LiesFrom, IsRising, InNode, Takes, IsApart}
 use Rattle.property_trie.specs.TreeWords.{TreeHolds, link_at, missing_part}
@@ -102,14 +102,14 @@ unchosen Less x y z h = inl (refl, h)
 unchosen Equal x y z h = inr (inl (refl, h))
 unchosen Greater x y z h = inr (inr (refl, h))
 
-module _ (at : ℕ) (part : List ℕ) (l r c : Tree) (cell top link : ℕ) (p : List ℕ) (ps rest : Parts) (words : List ℕ) where
+module _ (at : ℕ) (part : List ℕ) (l r c : Tree) (cell : Cell) (top link : ℕ) (p : List ℕ) (ps rest : Parts) (words : List ℕ) where
   abbrev whole : Tree
   whole = node at part l r c cell
 
   reached_left : compare_parts p part ≡ Less → Reached l (at + 1) (p ∷ ps) link rest words → Reached whole top (p ∷ ps) link rest words
   reached_left e k = record {
     below = k.below;
-    found = at_less (compare_parts p part) _ _ _ e ∙ k.found;
+    found = ap (λ (x : Cell). x.place) (at_less (compare_parts p part) _ _ _ e) ∙ k.found;
     same_link = at_less (compare_parts p part) _ _ _ e ∙ k.same_link;
     same_part = at_less (compare_parts p part) _ _ _ e ∙ k.same_part;
     deep = let d = at_less (compare_parts p part) (depth l (p ∷ ps)) (1 + depth c ps) (depth r (p ∷ ps)) e in let d' = k.deep in omega arith;
@@ -126,7 +126,7 @@ module _ (at : ℕ) (part : List ℕ) (l r c : Tree) (cell top link : ℕ) (p : 
   reached_right : compare_parts p part ≡ Greater → Reached r (at + 2) (p ∷ ps) link rest words → Reached whole top (p ∷ ps) link rest words
   reached_right e k = record {
     below = k.below;
-    found = at_greater (compare_parts p part) _ _ _ e ∙ k.found;
+    found = ap (λ (x : Cell). x.place) (at_greater (compare_parts p part) _ _ _ e) ∙ k.found;
     same_link = at_greater (compare_parts p part) _ _ _ e ∙ k.same_link;
     same_part = at_greater (compare_parts p part) _ _ _ e ∙ k.same_part;
     deep = let d = at_greater (compare_parts p part) (depth l (p ∷ ps)) (1 + depth c ps) (depth r (p ∷ ps)) e in let d' = k.deep in omega arith;
@@ -140,11 +140,11 @@ module _ (at : ℕ) (part : List ℕ) (l r c : Tree) (cell top link : ℕ) (p : 
     stands = λ place own rest' w. inr (subst (λ (o : Ordering). by_order o (Stands l (p ∷ ps) place own rest') (at_last ps ⊥ (Stands c ps place own rest')) (Stands r (p ∷ ps) place own rest')) (sym e) (k.stands place own rest' w));
   }
 
-module _ (at : ℕ) (part : List ℕ) (l r c : Tree) (cell top link : ℕ) (p y : List ℕ) (ys rest : Parts) (words : List ℕ) where
+module _ (at : ℕ) (part : List ℕ) (l r c : Tree) (cell : Cell) (top link : ℕ) (p y : List ℕ) (ys rest : Parts) (words : List ℕ) where
   reached_children : compare_parts p part ≡ Equal → Reached c (at + 3) (y ∷ ys) link rest words → Reached (node at part l r c cell) top (p ∷ y ∷ ys) link rest words
   reached_children e k = record {
     below = k.below;
-    found = at_equal (compare_parts p part) _ _ _ e ∙ k.found;
+    found = ap (λ (x : Cell). x.place) (at_equal (compare_parts p part) _ _ _ e) ∙ k.found;
     same_link = at_equal (compare_parts p part) _ _ _ e ∙ k.same_link;
     same_part = at_equal (compare_parts p part) _ _ _ e ∙ k.same_part;
     deep = let d = at_equal (compare_parts p part) (depth l (p ∷ y ∷ ys)) (1 + depth c (y ∷ ys)) (depth r (p ∷ y ∷ ys)) e in let d' = k.deep in omega arith;
@@ -195,7 +195,7 @@ reaches (node at part l r c cell) top (p ∷ y ∷ ys) link rest words w is hold
     w
 
 module _ (t : Tree) (top : ℕ) (parts : Parts) (link : ℕ) (q : List ℕ) (qs : Parts) (words : List ℕ) (k : Reached t top parts link (q ∷ qs) words)
-    (at : ℕ) (part : List ℕ) (l r c : Tree) (cell : ℕ) (is : k.below ≡ node at part l r c cell) where
+    (at : ℕ) (part : List ℕ) (l r c : Tree) (cell : Cell) (is : k.below ≡ node at part l r c cell) where
   abbrev there : Tree
   there = node at part l r c cell
 
@@ -211,14 +211,14 @@ module _ (t : Tree) (top : ℕ) (parts : Parts) (link : ℕ) (q : List ℕ) (qs 
 
 -- down to the children of an equal part
 pub goes_down : (t : Tree) (top : ℕ) (parts : Parts) (link : ℕ) (q y : List ℕ) (ys : Parts) (words : List ℕ) (k : Reached t top parts link (q ∷ y ∷ ys) words)
-    (at : ℕ) (part : List ℕ) (l r c : Tree) (cell : ℕ) → k.below ≡ node at part l r c cell → compare_parts q part ≡ Equal → WalksTo t top parts (at + 3) (y ∷ ys)
+    (at : ℕ) (part : List ℕ) (l r c : Tree) (cell : Cell) → k.below ≡ node at part l r c cell → compare_parts q part ≡ Equal → WalksTo t top parts (at + 3) (y ∷ ys)
 goes_down t top parts link q y ys words k at part l r c cell is e =
     onwards t top parts link q (y ∷ ys) words k at part l r c cell is (at + 3) (y ∷ ys)
     (inr (subst (λ (o : Ordering). by_order o (WalksTo l (at + 1) (q ∷ y ∷ ys) (at + 3) (y ∷ ys)) (WalksTo c (at + 3) (y ∷ ys) (at + 3) (y ∷ ys)) (WalksTo r (at + 2) (q ∷ y ∷ ys) (at + 3) (y ∷ ys))) (sym e) (walk_begins c (at + 3) (y ∷ ys))))
 
 -- at the last part the property's link stands in the node
 pub comes_to : (t : Tree) (top : ℕ) (parts : Parts) (link : ℕ) (q : List ℕ) (words : List ℕ) (k : Reached t top parts link (q ∷ []) words)
-    (at : ℕ) (part : List ℕ) (l r c : Tree) (cell : ℕ) → k.below ≡ node at part l r c cell → compare_parts q part ≡ Equal → EndsAt t parts (at + 4)
+    (at : ℕ) (part : List ℕ) (l r c : Tree) (cell : Cell) → k.below ≡ node at part l r c cell → compare_parts q part ≡ Equal → EndsAt t parts (at + 4)
 comes_to t top parts link q words k at part l r c cell is e =
     k.ends (at + 4) (subst (λ (b : Tree). EndsAt b (q ∷ []) (at + 4)) (sym is)
     (subst (λ (o : Ordering). by_order o (EndsAt l (q ∷ []) (at + 4)) (at + 4 ≡ at + 4) (EndsAt r (q ∷ []) (at + 4))) (sym e) refl))
@@ -242,17 +242,17 @@ pub ends_find : (t : Tree) (parts : Parts) (link : ℕ) (words : List ℕ) → E
 ends_find leaf parts link words w holds = absurd w
 ends_find (node at part l r c cell) [] link words w holds = absurd w
 ends_find (node at part l r c cell) (p ∷ []) link words w holds = ⊎_elim
-    (λ (less : (compare_parts p part ≡ Less) × EndsAt l (p ∷ []) link). ends_find l (p ∷ []) link words less.1 holds.1 ∙ sym (at_less (compare_parts p part) _ _ _ less.0))
+    (λ (less : (compare_parts p part ≡ Less) × EndsAt l (p ∷ []) link). ends_find l (p ∷ []) link words less.1 holds.1 ∙ sym (ap (λ (x : Cell). x.place) (at_less (compare_parts p part) _ _ _ less.0)))
     (λ other. ⊎_elim
-    (λ (equal : (compare_parts p part ≡ Equal) × (link ≡ at + 4)). ap (λ (j : ℕ). get_or words j 0) equal.1 ∙ (holds.0.cell_is ∙ sym (at_equal (compare_parts p part) _ _ _ equal.0)))
-    (λ (greater : (compare_parts p part ≡ Greater) × EndsAt r (p ∷ []) link). ends_find r (p ∷ []) link words greater.1 holds.2 ∙ sym (at_greater (compare_parts p part) _ _ _ greater.0))
+    (λ (equal : (compare_parts p part ≡ Equal) × (link ≡ at + 4)). ap (λ (j : ℕ). get_or words j 0) equal.1 ∙ (holds.0.cell_is ∙ sym (ap (λ (x : Cell). x.place) (at_equal (compare_parts p part) _ _ _ equal.0))))
+    (λ (greater : (compare_parts p part ≡ Greater) × EndsAt r (p ∷ []) link). ends_find r (p ∷ []) link words greater.1 holds.2 ∙ sym (ap (λ (x : Cell). x.place) (at_greater (compare_parts p part) _ _ _ greater.0)))
     other)
     (unchosen (compare_parts p part) (EndsAt l (p ∷ []) link) (link ≡ at + 4) (EndsAt r (p ∷ []) link) w)
 ends_find (node at part l r c cell) (p ∷ y ∷ ys) link words w holds = ⊎_elim
-    (λ (less : (compare_parts p part ≡ Less) × EndsAt l (p ∷ y ∷ ys) link). ends_find l (p ∷ y ∷ ys) link words less.1 holds.1 ∙ sym (at_less (compare_parts p part) _ _ _ less.0))
+    (λ (less : (compare_parts p part ≡ Less) × EndsAt l (p ∷ y ∷ ys) link). ends_find l (p ∷ y ∷ ys) link words less.1 holds.1 ∙ sym (ap (λ (x : Cell). x.place) (at_less (compare_parts p part) _ _ _ less.0)))
     (λ other. ⊎_elim
-    (λ (equal : (compare_parts p part ≡ Equal) × EndsAt c (y ∷ ys) link). ends_find c (y ∷ ys) link words equal.1 holds.3 ∙ sym (at_equal (compare_parts p part) _ _ _ equal.0))
-    (λ (greater : (compare_parts p part ≡ Greater) × EndsAt r (p ∷ y ∷ ys) link). ends_find r (p ∷ y ∷ ys) link words greater.1 holds.2 ∙ sym (at_greater (compare_parts p part) _ _ _ greater.0))
+    (λ (equal : (compare_parts p part ≡ Equal) × EndsAt c (y ∷ ys) link). ends_find c (y ∷ ys) link words equal.1 holds.3 ∙ sym (ap (λ (x : Cell). x.place) (at_equal (compare_parts p part) _ _ _ equal.0)))
+    (λ (greater : (compare_parts p part ≡ Greater) × EndsAt r (p ∷ y ∷ ys) link). ends_find r (p ∷ y ∷ ys) link words greater.1 holds.2 ∙ sym (ap (λ (x : Cell). x.place) (at_greater (compare_parts p part) _ _ _ greater.0)))
     other)
     (unchosen (compare_parts p part) (EndsAt l (p ∷ y ∷ ys) link) (EndsAt c (y ∷ ys) link) (EndsAt r (p ∷ y ∷ ys) link) w)
 

@@ -4,6 +4,7 @@
 use Rattle.std.specs.Prelude.{◌≡◌, ℕ, zero, suc, ◌+◌, ◌<◌, ◌≤◌, IsTrue, List, [], ◌∷◌, ◌++◌, length, take, drop, Option, Some, None}
 use Rattle.init_base.specs.Name.{LegalName}
 use Rattle.init_machine.specs.Serial.{top_byte, clean_serial}
+use Rattle.init_machine.specs.Words.{cell_words}
 use Rattle.init_machine.specs.Sets.{Set}
 use Rattle.serial_value.specs.declared.view.CellView.{CellView}
 use Rattle.serial_value.specs.declared.view.CellView.TheVariants.{Writer}
@@ -11,7 +12,7 @@ use Rattle.serial_value.specs.Words.{text_word, body_word}
 use Rattle.serial_value.specs.Cell.{sets_of, accepted}
 use Rattle.property_trie.specs.Parts.{parts_of, node_size}
 use Rattle.property_trie.specs.Tree.{Tree, find, grown, node_sizes, cell_place, trie_of}
-use Rattle.property_trie.specs.TrieSteps.{names_of, tree_of, missing_parts}
+use Rattle.property_trie.specs.TrieSteps.{sizes_of, tree_of, missing_parts}
 use Rattle.property_trie.specs.TreeWords.{link_at}
 use Rattle.property_trie.specs.Walk.{EndsAt}
 use Rattle.property_trie.specs.declared.view.Adding.{Adding}
@@ -37,13 +38,14 @@ new_node_word part (suc (suc (suc (suc (suc k))))) = text_word part k
 abbrev pub new_node : List ℕ → List ℕ
 new_node part = first_words (new_node_word part) (node_size part)
 
--- word k of a new cell, which has the value under this number
+-- word k of a new cell, which has the value under this number: its serial, and its body, which has the length in front where the
+-- cell is long
 abbrev pub new_cell_word : ℕ → List ℕ → ℕ → ℕ
 new_cell_word number value zero = clean_serial (top_byte value) number
 new_cell_word number value (suc k) = body_word value k
 
 abbrev pub new_cell : ℕ → List ℕ → List ℕ
-new_cell number value = first_words (new_cell_word number value) 13
+new_cell number value = first_words (new_cell_word number value) (cell_words (length value))
 
 -- the addition of the name, once so many of its missing nodes are linked and these words stand from the first free word on;
 -- it begins with the first word
@@ -63,18 +65,18 @@ fresh_in (Some adding) = adding.fresh
 
 -- the first free word of the trie of these sets, and where the cell of a new name comes to lie, behind its new nodes
 abbrev pub mark_of : List Set → ℕ
-mark_of sets = (trie_of (names_of sets)).mark
+mark_of sets = (trie_of (sizes_of sets)).mark
 
 abbrev pub new_place : List Set → List ℕ → ℕ
-new_place sets name = cell_place (trie_of (names_of sets)) (parts_of name)
+new_place sets name = cell_place (trie_of (sizes_of sets)) (parts_of name)
 
 -- the tree, once so many of the missing nodes of the name are linked
 abbrev pub tree_with : List Set → List ℕ → ℕ → Tree
-tree_with sets name linked = grown linked (tree_of sets) (parts_of name) (trie_of (names_of sets)).mark
+tree_with sets name linked = grown linked (tree_of sets) (parts_of name) (trie_of (sizes_of sets)).mark
 
 -- and the first free word
 abbrev pub free_place : List Set → List ℕ → ℕ → ℕ
-free_place sets name linked = (trie_of (names_of sets)).mark + node_sizes (take linked (missing_parts (tree_of sets) (parts_of name)))
+free_place sets name linked = (trie_of (sizes_of sets)).mark + node_sizes (take linked (missing_parts (tree_of sets) (parts_of name)))
 
 -- how many nodes the name misses
 abbrev pub missing_count : List Set → List ℕ → ℕ
@@ -103,7 +105,7 @@ linking trie name place = record trie { known = (name, place) ∷ trie.known; ad
 -- all nodes of the name are linked, and its cell's link and its cell come to lie at these places
 pub record HasPath (words : ℕ) (sets : List Set) (name : List ℕ) (new : NewCell) : Type 0 where
   pub ends : EndsAt (tree_with sets name (missing_count sets name)) (parts_of name) new.link
-  pub free : new.place ≡ cell_place (trie_of (names_of sets)) (parts_of name)
+  pub free : new.place ≡ cell_place (trie_of (sizes_of sets)) (parts_of name)
   pub inside : new.link < words
 
 -- where the search of the writer ends for a name that is in no set

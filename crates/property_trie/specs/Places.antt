@@ -1,9 +1,9 @@
 -- Where the nodes and the cells of a tree lie.
-use Rattle.std.specs.Prelude.{◌≡◌, ℕ, ◌+◌, ◌<◌, ◌≤◌, ◌⊎◌, List}
+use Rattle.std.specs.Prelude.{◌≡◌, ◌≢◌, ℕ, ◌+◌, ◌<◌, ◌≤◌, ◌⊎◌, List}
 use Rattle.std.specs.declared.cmp.Ordering.{Ordering}
 use Rattle.std.specs.declared.cmp.Ordering.TheVariants.{Less, Greater}
 use Rattle.property_trie.specs.Parts.{compare_parts, node_size}
-use Rattle.property_trie.specs.Tree.{Tree}
+use Rattle.property_trie.specs.Tree.{Tree, Cell}
 use Rattle.property_trie.specs.Tree.Tree.{leaf, node}
 
 -- what a link to these siblings is: the place of the first node, 0 for none
@@ -36,12 +36,12 @@ IsRising (node place part left right children cell) =
     LiesFrom (place + 1) left × LiesFrom (place + 1) right × LiesFrom (place + 1) children
     × IsRising left × IsRising right × IsRising children
 
--- the word is one of a node or of a cell: a cell is a serial and twelve value words
+-- the word is one of a node or of a cell
 abbrev pub InNode : ℕ → List ℕ → ℕ → Type 0
 InNode place part word = (place ≤ word) × (word < place + node_size part)
 
-abbrev pub InCell : ℕ → ℕ → Type 0
-InCell cell word = (0 < cell) × (cell ≤ word) × (word < cell + 13)
+abbrev pub InCell : Cell → ℕ → Type 0
+InCell cell word = (0 < cell.place) × (cell.place ≤ word) × (word < cell.place + cell.words)
 
 -- the word is one of the tree's nodes or cells
 abbrev pub Takes : Tree → ℕ → Type 0
@@ -63,9 +63,16 @@ IsApart (node place part left right children cell) =
     × Apart (Takes left) (Takes right) × Apart (Takes left) (Takes children) × Apart (Takes right) (Takes children)
     × IsApart left × IsApart right × IsApart children
 
+-- each cell has at least the words of a short one
+abbrev pub HasWideCells : Tree → Type 0
+HasWideCells leaf = Unit {0}
+HasWideCells (node place part left right children cell) =
+    (cell.place ≢ 0 → 13 ≤ cell.words) × HasWideCells left × HasWideCells right × HasWideCells children
+
 -- What holds of where a trie lies: its nodes and cells are between word 16 and the mark, apart, and in order.
 pub record LiesWell (tree : Tree) (mark : ℕ) : Type 0 where
   pub ordered : IsOrdered tree
   pub rising : IsRising tree
   pub within : (word : ℕ) → Takes tree word → (16 ≤ word) × (word < mark)
   pub apart : IsApart tree
+  pub wide : HasWideCells tree

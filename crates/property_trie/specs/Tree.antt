@@ -2,14 +2,22 @@
 use Rattle.std.specs.Prelude.{◌≡◌, ◌≢◌, ℕ, zero, suc, ◌+◌, ◌==◌, List, [], ◌∷◌, ◌++◌, length, drop, if◌then◌else◌}
 use Rattle.std.specs.declared.cmp.Ordering.{Ordering}
 use Rattle.std.specs.declared.cmp.Ordering.TheVariants.{Less, Equal, Greater}
-use Rattle.init_machine.specs.Words.{is_among}
+use Rattle.init_machine.specs.Words.{is_among, Sized, names_in, cell_words}
 use Rattle.property_trie.specs.Parts.{parts_of, compare_parts, node_size}
 
--- no siblings; or a node: its place, its part, the siblings before and behind it, its children, and the place of its
--- property's cell, 0 for none
+-- where a property's cell lies, 0 for none, and how many words it has. A short cell's value may change, and its words stay; a
+-- long cell's value never changes. So the words are those of the first value, for as long as there is the cell.
+pub record Cell : Type 0 where
+  pub place : ℕ
+  pub words : ℕ
+
+abbrev pub no_cell : Cell
+no_cell = record { place = 0; words = 0 }
+
+-- no siblings; or a node: its place, its part, the siblings before and behind it, its children, and its property's cell
 pub data Tree : Type 0 where
   leaf : Tree
-  node : (place : ℕ) (part : List ℕ) (left right children : Tree) (cell : ℕ) → Tree
+  node : (place : ℕ) (part : List ℕ) (left right children : Tree) (cell : Cell) → Tree
 
 -- what stands for an order
 abbrev pub by_order {ℓ} : {A : Type ℓ} → Ordering → A → A → A → A
@@ -28,12 +36,16 @@ abbrev pub at_last {ℓ} : {A : Type ℓ} → List (List ℕ) → A → A → A
 at_last [] last more = last
 at_last (part ∷ parts) last more = more
 
--- the place of the cell of the property with these parts, 0 for none
+-- the cell of the property with these parts
+abbrev pub cell_in : Tree → List (List ℕ) → Cell
+cell_in leaf parts = no_cell
+cell_in (node place part left right children cell) [] = no_cell
+cell_in (node place part left right children cell) (p ∷ ps) =
+    by_order (compare_parts p part) (cell_in left (p ∷ ps)) (at_last ps cell (cell_in children ps)) (cell_in right (p ∷ ps))
+
+-- and its place, 0 for none
 abbrev pub find : Tree → List (List ℕ) → ℕ
-find leaf parts = 0
-find (node place part left right children cell) [] = 0
-find (node place part left right children cell) (p ∷ ps) =
-    by_order (compare_parts p part) (find left (p ∷ ps)) (at_last ps cell (find children ps)) (find right (p ∷ ps))
+find tree parts = (cell_in tree parts).place
 
 -- how many of the parts have nodes
 abbrev pub depth : Tree → List (List ℕ) → ℕ
@@ -46,7 +58,7 @@ depth (node place part left right children cell) (p ∷ ps) =
 abbrev pub chain : ℕ → List (List ℕ) → ℕ → Tree
 chain n [] place = leaf
 chain zero (p ∷ ps) place = leaf
-chain (suc n) (p ∷ ps) place = node place p leaf leaf (chain n ps (place + node_size p)) 0
+chain (suc n) (p ∷ ps) place = node place p leaf leaf (chain n ps (place + node_size p)) no_cell
 
 -- the tree with nodes for the first n of those of the parts that have none, from this place on
 abbrev pub grown : ℕ → Tree → List (List ℕ) → ℕ → Tree
@@ -58,8 +70,8 @@ grown n (node at part left right children cell) (p ∷ ps) place =
     (node at part left right (grown n children ps place) cell)
     (node at part left (grown n right (p ∷ ps) place) children cell)
 
--- the tree with a cell for the property with these parts
-abbrev pub with_cell : Tree → List (List ℕ) → ℕ → Tree
+-- the tree with this cell for the property with these parts
+abbrev pub with_cell : Tree → List (List ℕ) → Cell → Tree
 with_cell leaf parts new = leaf
 with_cell (node at part left right children cell) [] new = node at part left right children cell
 with_cell (node at part left right children cell) (p ∷ ps) new =
@@ -74,7 +86,7 @@ Extends leaf later = Unit {0}
 Extends (node place part left right children cell) leaf = ⊥
 Extends (node place part left right children cell) (node place' part' left' right' children' cell') =
     (place' ≡ place) × (part' ≡ part) × Extends left left' × Extends right right' × Extends children children'
-    × (cell ≢ 0 → cell' ≡ cell)
+    × (cell.place ≢ 0 → cell' ≡ cell)
 
 -- the words of the nodes of these parts
 abbrev pub node_sizes : List (List ℕ) → ℕ
@@ -90,29 +102,29 @@ pub record Trie : Type 0 where
 abbrev pub cell_place : Trie → List (List ℕ) → ℕ
 cell_place trie parts = trie.mark + node_sizes (drop (depth trie.tree parts) parts)
 
--- the trie with a new property: its missing nodes, from the first part on, and its cell
-abbrev pub with_property : Trie → List (List ℕ) → Trie
-with_property trie parts = record {
-  tree = with_cell (grown (length parts) trie.tree parts trie.mark) parts (cell_place trie parts);
-  mark = cell_place trie parts + 13;
+-- the trie with a new property: its missing nodes, from the first part on, and its cell of so many words
+abbrev pub with_property : Trie → List (List ℕ) → ℕ → Trie
+with_property trie parts words = record {
+  tree = with_cell (grown (length parts) trie.tree parts trie.mark) parts (record { place = cell_place trie parts; words = words });
+  mark = cell_place trie parts + words;
 }
 
--- the trie once the name is in it
-abbrev pub added : Trie → List ℕ → Trie
-added trie name = let parts = parts_of name in if find trie.tree parts == 0 then with_property trie parts else trie
+-- the trie once the name is in it, whose first value has so many bytes
+abbrev pub added : Trie → Sized → Trie
+added trie sized = let parts = parts_of sized.0 in if find trie.tree parts == 0 then with_property trie parts (cell_words sized.1) else trie
 
-abbrev pub trie_from : Trie → List (List ℕ) → Trie
+abbrev pub trie_from : Trie → List Sized → Trie
 trie_from trie [] = trie
-trie_from trie (name ∷ names) = trie_from (added trie name) names
+trie_from trie (sized ∷ more) = trie_from (added trie sized) more
 
--- the trie of names, in the order of their sets
-abbrev pub trie_of : List (List ℕ) → Trie
-trie_of names = trie_from (record { tree = leaf; mark = 16 }) names
+-- the trie of names with the lengths of their values, in the order of their sets: of a name that is set again the first counts
+abbrev pub trie_of : List Sized → Trie
+trie_of sized = trie_from (record { tree = leaf; mark = 16 }) sized
 
 -- each of these names once, at its first place, behind those that are there
-abbrev pub each_once_from : List (List ℕ) → List (List ℕ) → List (List ℕ)
+abbrev pub each_once_from : List Sized → List Sized → List Sized
 each_once_from held [] = held
-each_once_from held (name ∷ names) = each_once_from (if is_among held name then held else held ++ name ∷ []) names
+each_once_from held (s ∷ sized) = each_once_from (if is_among (names_in held) s.0 then held else held ++ s ∷ []) sized
 
-abbrev pub each_once : List (List ℕ) → List (List ℕ)
-each_once names = each_once_from [] names
+abbrev pub each_once : List Sized → List Sized
+each_once sized = each_once_from [] sized

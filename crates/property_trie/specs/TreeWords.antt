@@ -30,7 +30,7 @@ pub record NodeHolds (words : List ℕ) (place : ℕ) (part : List ℕ) (left ri
 abbrev pub TreeHolds : List ℕ → Tree → Type 0
 TreeHolds words leaf = Unit {0}
 TreeHolds words (node place part left right children cell) =
-    NodeHolds words place part (link_to left) (link_to right) (link_to children) cell
+    NodeHolds words place part (link_to left) (link_to right) (link_to children) cell.place
     × TreeHolds words left × TreeHolds words right × TreeHolds words children
 
 -- the words spell the trie: word 1 is the link to its first level

@@ -4,7 +4,7 @@
 use Rattle.std.specs.Prelude.{◌≡◌, ◌≢◌, ℕ, ◌+◌, ◌<◌, ◌≤◌, ◌^◌, ◌⊎◌, IsTrue, List, [], ◌∷◌, length, drop, map, slice_index, Option, Some, None, ◌==◌, if◌then◌else◌}
 use Rattle.atomic_table.specs.Seated.{TableId}
 use Rattle.atomic_table.specs.declared.shared.Seat.{Seat}
-use Rattle.init_machine.specs.Words.{is_among, need_of}
+use Rattle.init_machine.specs.Words.{Sized, cell_words}
 use Rattle.init_machine.specs.Sets.{Set}
 use Rattle.init_machine.specs.declared.report.Reading.{Reading}
 use Rattle.init_machine.specs.declared.report.Reading.TheVariants.{Absent}
@@ -32,9 +32,13 @@ module _ {S V : Type 0} where
 abbrev pub names_of : List Set → List (List ℕ)
 names_of sets = map (λ (set : Set). set.0) sets
 
+-- the same, each with the length of its value
+abbrev pub sizes_of : List Set → List Sized
+sizes_of sets = map (λ (set : Set). (set.0, length set.1)) sets
+
 -- the trie of the names of sets
 abbrev pub tree_of : List Set → Tree
-tree_of sets = (trie_of (names_of sets)).tree
+tree_of sets = (trie_of (sizes_of sets)).tree
 
 -- those of the parts that have no node
 abbrev pub missing_parts : Tree → List (List ℕ) → List (List ℕ)
@@ -124,7 +128,7 @@ abbrev pub EndsAtNode : CellView → List ℕ → ℕ → Type 0
 EndsAtNode (Writer sets making) name link = EndsAt (tree_of sets) (parts_of name) link
 EndsAtNode (Reader number copying) name link = Unit {0}
 
--- the room that a node, or a cell, has among the words
+-- the room that a node, or a cell, has among the words: a long cell has more than the 13 words of a short one
 abbrev pub NodeInside : ℕ → ℕ → List ℕ → Type 0
 NodeInside words place part = (place + node_size part ≤ words) × IsShortText part
 
@@ -180,15 +184,11 @@ module _ {V : Type 0} (with_trie : V → TrieView → V) where
   abbrev pub looked_up : Tree → TrieView → V → List ℕ → V
   looked_up tree trie v name = let place = find tree (parts_of name) in if place == 0 then v else with_trie v (knowing trie name place)
 
--- the words that a name needs that isn't among the names
-abbrev pub need_if_absent : List (List ℕ) → List ℕ → Option ℕ
-need_if_absent names name = if is_among names name then None else Some (need_of names name)
-
--- the words that are missing where a search for the name ended
-abbrev pub words_missing : List ℕ → SearchEnd → Option ℕ
-words_missing name (Cell place) = None
-words_missing name (NoCell link) = Some 13
-words_missing name (NoNode link from) = Some (13 + node_sizes (parts_of (drop from name)))
+-- the words that are missing for a value of so many bytes where a search for the name ended
+abbrev pub words_missing : List ℕ → ℕ → SearchEnd → ℕ
+words_missing name len (Cell place) = 0
+words_missing name len (NoCell link) = cell_words len
+words_missing name len (NoNode link from) = cell_words len + node_sizes (parts_of (drop from name))
 
 -- the search ended inside the name
 abbrev pub IsWithin : List ℕ → SearchEnd → Type 0

@@ -2,9 +2,10 @@
 
 ghost use Rattle.std.specs.Prelude.{◌≡◌, ◌+◌, ◌<◌, ◌≤◌, ◌^◌, [], drop, length, None, IsTrue};
 ghost use Rattle.init_base.specs.Name.{LegalName};
+ghost use Rattle.init_base.specs.Value.{LegalValue, max_value_len};
+ghost use Rattle.init_machine.specs.Words.{cell_words as cell_words_lem};
 ghost use Rattle.serial_value.specs.declared.view.CellView.TheVariants.{Writer};
 ghost use Rattle.serial_value.specs.Cell.{sets_of};
-ghost use Rattle.serial_value.specs.Words.{IsValue};
 ghost use Rattle.serial_value.specs.Steps.{IsSameSeat, HasCell};
 ghost use Rattle.property_trie.specs.Parts.{parts_of, node_size as size_of};
 ghost use Rattle.property_trie.specs.Tree.{find as find_in};
@@ -19,7 +20,8 @@ use crate::stores::{fresh_word, interior_link, property_link};
 use crate::walk::{SearchEnd, part_len, search};
 use atomic_table::{Seat, Table};
 use init_base::{PropName, PropValue};
-use serial_value::{serial, word_of};
+use init_machine::cell_words;
+use serial_value::{body_word, serial, top_byte, word_of};
 use std::alloc::Global;
 use std::marker::Brand;
 
@@ -27,9 +29,6 @@ use std::marker::Brand;
 const CELL_LINK: usize = 4;
 
 const CHILDREN_LINK: usize = 3;
-
-/// The words of a cell: a serial and twelve value words.
-const CELL_WORDS: usize = 13;
 
 /// Where a new cell comes to lie, and where the link to it stands.
 #[derive(Clone, Copy)]
@@ -54,16 +53,17 @@ fn word_of_node(part: &[u8], k: usize) -> u64
 }
 
 /// Word `k` of a new cell.
+#[tactic(auto, using(serial_value::specs::Kept::Bodies::cell_words_body))]
 fn word_of_cell(number: u64, value: &[u8], k: usize) -> u64
-    requires legal { length value.now ≤ 91 }
+    requires within { length value.now ≤ 8191 }
     requires number { number < 2 ^ 55 }
-    requires inside { k < 13 }
+    requires inside { k < cell_words_lem (length value.now) }
     ensures { result ≡ new_cell_word number value.now k }
 {
     if k == 0 {
-        return serial(value.len() as u8, number);
+        return serial(top_byte(value), number);
     }
-    word_of(value, k - 1)
+    body_word(value, k - 1)
 }
 
 /// Stores the words of a new node at the first free words.
@@ -102,10 +102,10 @@ fn store_cell<V, K, R: TrieRule<V, K>, Q: Added>(
 )
     requires table { SitsAt seat.old table.now.shared.table_id (R.words seat.old.me.0) }
     requires place { (place ≡ free_place (sets_of (R.cell seat.old.me.0)) Q.name Q.linked)
-        × (place + 13 ≤ table.now.shared.table_id.words) }
+        × (place + cell_words_lem (length value.now) ≤ table.now.shared.table_id.words) }
     requires adds { R.Settled seat.old.me.0
         × IsAdding (R.cell seat.old.me.0) (R.trie seat.old.me.0) Q.name Q.linked [] }
-    requires value { (length value.now ≤ 91) × (number < 2 ^ 55) }
+    requires value { (length value.now ≤ 8191) × (number < 2 ^ 55) }
     ensures seat { IsSameSeat seat.old seat.new }
     ensures view { seat.new.me
         ≡ (
@@ -114,7 +114,7 @@ fn store_cell<V, K, R: TrieRule<V, K>, Q: Added>(
           seat.old.me.1,
         ) }
 {
-    for k in 0..CELL_WORDS {
+    for k in 0..cell_words(value.len()) as usize {
         fresh_word::<V, K, R, Brand>(table, seat, place + k, word_of_cell(number, value, k));
     }
 }
@@ -232,13 +232,13 @@ fn add_as<V, K, R: TrieRule<V, K>, Q: Added>(
     requires table { SitsAt seat.old table.now.shared.table_id (R.words seat.old.me.0) }
     requires top { 16 ≤ table.now.shared.table_id.words }
     requires name { (name.now ≡ Q.name) × (length name.now ≤ 255) }
-    requires value { (value.now ≡ Q.value) × (length value.now ≤ 91) }
+    requires value { (value.now ≡ Q.value) × (length value.now ≤ max_value_len name.now) }
     requires adds { R.Settled seat.old.me.0
         × IsAdding (R.cell seat.old.me.0) (R.trie seat.old.me.0) Q.name 0 [] }
     requires rests { IsAtRest (R.trie seat.old.me.0) }
     requires number { (number ≡ length (sets_of (R.cell seat.old.me.0)) + 1) × (number < 2 ^ 55) }
     requires mark { mark ≡ mark_of (sets_of (R.cell seat.old.me.0)) }
-    requires room { new_place (sets_of (R.cell seat.old.me.0)) Q.name + 13 ≤ table.now.shared.table_id.words }
+    requires room { new_place (sets_of (R.cell seat.old.me.0)) Q.name + cell_words_lem (length value.now) ≤ table.now.shared.table_id.words }
     ensures seat { IsSameSeat seat.old seat.new }
     ensures place { result ≡ new_place (sets_of (R.cell seat.old.me.0)) Q.name }
     ensures view { seat.new.me
@@ -271,9 +271,11 @@ pub fn add<V, K, R: TrieRule<V, K>>(
     requires writer { (R.cell seat.old.me.0 ≡ Writer (sets_of (R.cell seat.old.me.0)) None) × R.Settled seat.old.me.0
         × IsAtRest (R.trie seat.old.me.0) }
     requires absent { find_in (tree_of (sets_of (R.cell seat.old.me.0))) (parts_of name.bytes.now) ≡ 0 }
+    requires legal { LegalValue name.bytes.now value.bytes.now }
     requires number { (number ≡ length (sets_of (R.cell seat.old.me.0)) + 1) × (number < 2 ^ 55) }
     requires mark { mark ≡ mark_of (sets_of (R.cell seat.old.me.0)) }
-    requires room { new_place (sets_of (R.cell seat.old.me.0)) name.bytes.now + 13 ≤ table.now.shared.table_id.words }
+    requires room { new_place (sets_of (R.cell seat.old.me.0)) name.bytes.now
+        + cell_words_lem (length value.bytes.now) ≤ table.now.shared.table_id.words }
     ensures seat { IsSameSeat seat.old seat.new }
     ensures place { result ≡ new_place (sets_of (R.cell seat.old.me.0)) name.entry.bytes.now }
     ensures view { seat.new.me

@@ -1,7 +1,7 @@
 //! Laws of the definitions in `specs/`, each the contract of a function that does nothing. They are stated in
 //! `specs/Laws.antt`.
 
-ghost use Rattle.property_trie.specs.Laws.{MarkIsWordsUsed, FindsItsNames, HasItsPrefixes, AlwaysLiesWell, OnlyExtends, PartsTellNames};
+ghost use Rattle.property_trie.specs.Laws.{MarkIsWordsUsed, CellHasItsWords, FindsItsNames, HasItsPrefixes, AlwaysLiesWell, OnlyExtends, PartsTellNames};
 
 /// The mark of the trie of names is the number of words that they use.
 #[tactic(auto, using(crate::proofs::Tries::mark_is_words_used))]
@@ -13,6 +13,12 @@ pub fn mark_is_words_used()
 #[tactic(auto, using(crate::proofs::Tries::finds_its_names))]
 pub fn finds_its_names()
     ensures { FindsItsNames }
+{}
+
+/// Each cell has the words of its name's first value.
+#[tactic(auto, using(crate::proofs::Tries::cell_has_its_words))]
+pub fn cell_has_its_words()
+    ensures { CellHasItsWords }
 {}
 
 /// The nodes are those of the dotted prefixes of the names.

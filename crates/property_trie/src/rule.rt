@@ -1,7 +1,8 @@
 //! What a rule over a table owes so that a trie may stand in it: one law for each kind of step.
 
-ghost use Rattle.std.specs.Prelude.{◌≡◌, ◌<◌, ◌+◌, ◌^◌, ℕ, suc, List, [], ◌∷◌, ◌++◌, length, IsTrue, Contains};
+ghost use Rattle.std.specs.Prelude.{◌≡◌, ◌<◌, ◌≤◌, ◌+◌, ◌^◌, ℕ, suc, List, [], ◌∷◌, ◌++◌, length, IsTrue, Contains};
 ghost use Rattle.atomic_table.specs.Table.{Allows, Me};
+ghost use Rattle.init_base.specs.Value.{max_value_len};
 ghost use Rattle.init_machine.specs.declared.report.Reading.{Reading};
 ghost use Rattle.serial_value.specs.declared.view.CellView.{CellView};
 ghost use Rattle.serial_value.specs.Words.{text_word, IsValue};
@@ -68,9 +69,6 @@ pub trait TrieRule<V, K>: CellRule<V, K> {
 
     ghost with_trie: { V → TrieView → V };
 
-    /// How many words the table has, as the seat knows.
-    ghost words: { V → ℕ };
-
     /// It is never called: laws stand below a function.
     fn no_trie_call(&self);
 
@@ -86,11 +84,7 @@ pub trait TrieRule<V, K>: CellRule<V, K> {
 
     ghost trie_noted: { (v : V) (r : Reading) → trie (Self.noted v r) ≡ trie v };
 
-    ghost words_stay: { (v : V) (t : TrieView) → words (with_trie v t) ≡ words v };
-
-    ghost words_beside: { (v : V) (c : CellView) → words (Self.with_cell v c) ≡ words v };
-
-    ghost words_noted: { (v : V) (r : Reading) → words (Self.noted v r) ≡ words v };
+    ghost words_stay: { (v : V) (t : TrieView) → Self.words (with_trie v t) ≡ Self.words v };
 
     ghost list_beside: { (v : V) (t : TrieView) → (Self.list (with_trie v t) ≡ Self.list v) × (Self.began (with_trie v t) ≡ Self.began v) };
 
@@ -105,7 +99,7 @@ pub trait TrieRule<V, K>: CellRule<V, K> {
     ghost followed_link: { (key : K) (slots id : ℕ) (m : Me Unit V) (name : List ℕ) (link : ℕ) (rest : List (List ℕ)) →
         LeadsTo (trie m.0) name link rest →
         Allows (Self.holds key) slots id m link (λ n. n)
-        (λ n after. (after.1 ≡ m.1) × Follows with_trie Self.noted (words m.0) (Self.cell m.0) (trie m.0) m.0 name link rest n after.0) };
+        (λ n after. (after.1 ≡ m.1) × Follows with_trie Self.noted (Self.words m.0) (Self.cell m.0) (trie m.0) m.0 name link rest n after.0) };
 
     /// It loads the length of the part of the node that it stands at.
     ghost node_length: { (key : K) (slots id : ℕ) (m : Me Unit V) (place : ℕ) →
@@ -123,12 +117,12 @@ pub trait TrieRule<V, K>: CellRule<V, K> {
     ghost cell_link: { (key : K) (slots id : ℕ) (m : Me Unit V) (name : List ℕ) (link : ℕ) →
         ComesTo (trie m.0) name link →
         Allows (Self.holds key) slots id m link (λ n. n)
-        (λ n after. (after.1 ≡ m.1) × Ends with_trie Self.noted (words m.0) (Self.cell m.0) (trie m.0) m.0 name link n after.0) };
+        (λ n after. (after.1 ≡ m.1) × Ends with_trie Self.noted (Self.words m.0) (Self.cell m.0) (trie m.0) m.0 name link n after.0) };
 
     /// The next free word gets a word of a node or of the cell.
     ghost fresh_word: { (key : K) (slots id : ℕ) (m : Me Unit V) (name : List ℕ) (linked : ℕ) (fresh : List ℕ) (word : ℕ) →
         Self.Settled m.0 → IsAdding (Self.cell m.0) (trie m.0) name linked fresh →
-        free_place (sets_of (Self.cell m.0)) name linked + length fresh < words m.0 →
+        free_place (sets_of (Self.cell m.0)) name linked + length fresh < Self.words m.0 →
         Allows (Self.holds key) slots id m (free_place (sets_of (Self.cell m.0)) name linked + length fresh) (λ _. word)
         (λ _ after. after ≡ (with_trie m.0 (adding (trie m.0) name linked (fresh ++ word ∷ [])), m.1)) };
 
@@ -143,7 +137,7 @@ pub trait TrieRule<V, K>: CellRule<V, K> {
     /// The link to the cell, whose words stand all; with it the set is accepted.
     ghost property_link: { (key : K) (slots id : ℕ) (m : Me Unit V) (name value : List ℕ) (linked link : ℕ) →
         Self.Settled m.0 → IsAdding (Self.cell m.0) (trie m.0) name linked (new_cell (length (sets_of (Self.cell m.0)) + 1) value) →
-        IsValue value → length (sets_of (Self.cell m.0)) + 1 < 2 ^ 55 →
+        IsValue value → length value ≤ max_value_len name → length (sets_of (Self.cell m.0)) + 1 < 2 ^ 55 →
         EndsAt (tree_with (sets_of (Self.cell m.0)) name linked) (parts_of name) link →
         Allows (Self.holds key) slots id m link (λ _. free_place (sets_of (Self.cell m.0)) name linked)
         (λ _ after. after ≡ (

@@ -1,6 +1,7 @@
 //! The steps of an addition. Each is one store of one word, for every rule that meets `TrieRule`.
 
-ghost use Rattle.std.specs.Prelude.{◌≡◌, ◌<◌, ◌+◌, ◌^◌, suc, [], ◌∷◌, ◌++◌, List, ℕ, length};
+ghost use Rattle.std.specs.Prelude.{◌≡◌, ◌<◌, ◌≤◌, ◌+◌, ◌^◌, suc, [], ◌∷◌, ◌++◌, List, ℕ, length};
+ghost use Rattle.init_base.specs.Value.{max_value_len};
 ghost use Rattle.serial_value.specs.Steps.{IsSameSeat};
 ghost use Rattle.serial_value.specs.Words.{IsValue};
 ghost use Rattle.serial_value.specs.Cell.{sets_of};
@@ -99,7 +100,8 @@ pub(crate) fn property_link<V, K, R: TrieRule<V, K>, Q: Added>(
     requires adds { R.Settled seat.old.me.0
         × IsAdding (R.cell seat.old.me.0) (R.trie seat.old.me.0) Q.name Q.linked
         (new_cell (length (sets_of (R.cell seat.old.me.0)) + 1) Q.value) }
-    requires value { IsValue Q.value × (length (sets_of (R.cell seat.old.me.0)) + 1 < 2 ^ 55) }
+    requires value { IsValue Q.value × (length Q.value ≤ max_value_len Q.name)
+        × (length (sets_of (R.cell seat.old.me.0)) + 1 < 2 ^ 55) }
     ensures seat { IsSameSeat seat.old seat.new }
     ensures view { seat.new.me
         ≡ (

@@ -10,7 +10,7 @@ use Rattle.std.proofs.lemmas.List.{length-map, take_rest}
 use Rattle.std.proofs.lemmas.List.Folds.{list_all-append}
 use Rattle.hex.specs.Hex.{decode_of}
 use Rattle.init_base.specs.Name.{is_legal_name}
-use Rattle.init_base.specs.Value.{is_legal_value}
+use Rattle.init_base.specs.Value.{is_short_value}
 use Rattle.init_base.specs.declared.value.BadValue.TheVariants.{TooLong, NotUtf8}
 use Rattle.init_machine.specs.Pairs.{is_before}
 use Rattle.init_machine.specs.declared.config.Pair.{Pair}
@@ -73,14 +73,14 @@ good_name name h =
       | true ↦ λ e. (refl, elim (starts_with nat_eq name (codes "persist.")) as (λ t. cond (not t) (Some (cause.NotPersistent name)) None ≡ None → t ≡ true) [ true ↦ λ h. refl | false ↦ λ h. cc ] e)
     ] h
 
-good_value : (value : List ℕ) → legal_cause value ≡ None → is_legal_value value ≡ true
+good_value : (value : List ℕ) → legal_cause value ≡ None → is_short_value value ≡ true
 good_value value h =
     elim (nat_lt 91 (length value)) as (λ t. nat_lt 91 (length value) ≡ t
-    → option_map cause.IllegalValue (cond t (Some (TooLong (length value))) (cond (is_utf8 value) None (Some NotUtf8))) ≡ None → is_legal_value value ≡ true) [
+    → option_map cause.IllegalValue (cond t (Some (TooLong (length value))) (cond (is_utf8 value) None (Some NotUtf8))) ≡ None → is_short_value value ≡ true) [
       | true ↦ λ e none. cc
       | false ↦ λ e none.
           let short : nat_le (length value) 91 ≡ true = grind (arith, nat_tests) in
-          elim (is_utf8 value) as (λ t. is_utf8 value ≡ t → option_map cause.IllegalValue (cond t None (Some NotUtf8)) ≡ None → is_legal_value value ≡ true) [
+          elim (is_utf8 value) as (λ t. is_utf8 value ≡ t → option_map cause.IllegalValue (cond t None (Some NotUtf8)) ≡ None → is_short_value value ≡ true) [
             | true ↦ λ u n. join (nat_le (length value) 91) (is_utf8 value) short u
             | false ↦ λ u n. cc
           ] refl none
@@ -88,7 +88,7 @@ good_value value h =
 
 record IsSpelled (text : List ℕ) : Type 0 where
   pub value : List ℕ
-  pub legal : is_legal_value value ≡ true
+  pub legal : is_short_value value ≡ true
   pub text_is : text ≡ value_text value
 
 by_digits : {E : Type 0} (text : List ℕ) (r : Result (List ℕ) E) → spelled_cause text (printed_so text r) ≡ None → IsSpelled text
@@ -122,7 +122,7 @@ parted before number line at e h =
     let cut = cut_some 32 line at e in
     record {
       pair = record { name = take at line; value = value.value };
-      saved = join (is_legal_name (take at line) && starts_with nat_eq (take at line) (codes "persist.")) (is_legal_value value.value)
+      saved = join (is_legal_name (take at line) && starts_with nat_eq (take at line) (codes "persist.")) (is_short_value value.value)
           (join (is_legal_name (take at line)) (starts_with nat_eq (take at line) (codes "persist.")) good.0 good.1) value.legal;
       line_is = cut.0 ∙ ap (λ v. take at line ++ 32 ∷ v) (take_rest line (at + 1) ∙ value.text_is);
       ordered = second.0;

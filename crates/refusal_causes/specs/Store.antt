@@ -5,7 +5,7 @@ use Rattle.std.specs.Option.{option_or}
 use Rattle.std.specs.Str.{bytes_eq}
 use Rattle.hex.specs.Hex.{decode_of}
 use Rattle.init_base.specs.Name.{is_legal_name}
-use Rattle.init_base.specs.Value.{value_fault}
+use Rattle.init_base.specs.Value.{short_value_fault}
 use Rattle.init_machine.specs.Pairs.{is_before}
 use Rattle.persist_file.specs.Store.{IsUnfitAt, value_text}
 use Rattle.script_lang.specs.Lines.{lines_of}
@@ -53,7 +53,7 @@ abbrev pub value_of : List ℕ → Option (List ℕ)
 value_of text = if bytes_eq text (codes "-") then Some [] else printed_so text (decode_of text)
 
 abbrev pub legal_cause : List ℕ → Option StoreCause
-legal_cause value = option_map cause.IllegalValue (value_fault value)
+legal_cause value = option_map cause.IllegalValue (short_value_fault value)
 
 abbrev pub spelled_cause : List ℕ → Option (List ℕ) → Option StoreCause
 spelled_cause text None = Some (cause.NotHex text)

@@ -9,7 +9,7 @@ use Rattle.init_machine.specs.Sets.{Set}
 use Rattle.serial_value.specs.declared.view.CellView.{CellView}
 use Rattle.serial_value.specs.declared.view.CellView.TheVariants.{Writer, Reader}
 use Rattle.serial_value.specs.declared.one.OneView.{OneView}
-use Rattle.serial_value.specs.Words.{IsValue}
+use Rattle.serial_value.specs.Words.{IsShortValue}
 use Rattle.serial_value.specs.Cell.{sets_of, IsWriter}
 use Rattle.serial_value.specs.One.{the_name, the_place, OneHolds, ViewHolds, begins, new_reader, HasFirst}
 use Rattle.serial_value.specs.Kept.Places.{at_end}
@@ -58,15 +58,15 @@ one_splits id v is s h here =
           (at_end s.views (new_reader v) u seat e);
     }
 
-one_set : (value : List ℕ) (i : ℕ) (set : Set) → IsValue value → get_elem? ((the_name, value) ∷ []) i ≡ some set → (set.0 ≡ the_name) × IsValue set.1
-one_set value zero set legal e = subst (λ (x : Set). (x.0 ≡ the_name) × IsValue x.1) (some-injective _ _ e) (refl, legal)
+one_set : (value : List ℕ) (i : ℕ) (set : Set) → IsShortValue value → get_elem? ((the_name, value) ∷ []) i ≡ some set → (set.0 ≡ the_name) × IsShortValue set.1
+one_set value zero set legal e = subst (λ (x : Set). (x.0 ≡ the_name) × IsShortValue x.1) (some-injective _ _ e) (refl, legal)
 one_set value (suc i) set legal e = absurd (some-ne-none set (sym e))
 
 one_seat : (word : ℕ) (value : List ℕ) (seat : ℕ) (v : OneView) → get_elem? (begins value ∷ []) seat ≡ some v → ViewHolds word 0 ((the_name, value) ∷ []) None seat v.cell v.began v.list
 one_seat word value zero v e = subst (λ (x : OneView). ViewHolds word 0 ((the_name, value) ∷ []) None zero x.cell x.began x.list) (some-injective _ _ e) (refl, refl, refl)
 one_seat word value (suc seat) v e = absurd (some-ne-none v (sym e))
 
-pub one_opens : (words value : List ℕ) → IsValue value → HasFirst words value → OneHolds (opening words [] (begins value))
+pub one_opens : (words value : List ℕ) → IsShortValue value → HasFirst words value → OneHolds (opening words [] (begins value))
 one_opens words value legal first = record {
   writer = 0;
   sets = (the_name, value) ∷ [];

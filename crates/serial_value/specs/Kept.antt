@@ -3,6 +3,7 @@
 pub mod Serials
 pub mod Places
 pub mod Sets
+pub mod Bodies
 pub mod CellWords
 pub mod Worlds
 pub mod Lists

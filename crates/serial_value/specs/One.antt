@@ -15,7 +15,7 @@ use Rattle.serial_value.specs.declared.view.Making.{Making}
 use Rattle.serial_value.specs.declared.view.CellView.{CellView}
 use Rattle.serial_value.specs.declared.view.CellView.TheVariants.{Writer, Reader}
 use Rattle.serial_value.specs.declared.one.OneView.{OneView}
-use Rattle.serial_value.specs.Words.{body_size, body_word, IsValue}
+use Rattle.serial_value.specs.Words.{body_size, body_word, IsShortValue}
 use Rattle.serial_value.specs.Cell.{sets_of, name_of}
 use Rattle.serial_value.specs.World.{World, ReaderHolds}
 
@@ -62,10 +62,10 @@ ViewHolds word writer sets making seat (Writer sets' making') began list = (seat
 ViewHolds word writer sets making seat (Reader number copying) began list =
     (seat ≢ writer) × ReaderHolds (world_of word sets making) number copying began list
 
--- an update is of the one cell, by a legal value, and isn't accepted yet
+-- an update is of the one cell, by the value of a short cell, and isn't accepted yet
 abbrev pub MayMake : Option Making → Type 0
 MayMake None = Unit {0}
-MayMake (Some making) = (making.name ≡ the_name) × (making.place ≡ the_place) × IsValue making.value × (making.done ≤ 25)
+MayMake (Some making) = (making.name ≡ the_name) × (making.place ≡ the_place) × IsShortValue making.value × (making.done ≤ 25)
 
 pub record OneHolds (s : State (Unit {0}) OneView) : Type 0 where
   -- the seat that writes, the accepted sets, and the update that is under way
@@ -77,7 +77,7 @@ pub record OneHolds (s : State (Unit {0}) OneView) : Type 0 where
   pub value : List ℕ
   pub wide : length s.words ≡ 29
   pub few : length sets < 2 ^ 55
-  pub named : (i : ℕ) (set : Set) → get_elem? sets i ≡ some set → (set.0 ≡ the_name) × IsValue set.1
+  pub named : (i : ℕ) (set : Set) → get_elem? sets i ≡ some set → (set.0 ≡ the_name) × IsShortValue set.1
   pub last : LastSet sets (length sets) the_name number value
   pub made : MayMake making
   pub cell : CellHolds s.words the_place number value (new_value making) (done_of making)

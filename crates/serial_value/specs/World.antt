@@ -3,7 +3,7 @@
 use Rattle.std.specs.Prelude.{◌≡◌, ◌≢◌, ℕ, ◌<◌, ◌≤◌, ◌⊎◌, false, List, ◌++◌, length, Option, Some, None}
 use mathlib.Core.Option.{some}
 use lib.ListN.{get_elem?}
-use Rattle.init_machine.specs.Serial.{dirty_serial, rank, is_dirty}
+use Rattle.init_machine.specs.Serial.{dirty_serial, top_in, rank, is_dirty}
 use Rattle.init_machine.specs.Sets.{Set, NoneBetween, LaterSet}
 use Rattle.init_machine.specs.Facts.{IsSerialOf}
 use Rattle.init_machine.specs.Orderly.{ListStands, seen_through}
@@ -22,11 +22,11 @@ pub record World : Type 0 where
   pub serial : List ℕ → ℕ
 
 -- how the serial of a name moves while the sets grow: it stays, and so does the name's value; it becomes dirty; or a set of
--- the name is accepted, and the serial ranks higher
+-- the name is accepted, and the serial ranks higher. The serial of a long cell never moves
 pub data Moved (w w' : World) (name : List ℕ) : Type 0 where
   stays : w'.serial name ≡ w.serial name → NoneBetween w'.sets name (length w.sets) (length w'.sets) → Moved w w' name
-  dirtied : w'.serial name ≡ dirty_serial (w.serial name) → is_dirty (w.serial name) ≡ false → Moved w w' name
-  accepted : rank (w.serial name) < rank (w'.serial name) → LaterSet w'.sets name (length w.sets) → Moved w w' name
+  dirtied : w'.serial name ≡ dirty_serial (w.serial name) → is_dirty (w.serial name) ≡ false → top_in (w.serial name) ≢ 255 → Moved w w' name
+  accepted : rank (w.serial name) < rank (w'.serial name) → LaterSet w'.sets name (length w.sets) → top_in (w.serial name) ≢ 255 → Moved w w' name
 
 -- a moment that one step leads to: the sets grew, a set that was being made is there or is still being made, and the serial
 -- of each name moved so
@@ -60,6 +60,8 @@ pub record CopyHolds (w : World) (number : ℕ) (list : List ClientItem) (copyin
   -- where it has moved, a set above the reader's number is there, or the cell is dirty in the same set
   pub moved : w.serial copying.name ≢ copying.first
       → LaterSet w.sets copying.name number ⊎ ((w.serial copying.name ≡ dirty_serial copying.first) × (is_dirty copying.first ≡ false))
+  -- the serial of a long cell hasn't moved
+  pub lasting : top_in copying.first ≡ 255 → w.serial copying.name ≡ copying.first
 
 abbrev pub MayCopy : World → ℕ → List ClientItem → Option Copying → Type 0
 MayCopy w number list None = Unit {0}

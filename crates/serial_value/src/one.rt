@@ -1,10 +1,10 @@
 //! A table of one cell, whose one name is `a`. It shows that a rule can meet the laws of `CellRule`.
 
 ghost use Rattle.std.specs.Prelude.{◌≡◌, ◌<◌, ◌≤◌, ◌+◌, [], length, IfOk, IsOkAnd};
-ghost use Rattle.serial_value.specs.Words.{IsValue};
-ghost use Rattle.serial_value.specs.Cell.{IsWriter};
+ghost use Rattle.serial_value.specs.Words.{IsShortValue};
+ghost use Rattle.serial_value.specs.Cell.{sets_of, HasShortCell, IsWriter};
 ghost use Rattle.serial_value.specs.Steps.{IsSameSeat};
-ghost use Rattle.serial_value.specs.One.{begins, new_reader, HasFirst};
+ghost use Rattle.serial_value.specs.One.{the_name, begins, new_reader, HasFirst};
 
 use crate::layout::serial;
 use crate::rule::CellRule;
@@ -55,6 +55,8 @@ impl CellRule<OneView, Text> for OneCell {
 
     ghost list = { λ v. v.list };
 
+    ghost words = { λ v. 29 };
+
     ghost noted = { noted_one };
 
     ghost Linked = { LinkedOne };
@@ -74,6 +76,10 @@ impl CellRule<OneView, Text> for OneCell {
     ghost cell_noted = { λ v r. refl };
 
     ghost list_noted = { λ v r. (refl, refl) };
+
+    ghost words_beside = { λ v c. refl };
+
+    ghost words_noted = { λ v r. refl };
 
     ghost linked_with = { λ v c name place linked. linked };
 
@@ -131,7 +137,7 @@ pub fn one_reader(table: &OneTable, seat: &mut OneSeat) -> Result<OneSeat, NoMem
 fn first_words(value: &[u8]) -> [u64; 29]
     requires { length value.now ≤ 91 }
     ensures words { HasFirst result value.now }
-    ensures legal { IsValue value.now }
+    ensures legal { IsShortValue value.now }
 {
     let mut words = [0; 29];
     words[16] = serial(value.len() as u8, 1);
@@ -141,10 +147,12 @@ fn first_words(value: &[u8]) -> [u64; 29]
     words
 }
 
-/// A table whose cell `a` has this value under number 1, and the writer's seat.
+/// A table whose cell `a` has this value of at most 91 bytes under number 1, and the writer's seat.
 pub fn one_cell(alloc: Global, value: PropValue<'_>) -> Result<(OneTable, OneSeat), NoMemory>
+    requires short { length value.bytes.now ≤ 91 }
     ensures table { IfOk result (λ made. (made.0.shared.table_id.words ≡ 29) × (made.1.table_id ≡ made.0.shared.table_id)) }
     ensures writer { IfOk result (λ made. made.1.me ≡ (begins value.entry.bytes.now, [])) }
+    ensures short { IfOk result (λ made. HasShortCell (sets_of made.1.me.0.cell) the_name) }
 {
     let text = Text::of(alloc, value.bytes)?;
     let words = first_words(value.bytes);

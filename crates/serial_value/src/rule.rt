@@ -11,16 +11,16 @@ ghost use Rattle.init_machine.specs.declared.client.ClientItem.TheVariants.{Told
 ghost use Rattle.init_machine.specs.declared.report.Reading.{Reading};
 ghost use Rattle.serial_value.specs.declared.view.CellView.{CellView};
 ghost use Rattle.serial_value.specs.declared.view.CellView.TheVariants.{Writer};
-ghost use Rattle.serial_value.specs.Words.{body_word, IsValue};
-ghost use Rattle.serial_value.specs.Cell.{sets_of, making_of, IsWriter, ReaderStands};
+ghost use Rattle.serial_value.specs.Words.{body_word, IsShortValue};
+ghost use Rattle.serial_value.specs.Cell.{sets_of, making_of, HasShortCell, IsWriter, ReaderStands};
 ghost use Rattle.serial_value.specs.Cell.{updating, accepted, IsUpdating, IsPresentSerial, IsPresentWord};
 ghost use Rattle.serial_value.specs.Cell.{Begins, LiesAt, Copies, IsCopied, Ends};
 
 use atomic_table::TableRule;
 use std::marker::Brand;
 
-/// What a step is about, for proofs alone: the name, the value that is being set, the cell's place and which of the twelve
-/// words it is.
+/// What a step is about, for proofs alone: the name, the value that is being set, the cell's place and which of its words it
+/// is.
 pub trait Asked {
     ghost name: { List ℕ };
 
@@ -53,6 +53,9 @@ pub trait CellRule<V, K>: TableRule<(), V, K> {
 
     ghost list: { V → List ClientItem };
 
+    /// How many words the table has, as the seat knows.
+    ghost words: { V → ℕ };
+
     /// The view whose list has one more reading.
     ghost noted: { V → Reading → V };
 
@@ -77,6 +80,10 @@ pub trait CellRule<V, K>: TableRule<(), V, K> {
 
     ghost list_noted: { (v : V) (r : Reading) → (list (noted v r) ≡ list v ++ Told r ∷ []) × (began (noted v r) ≡ began v) };
 
+    ghost words_beside: { (v : V) (c : CellView) → words (with_cell v c) ≡ words v };
+
+    ghost words_noted: { (v : V) (r : Reading) → words (noted v r) ≡ words v };
+
     ghost linked_with: { (v : V) (c : CellView) (name : List ℕ) (place : ℕ) →
         Linked v name place → Linked (with_cell v c) name place };
 
@@ -98,8 +105,8 @@ pub trait CellRule<V, K>: TableRule<(), V, K> {
 
     /// The backup gets word k of the old value.
     ghost backup_word: { (key : K) (slots id : ℕ) (m : Me Unit V) (name value : List ℕ) (place k word : ℕ) →
-        Settled m.0 → Linked m.0 name place → IsUpdating (cell m.0) name value place k → k < 12 → IsValue value →
-        IsPresentWord (sets_of (cell m.0)) name k word →
+        Settled m.0 → Linked m.0 name place → IsUpdating (cell m.0) name value place k → k < 12 → IsShortValue value →
+        HasShortCell (sets_of (cell m.0)) name → IsPresentWord (sets_of (cell m.0)) name k word →
         Allows (Self.holds key) slots id m (4 + k) (λ _. word)
         (λ _ after. after ≡ (with_cell m.0 (updating (sets_of (cell m.0)) name value place (k + 1)), m.1)) };
 
@@ -128,13 +135,13 @@ pub trait CellRule<V, K>: TableRule<(), V, K> {
     ghost first_serial: { (key : K) (slots id : ℕ) (m : Me Unit V) (name : List ℕ) (place : ℕ) →
         Linked m.0 name place →
         Allows (Self.holds key) slots id m place (λ n. n)
-        (λ n after. (after ≡ (with_cell m.0 (cell after.0), m.1)) × Begins (cell m.0) name place n (cell after.0)) };
+        (λ n after. (after ≡ (with_cell m.0 (cell after.0), m.1)) × Begins (words m.0) (cell m.0) name place n (cell after.0)) };
 
-    /// A read loads word k of the twelve.
+    /// A read loads its word k.
     ghost copied_word: { (key : K) (slots id : ℕ) (m : Me Unit V) (name : List ℕ) (place k word_place : ℕ) →
-        Linked m.0 name place → LiesAt (cell m.0) name place k word_place → k < 12 →
+        Linked m.0 name place → LiesAt (cell m.0) name place k word_place →
         Allows (Self.holds key) slots id m word_place (λ n. n)
-        (λ n after. (after ≡ (with_cell m.0 (cell after.0), m.1)) × Copies (cell m.0) name k n (cell after.0)) };
+        (λ n after. (after ≡ (with_cell m.0 (cell after.0), m.1)) × Copies (words m.0) (cell m.0) name k n (cell after.0)) };
 
     /// A read loads the serial again.
     ghost last_serial: { (key : K) (slots id : ℕ) (m : Me Unit V) (name : List ℕ) (place : ℕ) →

@@ -2,8 +2,8 @@
 
 ghost use Rattle.std.specs.Prelude.{◌≡◌, ◌<◌, ◌≤◌, ◌+◌, ◌^◌, length};
 ghost use Rattle.init_machine.specs.Serial.{top_byte, clean_serial as clean_serial_of, dirty_serial as dirty_serial_of};
-ghost use Rattle.serial_value.specs.Words.{body_word, IsValue};
-ghost use Rattle.serial_value.specs.Cell.{sets_of, updating, accepted, IsUpdating, IsPresentSerial, IsPresentWord};
+ghost use Rattle.serial_value.specs.Words.{body_word, IsShortValue};
+ghost use Rattle.serial_value.specs.Cell.{sets_of, HasShortCell, updating, accepted, IsUpdating, IsPresentSerial, IsPresentWord};
 ghost use Rattle.serial_value.specs.Cell.{Begins, LiesAt, Copies, IsCopied, Ends};
 ghost use Rattle.serial_value.specs.Steps.{IsSameSeat, HasCell};
 
@@ -36,7 +36,7 @@ struct Begun<K, R, Q> {
 }
 
 impl<V, K, R: CellRule<V, K>, Q: Asked> Play<(), V> for Begun<K, R, Q> {
-    ghost then = { λ st m n after. (after ≡ (R.with_cell m.0 (R.cell after.0), m.1)) × Begins (R.cell m.0) Q.name Q.place n (R.cell after.0) };
+    ghost then = { λ st m n after. (after ≡ (R.with_cell m.0 (R.cell after.0), m.1)) × Begins (R.words m.0) (R.cell m.0) Q.name Q.place n (R.cell after.0) };
 }
 
 /// The load of a word of the value or of the backup.
@@ -45,7 +45,7 @@ struct Copied<K, R, Q> {
 }
 
 impl<V, K, R: CellRule<V, K>, Q: Asked> Play<(), V> for Copied<K, R, Q> {
-    ghost then = { λ st m n after. (after ≡ (R.with_cell m.0 (R.cell after.0), m.1)) × Copies (R.cell m.0) Q.name Q.index n (R.cell after.0) };
+    ghost then = { λ st m n after. (after ≡ (R.with_cell m.0 (R.cell after.0), m.1)) × Copies (R.words m.0) (R.cell m.0) Q.name Q.index n (R.cell after.0) };
 }
 
 /// The load of the last serial.
@@ -67,7 +67,8 @@ pub fn backup_word<V, K, R: CellRule<V, K>, Q: Asked>(
     requires table { seat.old.table_id ≡ table.now.shared.table_id }
     requires place { HasCell table.now.shared.table_id Q.place }
     requires writer { R.Settled seat.old.me.0 × R.Linked seat.old.me.0 Q.name Q.place }
-    requires update { IsUpdating (R.cell seat.old.me.0) Q.name Q.value Q.place k × (k < 12) × (Q.index ≡ k + 1) × IsValue Q.value }
+    requires update { IsUpdating (R.cell seat.old.me.0) Q.name Q.value Q.place k × (k < 12) × (Q.index ≡ k + 1) × IsShortValue Q.value
+        × HasShortCell (sets_of (R.cell seat.old.me.0)) Q.name }
     requires word { IsPresentWord (sets_of (R.cell seat.old.me.0)) Q.name k word }
     ensures seat { IsSameSeat seat.old seat.new }
     ensures view { seat.new.me
@@ -148,12 +149,12 @@ pub fn first_serial<V, K, R: CellRule<V, K>, Q: Asked>(
     requires linked { R.Linked seat.old.me.0 Q.name Q.place }
     ensures seat { IsSameSeat seat.old seat.new }
     ensures view { seat.new.me ≡ (R.with_cell seat.old.me.0 (R.cell seat.new.me.0), seat.old.me.1) }
-    ensures told { Begins (R.cell seat.old.me.0) Q.name Q.place result (R.cell seat.new.me.0) }
+    ensures told { Begins (R.words seat.old.me.0) (R.cell seat.old.me.0) Q.name Q.place result (R.cell seat.new.me.0) }
 {
     table.shared.load::<Begun<K, R, Q>>(seat, at)
 }
 
-/// A read loads word `k` of the twelve, which lies at `word_place`.
+/// A read loads its word `k`, which lies at `word_place`.
 pub fn copied_word<V, K, R: CellRule<V, K>, Q: Asked>(
     table: &Table<(), V, K, R, Global>,
     seat: &mut Seat<(), V>,
@@ -163,10 +164,10 @@ pub fn copied_word<V, K, R: CellRule<V, K>, Q: Asked>(
     requires table { seat.old.table_id ≡ table.now.shared.table_id }
     requires place { word_place < table.now.shared.table_id.words }
     requires linked { R.Linked seat.old.me.0 Q.name Q.place }
-    requires lies { LiesAt (R.cell seat.old.me.0) Q.name Q.place k word_place × (k < 12) × (Q.index ≡ k) }
+    requires lies { LiesAt (R.cell seat.old.me.0) Q.name Q.place k word_place × (Q.index ≡ k) }
     ensures seat { IsSameSeat seat.old seat.new }
     ensures view { seat.new.me ≡ (R.with_cell seat.old.me.0 (R.cell seat.new.me.0), seat.old.me.1) }
-    ensures told { Copies (R.cell seat.old.me.0) Q.name Q.index result (R.cell seat.new.me.0) }
+    ensures told { Copies (R.words seat.old.me.0) (R.cell seat.old.me.0) Q.name Q.index result (R.cell seat.new.me.0) }
 {
     table.shared.load::<Copied<K, R, Q>>(seat, word_place)
 }

@@ -2,12 +2,14 @@
 
 ghost use Rattle.std.specs.Prelude.{◌≡◌, ◌<◌, ◌≤◌, ◌+◌, ◌*◌, ◌⊎◌, ℕ, List, length, slice_index};
 ghost use Rattle.std.specs.Int.{w64, to_le_bytes};
-ghost use Rattle.serial_value.specs.Words.{text_word, IsValue, HasBody};
+ghost use Rattle.serial_value.specs.Words.{text_word, body_size, body_word as body_word_of, IsShortValue, HasBody, HasBytes};
+
+use crate::layout::SHORT;
 
 /// Word `k` of a text, as a value or a part of a name.
 pub fn word_of(text: &[u8], k: usize) -> u64
-    requires k { k < 32 }
-    requires short { length text.now ≤ 255 }
+    requires k { k < 1024 }
+    requires short { length text.now ≤ 8191 }
     ensures { result ≡ text_word text.now k }
 {
     if 8 * k + 8 <= text.len() {
@@ -19,7 +21,7 @@ pub fn word_of(text: &[u8], k: usize) -> u64
 
 /// Word `k`, whose eight bytes are all inside: a load of them at once.
 fn whole_word(text: &[u8], k: usize) -> u64
-    requires k { k < 32 }
+    requires k { k < 1024 }
     requires inside { 8 * k + 8 ≤ length text.now }
     ensures { result ≡ text_word text.now k }
 {
@@ -38,8 +40,8 @@ fn whole_word(text: &[u8], k: usize) -> u64
 
 /// Word `k`, of which a byte past the end is 0.
 fn cut_word(text: &[u8], k: usize) -> u64
-    requires k { k < 32 }
-    requires short { length text.now ≤ 255 }
+    requires k { k < 1024 }
+    requires short { length text.now ≤ 8191 }
     ensures { result ≡ text_word text.now k }
 {
     let start = 8 * k;
@@ -52,36 +54,55 @@ fn cut_word(text: &[u8], k: usize) -> u64
     u64::from_le_bytes(bytes)
 }
 
-/// Writes the bytes of the words of a value. A byte past its end is 0.
-pub(crate) fn unpack(words: &[u64; 12], out: &mut [u8; 91])
-    ensures { (value : List ℕ) → IsValue value → HasBody words.now value
-        → (i : ℕ) → i < 91 → slice_index out.new i ≡ slice_index value i }
+/// Word `k` of the body of a value's cell, which begins with the length where the cell is long.
+#[tactic(auto, using(crate::specs::Kept::Bodies::body_words))]
+pub fn body_word(value: &[u8], k: usize) -> u64
+    requires inside { k < body_size value.now }
+    requires within { length value.now ≤ 8191 }
+    ensures { result ≡ body_word_of value.now k }
+{
+    if value.len() <= SHORT {
+        return word_of(value, k);
+    }
+    if k == 0 {
+        return value.len() as u64;
+    }
+    word_of(value, k - 1)
+}
+
+/// Writes the bytes of the words of a short cell. A byte past the value's end is 0.
+pub(crate) fn unpack(words: &[u64; 12], out: &mut [u8])
+    requires wide { 91 ≤ length out.old }
+    ensures { (value : List ℕ) → IsShortValue value → HasBody words.now value → HasBytes out.new 91 value }
 {
     for k in 0..11 {
         put_word(out, k, words[k]);
     }
-    put_last_word(out, words[11]);
+    put_cut_word(out, 11, 3, words[11]);
 }
 
 /// Writes the eight bytes of word `k`.
-fn put_word(out: &mut [u8; 91], k: usize, word: u64)
-    requires { k < 11 }
+pub(crate) fn put_word(out: &mut [u8], k: usize, word: u64)
+    requires inside { (k < 1024) × (8 * k + 8 ≤ length out.old) }
     ensures bytes { (j : ℕ) → j < 8 → slice_index out.new (8 * k + j) ≡ slice_index (to_le_bytes w64 word) j }
     ensures others { (i : ℕ) → (i < 8 * k) ⊎ (8 * k + 8 ≤ i) → slice_index out.new i ≡ slice_index out.old i }
 {
     let bytes = word.to_le_bytes();
+    let start = 8 * k;
     for j in 0..8 {
-        out[8 * k + j] = bytes[j];
+        out[start + j] = bytes[j];
     }
 }
 
-/// Writes the three bytes of the last word that are inside.
-fn put_last_word(out: &mut [u8; 91], word: u64)
-    ensures bytes { (j : ℕ) → j < 3 → slice_index out.new (88 + j) ≡ slice_index (to_le_bytes w64 word) j }
-    ensures others { (i : ℕ) → i < 88 → slice_index out.new i ≡ slice_index out.old i }
+/// Writes the first `count` bytes of word `k`.
+pub(crate) fn put_cut_word(out: &mut [u8], k: usize, count: usize, word: u64)
+    requires inside { (k < 1024) × (count ≤ 8) × (8 * k + count ≤ length out.old) }
+    ensures bytes { (j : ℕ) → j < count → slice_index out.new (8 * k + j) ≡ slice_index (to_le_bytes w64 word) j }
+    ensures others { (i : ℕ) → i < 8 * k → slice_index out.new i ≡ slice_index out.old i }
 {
     let bytes = word.to_le_bytes();
-    for j in 0..3 {
-        out[88 + j] = bytes[j];
+    let start = 8 * k;
+    for j in 0..count {
+        out[start + j] = bytes[j];
     }
 }

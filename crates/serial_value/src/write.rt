@@ -2,8 +2,8 @@
 
 ghost use Rattle.std.specs.Prelude.{◌≡◌, ◌<◌, ◌≤◌, ◌+◌, ◌^◌, None, length};
 ghost use Rattle.serial_value.specs.declared.view.CellView.TheVariants.{Writer};
-ghost use Rattle.serial_value.specs.Words.{IsValue};
-ghost use Rattle.serial_value.specs.Cell.{sets_of, updating, accepted, IsUpdating, AreOldWords};
+ghost use Rattle.serial_value.specs.Words.{IsShortValue};
+ghost use Rattle.serial_value.specs.Cell.{sets_of, updating, accepted, IsUpdating, AreOldWords, HasShortCell};
 ghost use Rattle.serial_value.specs.Steps.{IsSameSeat, HasCell};
 
 use crate::layout::serial;
@@ -25,7 +25,8 @@ fn back_up<V, K, R: CellRule<V, K>, Q: Asked>(
     requires table { seat.old.table_id ≡ table.now.shared.table_id }
     requires place { HasCell table.now.shared.table_id Q.place }
     requires writer { R.Settled seat.old.me.0 × R.Linked seat.old.me.0 Q.name Q.place }
-    requires update { IsUpdating (R.cell seat.old.me.0) Q.name Q.value Q.place 0 × IsValue Q.value }
+    requires update { IsUpdating (R.cell seat.old.me.0) Q.name Q.value Q.place 0 × IsShortValue Q.value }
+    requires short { HasShortCell (sets_of (R.cell seat.old.me.0)) Q.name }
     requires words { AreOldWords (sets_of (R.cell seat.old.me.0)) Q.name old.now }
     ensures seat { IsSameSeat seat.old seat.new }
     ensures view { seat.new.me
@@ -38,6 +39,7 @@ fn back_up<V, K, R: CellRule<V, K>, Q: Asked>(
 }
 
 /// Stores the twelve new value words, once the serial is dirty.
+#[tactic(auto, using(crate::specs::Kept::Bodies::short_word))]
 fn replace<V, K, R: CellRule<V, K>, Q: Asked>(
     table: &Table<(), V, K, R, Global>,
     seat: &mut Seat<(), V>,
@@ -73,7 +75,7 @@ fn write_as<V, K, R: CellRule<V, K>, Q: Asked>(
     requires linked { R.Linked seat.old.me.0 Q.name Q.place }
     requires writer { (R.cell seat.old.me.0 ≡ Writer (sets_of (R.cell seat.old.me.0)) None) × R.Settled seat.old.me.0 }
     requires number { (number ≡ length (sets_of (R.cell seat.old.me.0)) + 1) × (number < 2 ^ 55) }
-    requires legal { length value.now ≤ 91 }
+    requires short { HasShortCell (sets_of (R.cell seat.old.me.0)) Q.name × (length value.now ≤ 91) }
     ensures seat { IsSameSeat seat.old seat.new }
     ensures view { seat.new.me
         ≡ (R.with_cell seat.old.me.0 (accepted (R.cell seat.old.me.0) Q.name Q.value), seat.old.me.1) }
@@ -87,8 +89,9 @@ fn write_as<V, K, R: CellRule<V, K>, Q: Asked>(
     clean_serial::<V, K, R, Q>(table, seat, at, serial(value.len() as u8, number));
 }
 
-/// Sets a new value at the cell of a name. It makes the twelve stores of the backup, that of the dirty serial, the twelve
-/// of the new value's words, and that of the clean serial, with which the set is accepted. It waits for nothing.
+/// Sets a new value of at most 91 bytes at the short cell of a name. It makes the twelve stores of the backup, that of the
+/// dirty serial, the twelve of the new value's words, and that of the clean serial, with which the set is accepted. It waits
+/// for nothing.
 pub fn write_cell<V, K, R: CellRule<V, K>>(
     table: &Table<(), V, K, R, Global>,
     seat: &mut Seat<(), V>,
@@ -102,9 +105,11 @@ pub fn write_cell<V, K, R: CellRule<V, K>>(
     requires linked { R.Linked seat.old.me.0 name.bytes.now at }
     requires writer { (R.cell seat.old.me.0 ≡ Writer (sets_of (R.cell seat.old.me.0)) None) × R.Settled seat.old.me.0 }
     requires number { (number ≡ length (sets_of (R.cell seat.old.me.0)) + 1) × (number < 2 ^ 55) }
+    requires short { HasShortCell (sets_of (R.cell seat.old.me.0)) name.bytes.now × (length value.bytes.now ≤ 91) }
     ensures seat { IsSameSeat seat.old seat.new }
     ensures view { seat.new.me
         ≡ (R.with_cell seat.old.me.0 (accepted (R.cell seat.old.me.0) name.entry.bytes.now value.entry.bytes.now), seat.old.me.1) }
+    ensures short { HasShortCell (sets_of (R.cell seat.new.me.0)) name.entry.bytes.now }
 {
     write_as::<V, K, R, Brand>(table, seat, at, name.bytes, number, value.bytes);
 }

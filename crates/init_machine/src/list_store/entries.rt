@@ -3,23 +3,24 @@
 ghost use Rattle.std.specs.Prelude.{◌≡◌, ◌+◌, ◌≤◌, not, length, Some, None, take, if◌then◌else◌};
 ghost use Rattle.indexmap.specs.IndexMap.{spare};
 ghost use Rattle.indexmap.specs.IndexSet as keys;
-ghost use Rattle.init_machine.specs.Kept.Stored.{AreKnown, properties, property_of};
-ghost use Rattle.init_machine.specs.Props.{lookup_in, put_in, is_absent, names_of, IsLookUp};
+ghost use Rattle.init_base.specs.Value.{max_value_len};
+ghost use Rattle.init_machine.specs.Kept.Stored.{AreKnown, EachFits, properties, property_of};
+ghost use Rattle.init_machine.specs.Props.{lookup_in, number_of as number_in, put_in, is_absent, sizes_of, IsLookUp};
 ghost use Rattle.init_machine.specs.Words.{need_of};
 
 use super::held::Held;
 use super::name::Name;
 use super::nodes::{add, words_of_new};
+use super::room::cell_words;
 use indexmap::{IndexMap, IndexSet};
-
-/// The words of a property's cell.
-const CELL_WORDS: u64 = 13;
 
 /// Looks a property up: the length of its value, which stands at the front of the buffer then, and the number of its
 /// set.
-#[tactic(auto, using(crate::proofs::Entries::lookup_property))]
-pub fn look_up(held: &IndexMap<Name, Held>, name: &[u8], out: &mut [u8; 91]) -> Option<(usize, u64)>
-    requires { length name.now ≤ 255 }
+#[tactic(auto, using(crate::proofs::Entries::lookup_property, crate::proofs::Entries::fits_entry))]
+pub fn look_up(held: &IndexMap<Name, Held>, name: &[u8], out: &mut [u8]) -> Option<(usize, u64)>
+    requires short { length name.now ≤ 255 }
+    requires fits { EachFits (properties held.now.entries) }
+    requires room { max_value_len name.now ≤ length out.old }
     ensures { IsLookUp (lookup_in (properties held.now.entries) name.now) result out.new }
 {
     match held.get(&Name::new(name)) {
@@ -28,27 +29,41 @@ pub fn look_up(held: &IndexMap<Name, Held>, name: &[u8], out: &mut [u8; 91]) -> 
     }
 }
 
-/// The words that a name needs, where it isn't held. The known prefixes are those of the names that are held.
-#[tactic(auto, using(crate::proofs::Entries::absent_property, crate::proofs::Needs::need_beyond))]
+/// The number of a property's set.
+#[tactic(auto, using(crate::proofs::Entries::lookup_property))]
+pub fn number_of(held: &IndexMap<Name, Held>, name: &[u8]) -> Option<u64>
+    requires { length name.now ≤ 255 }
+    ensures { result ≡ number_in (lookup_in (properties held.now.entries) name.now) }
+{
+    match held.get(&Name::new(name)) {
+        Some(held) => Some(held.number()),
+        None => None,
+    }
+}
+
+/// The words that a name needs with a value of so many bytes, where it isn't held. The known prefixes are those of the names
+/// that are held.
+#[tactic(auto, using(crate::proofs::Entries::absent_property, crate::proofs::Entries::need_absent))]
 pub fn need_if_absent(
     held: &IndexMap<Name, Held>,
     known: &IndexSet<Name>,
     name: &[u8],
+    len: usize,
 ) -> Option<u64>
     requires short { length name.now ≤ 255 }
     requires known { AreKnown known.now.keys (properties held.now.entries) }
-    ensures { result ≡ (if is_absent (lookup_in (properties held.now.entries) name.now) then Some (need_of (names_of (properties held.now.entries)) name.now) else None) }
+    ensures { result ≡ (if is_absent (lookup_in (properties held.now.entries) name.now) then Some (need_of (sizes_of (properties held.now.entries)) name.now len) else None) }
 {
     if held.contains_key(&Name::new(name)) {
         None
     } else {
-        Some(CELL_WORDS + words_of_new(known, name))
+        Some(cell_words(len) + words_of_new(known, name))
     }
 }
 
 /// Puts a property in the place of its name's old one, or at the end, where there is memory for it; and answers how
 /// many words that takes. The known prefixes are those of the names that are held, and stay so.
-#[tactic(auto, using(crate::proofs::Needs::need_beyond))]
+#[tactic(auto, using(crate::proofs::Entries::need_absent, crate::proofs::Entries::need_held))]
 pub fn set(
     entries: &mut IndexMap<Name, Held>,
     known: &mut IndexSet<Name>,
@@ -60,11 +75,12 @@ pub fn set(
     requires spare_prefixes { 256 ≤ keys.spare known.old }
     requires known { AreKnown known.old.keys (properties entries.old.entries) }
     ensures put { properties entries.new.entries ≡ put_in (properties entries.old.entries) (property_of (name.now, held)) }
-    ensures words { result ≡ (if is_absent (lookup_in (properties entries.old.entries) name.now) then need_of (names_of (properties entries.old.entries)) name.now else 0) }
+    ensures words { result ≡ need_of (sizes_of (properties entries.old.entries)) name.now (length held.0) }
     ensures known { AreKnown known.new.keys (properties entries.new.entries) }
 {
+    let len = held.len();
     if hold(entries, name, held) {
-        CELL_WORDS + add(known, name)
+        cell_words(len) + add(known, name)
     } else {
         0
     }

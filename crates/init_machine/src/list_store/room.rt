@@ -1,23 +1,45 @@
 //! Whether a set has room.
 
-ghost use Rattle.std.specs.Prelude.{◌≡◌, ◌+◌, ◌==◌, nat_lt, not, Some, None, if◌then◌else◌};
+ghost use Rattle.std.specs.Prelude.{◌≡◌, ◌≤◌, ◌+◌, ◌^◌, ◌==◌, nat_lt, not, Some, None, if◌then◌else◌};
 ghost use Rattle.std.specs.Result.{result_err};
 ghost use Rattle.init_machine.specs.Kept.Room.{full_with};
 ghost use Rattle.init_machine.specs.Props.{last_number};
+ghost use Rattle.init_machine.specs.Words.{cell_words as cell_words_lem};
 
 use crate::store::Full;
 
 /// The last number that a set can have.
 const LAST_NUMBER: u64 = 36028797018963967;
 
-/// The words that any name needs at most: its cell, and a node of a part of 255 bytes for each of 256 prefixes.
-const MOST_NEEDED: u64 = 9485;
+/// The words that the nodes of any name need at most: a node of a part of 255 bytes for each of 256 prefixes.
+const MOST_NODE_WORDS: u64 = 9472;
 
-/// Whether there are words left for any name.
-pub fn has_room_for_any(used: u64, capacity: u64) -> bool
-    ensures { result ≡ not (nat_lt capacity (used + 9485)) }
+/// The words of a short cell: a serial and twelve value words.
+const SHORT_CELL: u64 = 13;
+
+/// The most bytes of a value in a short cell.
+const MOST_SHORT: usize = 91;
+
+/// The words of a long cell beside those of its value: a serial and the length.
+const LONG_HEAD: u64 = 2;
+
+/// The words of the cell of a value of so many bytes.
+pub fn cell_words(len: usize) -> u64
+    ensures words { result ≡ cell_words_lem len }
+    ensures fits { result ≤ 2 ^ 61 + 2 }
 {
-    !is_past(used, MOST_NEEDED, capacity)
+    if len <= MOST_SHORT {
+        SHORT_CELL
+    } else {
+        LONG_HEAD + (len as u64).div_ceil(8)
+    }
+}
+
+/// Whether there are words left for any name with a value of so many bytes.
+pub fn has_room_for_any(used: u64, len: usize, capacity: u64) -> bool
+    ensures { result ≡ not (nat_lt capacity (used + (9472 + cell_words_lem len))) }
+{
+    !is_past(used, MOST_NODE_WORDS + cell_words(len), capacity)
 }
 
 /// Whether there is room for so many words more, if any are needed, and for another number.

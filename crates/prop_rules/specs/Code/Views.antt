@@ -15,4 +15,4 @@ pub record Shows (decided : List (List ℕ)) (props : Props) (taken : List Pair)
 
 -- the store with the property of a pair, where the pair is legal
 abbrev pub with_legal : Props → Pair → Props
-with_legal props p = if is_legal_name p.name && is_legal_value p.value then with_set props p.name p.value else props
+with_legal props p = if is_legal_name p.name && is_legal_value p.name p.value then with_set props p.name p.value else props

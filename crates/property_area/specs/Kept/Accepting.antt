@@ -6,8 +6,8 @@ use Rattle.atomic_table.specs.Table.{Me, Allows, keeps, stepped}
 use Rattle.atomic_table.proofs.Lists.{at_last}
 use Rattle.init_machine.specs.Serial.{top_byte, clean_serial, rank}
 use Rattle.init_machine.specs.Sets.{Set, LaterSet, LastSet}
-use Rattle.serial_value.specs.Words.{IsValue}
-use Rattle.serial_value.specs.Cell.{sets_of, name_of, update, accepted, IsUpdating}
+use Rattle.serial_value.specs.Words.{IsValue, IsShortValue}
+use Rattle.serial_value.specs.Cell.{sets_of, HasShortCell, name_of, update, accepted, IsUpdating}
 use Rattle.serial_value.specs.World.{Moved, Later}
 use Rattle.serial_value.specs.World.Moved.{stays, accepted as accepts_set}
 use Rattle.serial_value.specs.One.{CellHolds}
@@ -15,21 +15,23 @@ use Rattle.serial_value.specs.Kept.Serials.{rank-clean, rank-dirty}
 use Rattle.serial_value.specs.Kept.Places.{at_end}
 use Rattle.serial_value.specs.Kept.Sets.{numbered_within}
 use Rattle.serial_value.specs.Kept.CellWords.{cell_clean}
+use Rattle.serial_value.specs.Kept.Bodies.{short_size, cell_words_body, least_len}
 use Rattle.serial_value.specs.Kept.OneFrame.{new-update}
 use Rattle.property_trie.specs.Parts.{parts_of}
-use Rattle.property_trie.specs.Tree.{Trie, find, trie_of, Extends}
+use Rattle.property_trie.specs.Tree.{Cell, cell_in, Trie, find, trie_of, Extends}
 use Rattle.property_trie.specs.Places.{InCell}
-use Rattle.property_trie.specs.TrieSteps.{names_of, tree_of}
+use Rattle.property_trie.specs.TrieSteps.{sizes_of, tree_of}
 use Rattle.property_trie.proofs.Extending.{extends_self}
 use Rattle.property_trie.proofs.Loads.{seat_extends}
 use Rattle.property_area.specs.declared.view.AreaView.{AreaView}
-use Rattle.property_area.specs.Area.{tree_now, word_at, CellStands, Moment, world_of, WordsHold, ViewHolds, AreaHolds, with_cell, Linked, Settled}
+use Rattle.property_area.specs.Area.{tree_now, cell_of, word_at, CellStands, Moment, world_of, WordsHold, ViewHolds, AreaHolds, with_cell, Linked, Settled}
 use Rattle.property_area.specs.Kept.Making.{same_or_other}
 use Rattle.property_area.specs.Kept.Trees.{trie_same, adding_same, tree_same, word_is, word_else}
 use Rattle.property_area.specs.Kept.Sets.{others_none, last_longer}
+use Rattle.property_area.specs.Kept.Fits.{all_short, fit_more}
 use Rattle.property_area.specs.Kept.Frame.{Mine, clients_later, After, writes}
-use Rattle.property_area.specs.Kept.CellStores.{own_bounds, touch_trie, touch_head, touch_other, stands_else}
-use Rattle.property_area.specs.Kept.CellSteps.{known, found, some as some_place, c, none, cell_known, legal_known, name_known}
+use Rattle.property_area.specs.Kept.CellStores.{own_bounds, own_wide, serial_apart, touch_trie, touch_head, touch_other, stands_else}
+use Rattle.property_area.specs.Kept.CellSteps.{known, found, some as some_place, c, none, cell_known, legal_known, name_known, short_last, short_serial, own_thirteen}
 
 -- the last set is the new one
 pub new_last : (sets : List Set) (name value : List ℕ) → LastSet (sets ++ (name, value) ∷ []) (length (sets ++ (name, value) ∷ [])) name (length sets + 1) value
@@ -69,20 +71,26 @@ module _ (words : List ℕ) (m : Moment) (h : WordsHold words m) (id : ℕ) (v :
   there : at ≢ 0
   there = some_place words m h id v view name value place 25 linked is
 
-  touch : ((4 ≤ at) × (at < 16)) ⊎ InCell at at
-  touch = let t = there in inr (omega arith, omega arith, omega arith)
+  touch : ((4 ≤ at) × (at < 16)) ⊎ InCell (cell_of m.sets name) at
+  touch = let t = there in let wide = own_wide words m h name there in inr (omega arith, omega arith, omega arith)
 
-  same : trie_of (names_of more) ≡ trie_of (names_of m.sets)
+  same : trie_of (sizes_of more) ≡ trie_of (sizes_of m.sets)
   same = trie_same m.sets name value there
 
+  cell_same : (q : List ℕ) → cell_of more q ≡ cell_of m.sets q
+  cell_same q = ap (λ (t : Trie). cell_in t.tree (parts_of q)) same
+
   place_same : (q : List ℕ) → find (tree_of more) (parts_of q) ≡ find (tree_of m.sets) (parts_of q)
-  place_same q = ap (λ (t : Trie). find t.tree (parts_of q)) same
+  place_same q = ap (λ (c : Cell). c.place) (cell_same q)
 
   abbrev own_cell : CellStands words m.sets m.making name
   own_cell = c words m h id v view name value place 25 linked is
 
-  legal : IsValue value
+  legal : IsShortValue value × HasShortCell m.sets name
   legal = legal_known words m h id v view name value place 25 linked is (omega arith)
+
+  short_old : length own_cell.value ≤ 91
+  short_old = short_last words m h id v view name value place 25 linked is legal.1
 
   before : CellHolds words at own_cell.number own_cell.value value 25
   before = subst (λ (new : List ℕ). CellHolds words at own_cell.number own_cell.value new 25) (new-update name value place 25 (omega arith))
@@ -93,8 +101,10 @@ module _ (words : List ℕ) (m : Moment) (h : WordsHold words m) (id : ℕ) (v :
     number = number;
     value = value;
     last = new_last m.sets name value;
+    sized = ap (λ (c : Cell). c.words) (cell_same name) ∙ own_thirteen words m h id v view name value place 25 linked is legal.1
+        ∙ (let size = short_size value legal.0.short in omega arith) ∙ sym (cell_words_body value);
     cell = subst (λ (p : ℕ). CellHolds words' p number value [] 0) (sym (place_same name))
-        (cell_clean words at own_cell.number own_cell.value value bounds.0 bounds.1 number [] before);
+        (cell_clean words at own_cell.number own_cell.value value bounds.0 bounds.1 legal.0.short number [] before);
   }
 
   other_cell : (q : List ℕ) → q ≢ name → find (tree_of m.sets) (parts_of q) ≢ 0 → CellStands words' more None q
@@ -102,6 +112,7 @@ module _ (words : List ℕ) (m : Moment) (h : WordsHold words m) (id : ℕ) (v :
       let old = stands_else words at word m.sets m.making None q some_q (touch_other words m h name at word touch q other) (none words m h id v view name value place 25 linked is q other) refl (h.cells q some_q) in record {
         number = old.number;
         value = old.value;
+        sized = ap (λ (c : Cell). c.words) (cell_same q) ∙ old.sized;
         last = last_longer m.sets ((name, value) ∷ []) q old.number old.value old.last (others_none m.sets name value q other);
         cell = subst (λ (p : ℕ). CellHolds words' p old.number old.value [] 0) (sym (place_same q)) old.cell;
       }
@@ -118,7 +129,9 @@ module _ (words : List ℕ) (m : Moment) (h : WordsHold words m) (id : ℕ) (v :
   holds : WordsHold words' m'
   holds = record {
     few = let n = count in omega arith;
-    legal = new_legal m.sets name value h.legal legal;
+    legal = new_legal m.sets name value h.legal (let few = legal.0.short in record { within = omega arith; bytes = legal.0.bytes });
+    fit = fit_more m.sets h.fit name value (let few = legal.0.short in let least = least_len name in omega arith)
+        (λ i u on. (all_short m.sets h.fit name own_cell.number own_cell.value own_cell.last short_old i u on, legal.0.short));
     head = touch_head words m h name at word touch 0 (omega arith) ∙ h.head;
     late = inr (let n = count in let e = head_now in omega arith);
     empty = (touch_head words m h name at word touch 2 (omega arith) ∙ h.empty.0, touch_head words m h name at word touch 3 (omega arith) ∙ h.empty.1);
@@ -149,9 +162,10 @@ module _ (words : List ℕ) (m : Moment) (h : WordsHold words m) (id : ℕ) (v :
       (λ (is_name : q ≡ name). subst (Moved (world_of words m) (world_of words' m')) (sym is_name) (accepts_set
       (let bounds = own_bounds words m h name there in
       subst (λ (w : ℕ). rank (word_at words at) < rank w) (sym (serial_now name ∙ word_is words' at there ∙ get_or-set_same words at word 0 (omega arith))) ranks)
-      (new_later m.sets name value (length m.sets) (omega arith))))
+      (new_later m.sets name value (length m.sets) (omega arith))
+      (short_serial words m h id v view name value place 25 linked is legal.1)))
       (λ (other : q ≢ name). stays
-      (serial_now q ∙ word_else words at word (find (tree_of m.sets) (parts_of q)) (touch_other words m h name at word touch q other))
+      (serial_now q ∙ word_else words at word (find (tree_of m.sets) (parts_of q)) (serial_apart words m h q at (touch_other words m h name at word touch q other)))
       (others_none m.sets name value q other))
       (same_or_other q name)
 

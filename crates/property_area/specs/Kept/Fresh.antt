@@ -17,14 +17,14 @@ use Rattle.property_trie.proofs.Extending.{extends_self}
 use Rattle.property_trie.proofs.Loads.{seat_extends}
 use Rattle.property_trie.proofs.Stored.{fresh_stored}
 use Rattle.property_area.specs.declared.view.AreaView.{AreaView}
-use Rattle.property_area.specs.Area.{tree_now, AddingStands, Moment, world_of, WordsHold, PartHolds, ViewHolds, AreaHolds, with_trie, Settled}
+use Rattle.property_area.specs.Area.{tree_now, cell_of, AddingStands, Moment, world_of, WordsHold, PartHolds, ViewHolds, AreaHolds, with_trie, Settled}
 use Rattle.property_area.specs.Kept.Trees.{mark_now, mark_high, stands_addition, addition_stands, tree_addition, mark_addition, word_else}
 use Rattle.property_area.specs.Kept.Frame.{Mine, mine, clients_later, After, writes, goes_on}
-use Rattle.property_area.specs.Kept.CellStores.{stands_beside, own_lies}
+use Rattle.property_area.specs.Kept.CellStores.{stands_beside, own_lies, serial_apart}
 
 -- a store beside all cells and the head, but for word 1
 module _ (words : List ℕ) (m : Moment) (h : WordsHold words m) (i n : ℕ) (adding' : Option Adding)
-    (outside : (q : List ℕ) → InCell (find (tree_of m.sets) (parts_of q)) i → ⊥) (far : (i ≡ 1) ⊎ (16 ≤ i)) where
+    (outside : (q : List ℕ) → InCell (cell_of m.sets q) i → ⊥) (far : (i ≡ 1) ⊎ (16 ≤ i)) where
   abbrev m' : Moment
   m' = record m { adding = adding' }
 
@@ -38,17 +38,18 @@ module _ (words : List ℕ) (m : Moment) (h : WordsHold words m) (i n : ℕ) (ad
   trie_stored trie = record {
     few = h.few;
     legal = h.legal;
+    fit = h.fit;
     head = head_else 0 (omega arith) (λ e. omega arith) ∙ h.head;
     late = h.late;
     empty = (head_else 2 (omega arith) (λ e. omega arith) ∙ h.empty.0, head_else 3 (omega arith) (λ e. omega arith) ∙ h.empty.1);
     trie = trie;
     made = h.made;
-    cells = λ q some. stands_beside words i n m.sets m.making q some (outside q) backup_else (h.cells q some);
+    cells = λ q some. stands_beside words i n m.sets m.making q h.made some (outside q) backup_else (h.cells q some);
   }
 
   pub trie_later : Later (world_of words m) (world_of (set words i n) m')
   trie_later = goes_on words (set words i n) m m.making adding' m.head (λ q e. e)
-      (λ q. stays (word_else words i n (find (tree_of m.sets) (parts_of q)) (outside q)) (λ k value above below e. omega arith))
+      (λ q. stays (word_else words i n (find (tree_of m.sets) (parts_of q)) (serial_apart words m h q i (outside q))) (λ k value above below e. omega arith))
 
   pub trie_after : AddingStands (set words i n) m.sets adding' → Extends (tree_now m.sets m.adding) (tree_now m.sets adding') → After words m (set words i n) m'
   trie_after trie more = record { wide = length-set words i n; holds = trie_stored trie; later = trie_later; extends = more; writer = refl; seats = refl; asked = λ seat v' a. a }
@@ -111,7 +112,7 @@ area_fresh key slots id m name linked fresh word settled adds inside s h size he
     let wide = view.width in
     let same : free_place (sets_of v.cell) name linked ≡ free = ap (λ (x : List Set). free_place x name linked) known.sets_are in
     let fresh' = fresh ++ word ∷ [] in
-    let outside : (q : List ℕ) → InCell (find (tree_of mo.sets) (parts_of q)) i → ⊥ = λ q is. let below = (own_lies words mo h.words q i is).1 in omega arith in
+    let outside : (q : List ℕ) → InCell (cell_of mo.sets q) i → ⊥ = λ q is. let below = (own_lies words mo h.words q i is).1 in omega arith in
     let trie = addition_stands (set words i word) mo.sets name linked fresh' (fresh_stored words mo.sets name linked fresh word (added_so_far words mo h.words id v view name linked fresh adds) (omega arith)) in
     let more = extends_self (tree_with mo.sets name linked) in
     let a = trie_after words mo h.words i word (addition name linked fresh') outside (inr (omega arith)) trie (grows words mo h.words id v view name linked fresh adds i word linked fresh' more) in

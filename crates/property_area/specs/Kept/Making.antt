@@ -1,13 +1,14 @@
 -- The update that is under way, seen from each name.
-use Rattle.std.proofs.Common.{◌≡◌, ◌≢◌, ℕ, zero, suc, ◌≤◌, ◌⊎◌, List, Option, Some, None, Bool, true, false, refl, ap, sym, inl, inr, ⊎_elim, arith}
+use Rattle.std.proofs.Common.{◌≡◌, ◌≢◌, ℕ, zero, suc, ◌<◌, ◌≤◌, ◌⊎◌, List, Option, Some, None, Bool, true, false, refl, ap, sym, inl, inr, subst, ⊎_elim, arith}
 use Rattle.std.specs.Prelude.{if◌then◌else◌}
 use Rattle.std.specs.Str.{bytes_eq}
 use Rattle.std.proofs.lemmas.Bool.{cases_Bool}
 use Rattle.std.proofs.lemmas.Slice.Eq.{bytes_eq-Decides}
 use Rattle.serial_value.specs.declared.view.Making.{Making}
-use Rattle.serial_value.specs.Cell.{update, name_of}
+use Rattle.init_machine.specs.Sets.{Set}
+use Rattle.serial_value.specs.Cell.{update, name_of, HasShortCell}
 use Rattle.serial_value.specs.One.{done_of}
-use Rattle.property_area.specs.Area.{made_on}
+use Rattle.property_area.specs.Area.{made_on, MayMake}
 
 pub name_eq : (a b : List ℕ) → a ≡ b → bytes_eq a b ≡ true
 name_eq a b same = (bytes_eq-Decides a b).1 same
@@ -44,3 +45,21 @@ made_past (Some making) name done = ⊎_elim
     let none : done_of (made_on name (Some making)) ≡ 0 = ap (λ (b : Bool). done_of (if b then Some making else None)) f in
     absurd (omega arith))
     (cases_Bool (bytes_eq making.name name))
+
+-- an update makes at most 25 stores before the last one
+pub made_few : (sets : List Set) (making : Option Making) (q : List ℕ) → MayMake sets making → done_of (made_on q making) ≤ 25
+made_few sets None q may = omega arith
+made_few sets (Some making) q may = ⊎_elim
+    (λ (t : bytes_eq making.name q ≡ true). let few = may.4 in subst (λ (b : Bool). done_of (if b then Some making else None) ≤ 25) (sym t) few)
+    (λ (f : bytes_eq making.name q ≡ false). subst (λ (b : Bool). done_of (if b then Some making else None) ≤ 25) (sym f) (omega arith))
+    (cases_Bool (bytes_eq making.name q))
+
+-- the cell of a name that is being updated is short
+pub made_short : (sets : List Set) (making : Option Making) (q : List ℕ) → MayMake sets making → 0 < done_of (made_on q making) → HasShortCell sets q
+made_short sets None q may some = absurd (omega arith)
+made_short sets (Some making) q may some = ⊎_elim
+    (λ (t : bytes_eq making.name q ≡ true). subst (HasShortCell sets) ((bytes_eq-Decides making.name q).0 t) may.3)
+    (λ (f : bytes_eq making.name q ≡ false).
+    let none : done_of (made_on q (Some making)) ≡ 0 = ap (λ (b : Bool). done_of (if b then Some making else None)) f in
+    absurd (omega arith))
+    (cases_Bool (bytes_eq making.name q))

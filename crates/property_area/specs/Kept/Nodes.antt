@@ -5,7 +5,7 @@ use Rattle.atomic_table.specs.Table.{Me, Allows, keeps, stepped}
 use Rattle.init_machine.specs.Sets.{Set}
 use Rattle.serial_value.specs.Cell.{sets_of}
 use Rattle.property_trie.specs.Parts.{parts_of}
-use Rattle.property_trie.specs.Tree.{Tree, find, depth, Extends}
+use Rattle.property_trie.specs.Tree.{Tree, depth, Extends}
 use Rattle.property_trie.specs.Places.{InCell}
 use Rattle.property_trie.specs.TreeWords.{link_at}
 use Rattle.property_trie.specs.TrieSteps.{tree_of, missing_parts}
@@ -15,7 +15,7 @@ use Rattle.property_trie.proofs.Growth.{depth-grown}
 use Rattle.property_trie.proofs.Frames.{InNodes, link_in}
 use Rattle.property_trie.proofs.Stored.{alike_whole, drop_small, node_stored}
 use Rattle.property_area.specs.declared.view.AreaView.{AreaView}
-use Rattle.property_area.specs.Area.{tree_now, Moment, WordsHold, ViewHolds, AreaHolds, with_trie, Settled}
+use Rattle.property_area.specs.Area.{tree_now, cell_of, Moment, WordsHold, ViewHolds, AreaHolds, with_trie, Settled}
 use Rattle.property_area.specs.Kept.Trees.{mark_now, addition_stands, node_lies}
 use Rattle.property_area.specs.Kept.Parts.{part_short}
 use Rattle.property_area.specs.Kept.Frame.{writes}
@@ -46,7 +46,7 @@ module _ (words : List ℕ) (m : Moment) (h : WordsHold words m) (id : ℕ) (v :
   in_nodes : InNodes (tree_with m.sets name linked) link → InNodes (tree_now m.sets m.adding) link
   in_nodes is = subst (λ (t : Tree). InNodes t link) (sym (tree_before words m h id v view name linked (new_node part) adds)) is
 
-  pub outside : (q : List ℕ) → InCell (find (tree_of m.sets) (parts_of q)) link → ⊥
+  pub outside : (q : List ℕ) → InCell (cell_of m.sets q) link → ⊥
   outside q is = ⊎_elim
       (λ (one : link ≡ 1). let low = (own_lies words m h q link is).0 in omega arith)
       (λ there. (own_lies words m h q link is).2 (in_nodes there))

@@ -7,13 +7,13 @@ use mathlib.Core.Option.{some, some-injective, some-ne-none}
 use mathlib.Core.Logic.{dite}
 use native.Mathlib.Decide.{dec_lt}
 use lib.ListN.{get_elem?}
-use Rattle.init_machine.specs.Words.{is_among}
+use Rattle.init_machine.specs.Words.{is_among, Sized, names_in}
 use Rattle.init_machine.specs.Sets.{Set, NoneBetween, LastSet, value_at}
 use Rattle.serial_value.specs.Kept.Places.{at_end, at_below, at_shorter}
 use Rattle.serial_value.specs.Kept.Sets.{numbered_longer, at_no_set}
 use Rattle.property_trie.specs.Parts.{parts_of}
 use Rattle.property_trie.specs.Tree.{find, each_once_from, each_once}
-use Rattle.property_trie.specs.TrieSteps.{names_of, tree_of}
+use Rattle.property_trie.specs.TrieSteps.{sizes_of, tree_of}
 use Rattle.property_trie.proofs.Tries.{finds_its_names}
 use Rattle.property_area.specs.Kept.Making.{name_eq}
 
@@ -51,32 +51,42 @@ among_last (x ∷ xs) name = ⊎_elim
     (λ (other : bytes_eq x name ≡ false). ap (λ (b : Bool). b || is_among (xs ++ name ∷ []) name) other ∙ among_last xs name)
     (cases_Bool (bytes_eq x name))
 
-abbrev next : List (List ℕ) → List ℕ → Bool → List (List ℕ)
-next held n b = if b then held else held ++ n ∷ []
+abbrev next : List Sized → Sized → Bool → List Sized
+next held s b = if b then held else held ++ s ∷ []
 
-among_stays : (held names : List (List ℕ)) (name : List ℕ) → is_among held name ≡ true → is_among (each_once_from held names) name ≡ true
+pub names_end : (held : List Sized) (s : Sized) → names_in (held ++ s ∷ []) ≡ names_in held ++ s.0 ∷ []
+names_end [] s = refl
+names_end (h ∷ held) s = ap (λ (names : List (List ℕ)). h.0 ∷ names) (names_end held s)
+
+among_stays : (held sized : List Sized) (name : List ℕ) → is_among (names_in held) name ≡ true → is_among (names_in (each_once_from held sized)) name ≡ true
 among_stays held [] name is = is
-among_stays held (n ∷ names) name is = among_stays (next held n (is_among held n)) names name (⊎_elim
-    (λ (t : is_among held n ≡ true). ap (λ (b : Bool). is_among (next held n b) name) t ∙ is)
-    (λ (f : is_among held n ≡ false). ap (λ (b : Bool). is_among (next held n b) name) f ∙ among_append held (n ∷ []) name is)
-    (cases_Bool (is_among held n)))
+among_stays held (s ∷ sized) name is = among_stays (next held s (is_among (names_in held) s.0)) sized name (⊎_elim
+    (λ (t : is_among (names_in held) s.0 ≡ true). ap (λ (b : Bool). is_among (names_in (next held s b)) name) t ∙ is)
+    (λ (f : is_among (names_in held) s.0 ≡ false).
+    ap (λ (b : Bool). is_among (names_in (next held s b)) name) f
+    ∙ (ap (λ (names : List (List ℕ)). is_among names name) (names_end held s) ∙ among_append (names_in held) (s.0 ∷ []) name is))
+    (cases_Bool (is_among (names_in held) s.0)))
 
 -- the name of a set is among the names
-set_among : (held : List (List ℕ)) (sets : List Set) (k : ℕ) (name value : List ℕ) → get_elem? sets k ≡ some (name, value) → is_among (each_once_from held (names_of sets)) name ≡ true
+set_among : (held : List Sized) (sets : List Set) (k : ℕ) (name value : List ℕ) → get_elem? sets k ≡ some (name, value) → is_among (names_in (each_once_from held (sizes_of sets))) name ≡ true
 set_among held [] k name value e = absurd (some-ne-none _ (sym e))
 set_among held (s ∷ sets) zero name value e =
     let same : s.0 ≡ name = ap (λ (t : Set). t.0) (some-injective _ _ e) in
-    among_stays (next held s.0 (is_among held s.0)) (names_of sets) name (⊎_elim
-    (λ (t : is_among held s.0 ≡ true). ap (λ (b : Bool). is_among (next held s.0 b) name) t ∙ (ap (is_among held) (sym same) ∙ t))
-    (λ (f : is_among held s.0 ≡ false). ap (λ (b : Bool). is_among (next held s.0 b) name) f ∙ (ap (λ (n : List ℕ). is_among (held ++ n ∷ []) name) same ∙ among_last held name))
-    (cases_Bool (is_among held s.0)))
-set_among held (s ∷ sets) (suc k) name value e = set_among (next held s.0 (is_among held s.0)) sets k name value e
+    let sized : Sized = (s.0, length s.1) in
+    among_stays (next held sized (is_among (names_in held) s.0)) (sizes_of sets) name (⊎_elim
+    (λ (t : is_among (names_in held) s.0 ≡ true). ap (λ (b : Bool). is_among (names_in (next held sized b)) name) t ∙ (ap (is_among (names_in held)) (sym same) ∙ t))
+    (λ (f : is_among (names_in held) s.0 ≡ false).
+    ap (λ (b : Bool). is_among (names_in (next held sized b)) name) f
+    ∙ (ap (λ (names : List (List ℕ)). is_among names name) (names_end held sized)
+    ∙ (ap (λ (n : List ℕ). is_among (names_in held ++ n ∷ []) name) same ∙ among_last (names_in held) name)))
+    (cases_Bool (is_among (names_in held) s.0)))
+set_among held (s ∷ sets) (suc k) name value e = set_among (next held (s.0, length s.1) (is_among (names_in held) s.0)) sets k name value e
 
 -- a name that has no cell is in no set
 pub no_set : (sets : List Set) (name : List ℕ) (count : ℕ) → find (tree_of sets) (parts_of name) ≡ 0 → NoneBetween sets name 0 count
 no_set sets name count none k value above below e =
-    let absent : is_among (each_once (names_of sets)) name ≡ false = (finds_its_names (names_of sets) name).0 none in
-    let there : is_among (each_once (names_of sets)) name ≡ true = set_among [] sets k name value e in
+    let absent : is_among (names_in (each_once (sizes_of sets))) name ≡ false = (finds_its_names (sizes_of sets) name).0 none in
+    let there : is_among (names_in (each_once (sizes_of sets))) name ≡ true = set_among [] sets k name value e in
     absurd (cc)
 
 pub no_value : (sets : List Set) (name : List ℕ) (count : ℕ) → count ≤ length sets → find (tree_of sets) (parts_of name) ≡ 0 → value_at sets count name ≡ None

@@ -51,6 +51,7 @@ copy_still w number list name (Some copying) h = record {
   above = met_still list name copying.name number (rank copying.first) h.above;
   whole = h.whole;
   moved = h.moved;
+  lasting = h.lasting;
 }
 
 -- a reader is told that a name is absent

@@ -30,7 +30,7 @@ pub fn value_cause(alloc: Global, text: &[u8]) -> Result<Option<StoreCause>, NoM
 fn legal_cause(value: &[u8]) -> Option<StoreCause>
     ensures { result ≡ legal_cause_lem value.now }
 {
-    match PropValue::of(value) {
+    match PropValue::short(value) {
         Ok(_) => None,
         Err(fault) => Some(StoreCause::IllegalValue { fault }),
     }

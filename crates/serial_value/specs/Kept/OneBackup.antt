@@ -4,17 +4,17 @@ use Rattle.atomic_table.specs.Table.{Me, Allows, keeps, stepped}
 use Rattle.init_machine.specs.Sets.{Set}
 use Rattle.serial_value.specs.declared.view.CellView.TheVariants.{Writer}
 use Rattle.serial_value.specs.declared.one.OneView.{OneView}
-use Rattle.serial_value.specs.Words.{body_word, IsValue}
-use Rattle.serial_value.specs.Cell.{sets_of, name_of, update, updating, IsUpdating, IsPresentWord}
+use Rattle.serial_value.specs.Words.{body_word, IsShortValue}
+use Rattle.serial_value.specs.Cell.{sets_of, HasShortCell, name_of, update, updating, IsUpdating, IsPresentWord}
 use Rattle.serial_value.specs.One.{the_place, OneHolds, CellHolds, new_value, with_cell, Linked}
 use Rattle.serial_value.specs.Kept.OneFrame.{After, writes, mine, waits, cell_known, last_known, done-update, name-update_later, made-update}
 use Rattle.serial_value.specs.Kept.CellWords.{cell_backup}
 use Rattle.serial_value.specs.Kept.Sets.{at_last_set}
 
 pub one_backup : (key : List ℕ) (slots id : ℕ) (m : Me (Unit {0}) OneView) (name value : List ℕ) (place k word : ℕ)
-    → Unit {0} → Linked m.0 name place → IsUpdating m.0.cell name value place k → k < 12 → IsValue value → IsPresentWord (sets_of m.0.cell) name k word
+    → Unit {0} → Linked m.0 name place → IsUpdating m.0.cell name value place k → k < 12 → IsShortValue value → HasShortCell (sets_of m.0.cell) name → IsPresentWord (sets_of m.0.cell) name k word
     → Allows OneHolds slots id m (4 + k) (λ _. word) (λ _ after. after ≡ (with_cell m.0 (updating (sets_of m.0.cell) name value place (k + 1)), m.1))
-one_backup key slots id m name value place k word settled linked is small legal told s h size here fits =
+one_backup key slots id m name value place k word settled linked is small legal short told s h size here fits =
     let known = mine s h id m.0 name value place k here is in
     let next = update name value place (k + 1) in
     let sets = sets_of m.0.cell in

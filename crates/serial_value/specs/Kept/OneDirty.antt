@@ -1,10 +1,10 @@
 -- The dirty serial keeps the rule of the one cell.
-use Rattle.std.proofs.Common.{◌≡◌, ℕ, ◌+◌, ◌≤◌, List, length, set, Option, Bool, true, false, sym, refl, ap, ◌∙◌, subst, ⊎_elim, arith, get_or-set_same}
+use Rattle.std.proofs.Common.{◌≡◌, ◌≢◌, ℕ, ◌+◌, ◌≤◌, List, length, set, Option, Bool, true, false, sym, refl, ap, ◌∙◌, subst, ⊎_elim, arith, get_or-set_same}
 use Rattle.std.specs.Prelude.{if◌then◌else◌}
 use Rattle.std.specs.Str.{bytes_eq}
 use Rattle.std.proofs.lemmas.Bool.{cases_Bool}
 use Rattle.atomic_table.specs.Table.{Me, Allows, keeps, stepped}
-use Rattle.init_machine.specs.Serial.{top_byte, clean_serial, dirty_serial, is_dirty}
+use Rattle.init_machine.specs.Serial.{top_byte, clean_serial, dirty_serial, top_in, is_dirty}
 use Rattle.init_machine.specs.Sets.{Set}
 use Rattle.serial_value.specs.declared.view.Making.{Making}
 use Rattle.serial_value.specs.declared.view.CellView.TheVariants.{Writer}
@@ -14,16 +14,18 @@ use Rattle.serial_value.specs.World.{Moved}
 use Rattle.serial_value.specs.World.Moved.{stays, dirtied}
 use Rattle.serial_value.specs.One.{the_name, the_place, OneHolds, CellHolds, new_value, world_of, with_cell, Linked}
 use Rattle.serial_value.specs.Kept.OneFrame.{serial_in, After, writes, mine, goes_on, cell_known, last_known, legal_known, name-update_later, made-update}
+use Rattle.serial_value.specs.Kept.OnePresent.{short_last, serial_short}
 use Rattle.serial_value.specs.Kept.CellWords.{cell_dirty}
 use Rattle.serial_value.specs.Kept.Serials.{clean-is_clean}
 
 -- the one serial becomes dirty, and the others stay
-dirties : (word word' : ℕ) (sets : List Set) (making making' : Option Making) (name : List ℕ) → word' ≡ dirty_serial word → is_dirty word ≡ false
+dirties : (word word' : ℕ) (sets : List Set) (making making' : Option Making) (name : List ℕ) → word' ≡ dirty_serial word → is_dirty word ≡ false → top_in word ≢ 255
     → Moved (world_of word sets making) (world_of word' sets making') name
-dirties word word' sets making making' name is clean = ⊎_elim
+dirties word word' sets making making' name is clean short = ⊎_elim
     (λ (same : bytes_eq name the_name ≡ true). dirtied
     (subst (λ (b : Bool). (if b then word' else 0) ≡ dirty_serial (if b then word else 0)) (sym same) is)
-    (subst (λ (b : Bool). is_dirty (if b then word else 0) ≡ false) (sym same) clean))
+    (subst (λ (b : Bool). is_dirty (if b then word else 0) ≡ false) (sym same) clean)
+    (subst (λ (b : Bool). top_in (if b then word else 0) ≢ 255) (sym same) short))
     (λ (other : bytes_eq name the_name ≡ false). stays
     (subst (λ (b : Bool). (if b then word' else 0) ≡ (if b then word else 0)) (sym other) refl)
     (λ k value above below e. omega arith))
@@ -42,7 +44,7 @@ one_dirty key slots id m name value place clean settled linked is told s h size 
     let serial : serial_in s ≡ clean = before.clean (omega arith) ∙ right in
     let pure : is_dirty (serial_in s) ≡ false = ap is_dirty (serial ∙ sym right) ∙ clean-is_clean (top_byte h.value) h.number in
     let cell = subst (λ (w : ℕ). CellHolds (set s.words the_place (dirty_serial w)) the_place h.number h.value (new_value next) 13) right
-    (cell_dirty s.words the_place h.number h.value value (omega arith) inside before) in
+    (cell_dirty s.words the_place h.number h.value value (omega arith) inside (short_last s h).short before) in
     let after : After s the_place word = record {
       sets = h.sets;
       making = next;
@@ -61,6 +63,6 @@ one_dirty key slots id m name value place clean settled linked is told s h size 
           (writes s h the_place word id m.1 m.0 after known.writes
           (goes_on (serial_in s) _ h.sets h.making next
           (λ q e. name-update_later name value place 12 13 q (omega arith) (ap name_of known.making_is ∙ e))
-          (λ q. dirties (serial_in s) _ h.sets h.making next q (get_or-set_same s.words the_place word 0 (omega arith) ∙ ap dirty_serial (sym serial)) pure))),
+          (λ q. dirties (serial_in s) _ h.sets h.making next q (get_or-set_same s.words the_place word 0 (omega arith) ∙ ap dirty_serial (sym serial)) pure (serial_short s h)))),
       refl,
     )

@@ -12,7 +12,7 @@ use Rattle.serial_value.specs.declared.view.Making.{Making}
 use Rattle.serial_value.specs.declared.view.CellView.{CellView}
 use Rattle.serial_value.specs.declared.view.CellView.TheVariants.{Writer, Reader}
 use Rattle.serial_value.specs.declared.one.OneView.{OneView}
-use Rattle.serial_value.specs.Words.{IsValue}
+use Rattle.serial_value.specs.Words.{IsShortValue}
 use Rattle.serial_value.specs.Cell.{sets_of, name_of, update, IsUpdating}
 use Rattle.serial_value.specs.World.{Moved, Later}
 use Rattle.serial_value.specs.World.Moved.{stays}
@@ -59,7 +59,7 @@ pub record After (s : St) (i n : ℕ) : Type 0 where
   pub number : ℕ
   pub value : List ℕ
   pub few : length sets < 2 ^ 55
-  pub named : (i : ℕ) (set : Set) → get_elem? sets i ≡ some set → (set.0 ≡ the_name) × IsValue set.1
+  pub named : (i : ℕ) (set : Set) → get_elem? sets i ≡ some set → (set.0 ≡ the_name) × IsShortValue set.1
   pub last : LastSet sets (length sets) the_name number value
   pub made : MayMake making
   pub cell : CellHolds (set s.words i n) the_place number value (new_value making) (done_of making)
@@ -124,7 +124,7 @@ pub name-update_later : (name value : List ℕ) (place done done' : ℕ) (q : Li
 name-update_later name value place zero done' q some_done e = absurd (cc)
 name-update_later name value place (suc done) done' q some_done e = name-update name value place done' some_done ∙ e
 
-pub made-update : (name value : List ℕ) (place done : ℕ) → name ≡ the_name → place ≡ the_place → IsValue value → done ≤ 25 → MayMake (update name value place done)
+pub made-update : (name value : List ℕ) (place done : ℕ) → name ≡ the_name → place ≡ the_place → IsShortValue value → done ≤ 25 → MayMake (update name value place done)
 made-update name value place zero n p v d = tt
 made-update name value place (suc done) n p v d = (n, p, v, d)
 
@@ -163,12 +163,12 @@ pub last_known : (s : St) (h : OneHolds s) (id : ℕ) (v : OneView) (name value 
 last_known s h id v name value place done known is =
     subst (λ (x : List Set × List ℕ). LastSet x.0 (length x.0) x.1 h.number h.value) (λ i. (sym known.sets_are i, sym is i)) h.last
 
-legal-update : (name value : List ℕ) (place done : ℕ) → 0 < done → MayMake (update name value place done) → IsValue value
+legal-update : (name value : List ℕ) (place done : ℕ) → 0 < done → MayMake (update name value place done) → IsShortValue value
 legal-update name value place zero some_done made = absurd (omega arith)
 legal-update name value place (suc done) some_done made = made.2
 
 -- the value that is being set is legal
-pub legal_known : (s : St) (h : OneHolds s) (id : ℕ) (v : OneView) (name value : List ℕ) (place done : ℕ) → Mine s h id v name value place done → 0 < done → IsValue value
+pub legal_known : (s : St) (h : OneHolds s) (id : ℕ) (v : OneView) (name value : List ℕ) (place done : ℕ) → Mine s h id v name value place done → 0 < done → IsShortValue value
 legal_known s h id v name value place done known some_done = legal-update name value place done some_done (subst MayMake (sym known.making_is) h.made)
 
 -- the name of the set that is being made

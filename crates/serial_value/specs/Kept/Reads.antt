@@ -9,6 +9,7 @@ use Rattle.std.proofs.Math.Nat.{le-max_left, le-max_right, max-le}
 use Rattle.std.proofs.Math.Seq.{get_or-append_seam}
 use Rattle.std.proofs.lemmas.Bool.{cases_Bool}
 use Rattle.std.proofs.lemmas.List.{get_or_append_left}
+use Rattle.init_base.specs.Value.{max_value_len}
 use Rattle.init_machine.specs.Serial.{top_byte, dirty_serial, top_in, number_in, rank, is_dirty}
 use Rattle.init_machine.specs.Sets.{Set, Numbered, LaterSet, LastSet}
 use Rattle.init_machine.specs.Facts.{IsSerialOf}
@@ -20,11 +21,12 @@ use Rattle.init_machine.specs.declared.client.ClientItem.TheVariants.{Told}
 use Rattle.serial_value.specs.declared.view.Copying.{Copying}
 use Rattle.serial_value.specs.declared.view.CellView.{CellView}
 use Rattle.serial_value.specs.declared.view.CellView.TheVariants.{Reader}
-use Rattle.serial_value.specs.Words.{body_word, IsValue, HasWords}
-use Rattle.serial_value.specs.Cell.{HasValue, Ends}
+use Rattle.serial_value.specs.Words.{body_size, body_word, IsValue, HasWords}
+use Rattle.serial_value.specs.Cell.{HasValue, copy_size, IsLongLength, Ends}
 use Rattle.serial_value.specs.World.{World, CopyHolds, ReaderHolds}
 use Rattle.serial_value.specs.Kept.Serials.{same_serial, dirtied}
 use Rattle.serial_value.specs.Kept.Places.{at_below}
+use Rattle.serial_value.specs.Kept.Bodies.{long_size, length_word, long_by_top, next_in_body, whole_body}
 use Rattle.serial_value.specs.Kept.Sets.{numbered_within, numbered_once, at_last_set}
 use Rattle.serial_value.specs.Kept.Lists.{MayTell, tells, seen_through-end}
 
@@ -34,6 +36,7 @@ pub record IsPresent (w : World) (name : List ℕ) : Type 0 where
   pub value : List ℕ
   pub last : LastSet w.sets (length w.sets) name number value
   pub legal : IsValue value
+  pub fits : length value ≤ max_value_len name
   pub number_is : number_in (w.serial name) ≡ number
   pub top_is : top_in (w.serial name) ≡ top_byte value
   pub made : is_dirty (w.serial name) ≡ true → w.making ≡ Some name
@@ -81,6 +84,7 @@ module _ (w : World) (number : ℕ) (began : List Set) (list : List ClientItem) 
       above = r.holds.met name;
       whole = λ same value at k small. absurd (omega arith);
       moved = λ other. absurd (other refl);
+      lasting = λ top. refl;
     };
   }
 
@@ -104,6 +108,7 @@ module _ (w : World) (number : ℕ) (began : List Set) (list : List ClientItem) 
             subst (λ (j : ℕ). HasWords (copying.words ++ word ∷ []) j value) (sym (length-append copying.words (word ∷ [])))
             (longer copying.words word (length copying.words) value refl (c.whole same value at) (right same value at));
         moved = c.moved;
+        lasting = c.lasting;
       };
     }
 
@@ -190,16 +195,35 @@ module _ (w : World) (number : ℕ) (began : List Set) (list : List ClientItem) 
           × ReaderHolds w seen None began (list ++ Told reading ∷ [])
           × Ends with_cell noted (Reader number (Some copying)) v copying.name word (noted (with_cell v (Reader seen None)) reading)
 
+      -- the present serial is the one that was loaded: the next word is one of the value's body
+      pub reads_next : word ≡ copying.first → length copying.words < copy_size copying.first copying.words → length copying.words < body_size p.value
+      reads_next same less = next_in_body copying.first copying.words p.value (ap top_in (sym same) ∙ p.top_is) (c.whole same p.value (has_value w copying.name p)) less
+
+      -- the first word of a long cell is the length
+      pub reads_length : (words place n : ℕ) → place + 1 + body_size p.value ≤ words → top_in copying.first ≡ 255
+          → (word ≡ copying.first → n ≡ body_word p.value 0) → IsLongLength words copying.name place n
+      reads_length words place n inside top right =
+          let same = c.lasting top in
+          let long = long_by_top p.value (sym p.top_is ∙ (ap top_in same ∙ top)) in
+          let size = long_size p.value long in
+          let is : n ≡ length p.value = right same ∙ length_word p.value long in
+          subst (λ (m : ℕ). IsLongLength words copying.name place m) (sym is) (record { long = long; fits = p.fits; inside = omega arith })
+
       -- the last serial is loaded, once all words are copied
-      pub reader_ends : {V : Type 0} (with_cell : V → CellView → V) (noted : V → Reading → V) (v : V) → length copying.words ≡ 12 → MayEnd with_cell noted v
+      pub reader_ends : {V : Type 0} (with_cell : V → CellView → V) (noted : V → Reading → V) (v : V)
+          → length copying.words ≡ copy_size copying.first copying.words → MayEnd with_cell noted v
       reader_ends with_cell noted v copied = dite (ℕ_discrete word copying.first)
           (λ same. let seen = max number (number_in word) in (
             seen,
             Found copying.name seen p.value,
             noted_reader (Found copying.name seen p.value) finds,
             (
-              (λ _. (p.value, p.legal, subst (λ (j : ℕ). HasWords copying.words j p.value) copied (c.whole same p.value (has_value w copying.name p)), p.top_is, refl)),
+              (λ _.
+                  let has = c.whole same p.value (has_value w copying.name p) in
+                  let size = whole_body copying.first copying.words p.value (ap top_in (sym same) ∙ p.top_is) has copied in
+                  (p.value, p.legal, p.fits, subst (λ (j : ℕ). HasWords copying.words j p.value) size has, p.top_is, refl)),
               (λ other. absurd (other same)),
+              c.lasting,
             ),
           ))
           (λ other. (
@@ -209,5 +233,6 @@ module _ (w : World) (number : ℕ) (began : List Set) (list : List ClientItem) 
             (
               (λ same. absurd (other same)),
               (λ _. refl),
+              c.lasting,
             ),
           ))

@@ -8,8 +8,9 @@ use Rattle.std.proofs.lemmas.Slice.Eq.{bytes_eq-Decides}
 use mathlib.Core.Logic.{dite}
 use native.Mathlib.Decide.{dec_le}
 use mathlib.Core.Option.{some, some-injective}
-use Rattle.atomic_table.proofs.Lists.{at_longer}
+use Rattle.atomic_table.proofs.Lists.{at_longer, at_last}
 use Rattle.init_machine.specs.Sets.{Set, last_value, value_at, Numbered, NoneBetween, LaterSet, LastSet}
+use Rattle.serial_value.specs.Cell.{HasShortCell}
 use Rattle.serial_value.specs.Kept.Places.{at_below, at_shorter, at_take, at_taken, same_at}
 
 pub numbered_within : (sets : List Set) (number : ℕ) (name value : List ℕ) → Numbered sets number name value → number ≤ length sets
@@ -174,3 +175,19 @@ value_kept sets more name value none at =
       early = omega arith;
       last = λ k v above below' e'. is.last k v above (let l = length-append sets more in omega arith) (at_longer sets more k (name, v) e');
     }
+
+-- the set at the end is the last one of its name
+pub last_end : (sets : List Set) (name value : List ℕ) → LastSet (sets ++ (name, value) ∷ []) (length (sets ++ (name, value) ∷ [])) name (length sets + 1) value
+last_end sets name value = let count = length-append sets ((name, value) ∷ []) in record {
+  numbered = record { place = length sets; number_is = refl; set_is = at_last sets (name, value) (length sets) refl };
+  early = omega arith;
+  last = λ k v low high e. absurd (omega arith);
+}
+
+-- where its value is short, so is the name's cell
+pub short_end : (sets : List Set) (name value : List ℕ) → length value ≤ 91 → HasShortCell (sets ++ (name, value) ∷ []) name
+short_end sets name value short v at =
+    let more : List Set = sets ++ (name, value) ∷ [] in
+    let last : value_at more (length more) name ≡ Some value = at_last_set more (length more) (omega arith) name (length sets + 1) value (last_end sets name value) in
+    let same : value ≡ v = cc in
+    subst (λ (x : List ℕ). length x ≤ 91) same short

@@ -3,7 +3,7 @@ use Rattle.std.proofs.Common.{◌≡◌, ◌≢◌, ℕ, ◌≤◌, ◌⊎◌, L
 use mathlib.Core.Logic.{dite}
 use native.Mathlib.Decide.{ℕ_discrete}
 use Rattle.std.proofs.lemmas.List.{append_assoc}
-use Rattle.init_machine.specs.Serial.{dirty_serial, rank, number_in, is_dirty}
+use Rattle.init_machine.specs.Serial.{dirty_serial, top_in, rank, number_in, is_dirty}
 use Rattle.init_machine.specs.Sets.{Set, Numbered, NoneBetween, LaterSet, value_at}
 use Rattle.init_machine.specs.Facts.{IsSerialOf, Stands}
 use Rattle.init_machine.specs.declared.report.Reading.{Reading}
@@ -61,8 +61,8 @@ module _ (w w' : World) (later : Later w w') where
 
   rank_of : (name : List ℕ) → Moved w w' name → rank (w.serial name) ≤ rank (w'.serial name)
   rank_of name (stays same none) = let e = ap rank same in omega arith
-  rank_of name (dirtied same clean) = let e = ap rank same in let r = rank_dirtied (w.serial name) clean in omega arith
-  rank_of name (accepted ranks set) = omega arith
+  rank_of name (dirtied same clean short) = let e = ap rank same in let r = rank_dirtied (w.serial name) clean in omega arith
+  rank_of name (accepted ranks set short) = omega arith
 
   -- the present serial ranks no lower
   pub rank_later : (name : List ℕ) → rank (w.serial name) ≤ rank (w'.serial name)
@@ -83,8 +83,8 @@ module _ (w w' : World) (later : Later w w') where
   unmoved : (name : List ℕ) (first : ℕ) → rank first ≤ rank (w.serial name) → w'.serial name ≡ first → Moved w w' name
       → (w.serial name ≡ first) × NoneBetween w'.sets name (length w.sets) (length w'.sets)
   unmoved name first below same (stays is none) = (sym is ∙ same, none)
-  unmoved name first below same (dirtied is clean) = let e = ap rank (sym is ∙ same) in let r = rank_dirtied (w.serial name) clean in absurd (omega arith)
-  unmoved name first below same (accepted ranks set) = let e = ap rank same in absurd (omega arith)
+  unmoved name first below same (dirtied is clean short) = let e = ap rank (sym is ∙ same) in let r = rank_dirtied (w.serial name) clean in absurd (omega arith)
+  unmoved name first below same (accepted ranks set short) = let e = ap rank same in absurd (omega arith)
 
   value_before : (name value : List ℕ) → NoneBetween w'.sets name (length w.sets) (length w'.sets) → HasValue w'.sets name value → HasValue w.sets name value
   value_before name value none at =
@@ -101,14 +101,20 @@ module _ (w w' : World) (later : Later w w') where
       (λ there. inl (later_set name number there))
       (λ (t : (w.serial name ≡ dirty_serial first) × (is_dirty first ≡ false)). inr (is ∙ t.0, t.1))
       (before (λ same. other (is ∙ same)))
-  moved_on number name first early before other (dirtied is clean) = dite (ℕ_discrete (w.serial name) first)
+  moved_on number name first early before other (dirtied is clean short) = dite (ℕ_discrete (w.serial name) first)
       (λ same. inr (is ∙ ap dirty_serial same, ap is_dirty (sym same) ∙ clean))
       (λ differs. ⊎_elim
       (λ there. inl (later_set name number there))
       (λ (t : (w.serial name ≡ dirty_serial first) × (is_dirty first ≡ false)).
       absurd (let odd : is_dirty (dirty_serial first) ≡ true = dirty_is_dirty first t.1 in let f : false ≡ true = sym clean ∙ (ap is_dirty t.0 ∙ odd) in cc))
       (before differs))
-  moved_on number name first early before other (accepted ranks set) = let l = set.2 in inl (set.0, set.1, omega arith, set.3)
+  moved_on number name first early before other (accepted ranks set short) = let l = set.2 in inl (set.0, set.1, omega arith, set.3)
+
+  -- the serial of a long cell is still the one that was loaded
+  lasts : (name : List ℕ) (first : ℕ) → top_in first ≡ 255 → w.serial name ≡ first → Moved w w' name → w'.serial name ≡ first
+  lasts name first top same (stays is none) = is ∙ same
+  lasts name first top same (dirtied is clean short) = absurd (short (ap top_in same ∙ top))
+  lasts name first top same (accepted ranks set short) = absurd (short (ap top_in same ∙ top))
 
   copy_later : (number : ℕ) (list : List ClientItem) (copying : Copying) → number ≤ length w.sets → CopyHolds w number list copying → CopyHolds w' number list copying
   copy_later number list copying early h = record {
@@ -119,6 +125,7 @@ module _ (w w' : World) (later : Later w w') where
         let back_then = unmoved copying.name copying.first h.below same (later.moves copying.name) in
         h.whole back_then.0 value (value_before copying.name value back_then.1 at);
     moved = λ other. moved_on number copying.name copying.first early h.moved other (later.moves copying.name);
+    lasting = λ top. lasts copying.name copying.first top (h.lasting top) (later.moves copying.name);
   }
 
   may_copy : (number : ℕ) (list : List ClientItem) (copying : Option Copying) → number ≤ length w.sets → MayCopy w number list copying → MayCopy w' number list copying

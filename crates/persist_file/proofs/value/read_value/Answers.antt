@@ -1,6 +1,6 @@
 use Rattle.std.proofs.Common.{ap, sym, ◌∙◌}
 use Rattle.std.specs.Str.{bytes_eq}
-use Rattle.init_base.specs.Value.{value_fault}
+use Rattle.init_base.specs.Value.{short_value_fault}
 use Rattle.persist_file.specs.Store.{value_text}
 use Rattle.persist_file.proofs.Values.{no_value, empty_value, not_empty, faulty_value, other_case}
 use Rattle.persist_file.proofs.value.read_value.Goals as goal
@@ -19,7 +19,7 @@ returns-then-is_err c =
     let decoded = rw c.in-Some.is at c.in_ok-value.ensures in
     elim c.then-is_err.branch [
       | then-is_err-via-then-is_err w ↦
-          faulty_value c.args.text.now c.in-Some.value.items c.of-2.result other decoded (c.of-2.ensures.fault ∙ ap value_fault c.deref.ensures.value)
+          faulty_value c.args.text.now c.in-Some.value.items c.short.result other decoded (c.short.ensures.fault ∙ ap short_value_fault c.deref.ensures.value)
           (sym c.is_err.ensures.value ∙ w.if-is_err.true)
       | then-is_err-via-else-is_err+in_ok-is_text_of+then-not-branch w ↦
           other_case c.args.text.now c.in-Some.value.items w.in_ok-is_text_of.field-0 other decoded

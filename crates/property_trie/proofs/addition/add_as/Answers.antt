@@ -1,6 +1,8 @@
 use Rattle.std.proofs.Common.{◌≡◌, ℕ, List, ◌<◌, ◌≤◌, ◌^◌, ◌+◌, [], sym, ◌∙◌, ap, subst, length, arith}
 use Rattle.serial_value.specs.declared.view.CellView.{CellView}
+use Rattle.init_base.specs.Value.{max_value_len}
 use Rattle.serial_value.specs.Words.{IsValue}
+use Rattle.serial_value.specs.Kept.Bodies.{most_len}
 use Rattle.serial_value.specs.Cell.{sets_of}
 use Rattle.property_trie.specs.Parts.{parts_of}
 use Rattle.property_trie.specs.Walk.{EndsAt}
@@ -11,7 +13,7 @@ use Rattle.property_trie.proofs.addition.add_as.Goals as goal
 pub store_cell-requires-clause-table : goal.store_cell-requires-clause-table
 store_cell-requires-clause-table g c =
     let M = g.met.R.TrieRule in
-    let L : Parted g.R.CellRule.cell g.R.TrieRule.trie g.R.TrieRule.with_trie g.R.TrieRule.words g.R.CellRule.Settled =
+    let L : Parted g.R.CellRule.cell g.R.TrieRule.trie g.R.TrieRule.with_trie g.R.CellRule.words g.R.CellRule.Settled =
     record { trie_with = M.trie_with; trie_same = M.trie_same; trie_twice = M.trie_twice; cell_beside = M.cell_beside; words_stay = M.words_stay; settled_beside = M.settled_beside } in
     let R = g.R.TrieRule in
     let C = g.R.CellRule in
@@ -30,7 +32,7 @@ store_cell-requires-clause-table g c =
 pub store_cell-requires-clause-place : goal.store_cell-requires-clause-place
 store_cell-requires-clause-place g c =
     let M = g.met.R.TrieRule in
-    let L : Parted g.R.CellRule.cell g.R.TrieRule.trie g.R.TrieRule.with_trie g.R.TrieRule.words g.R.CellRule.Settled =
+    let L : Parted g.R.CellRule.cell g.R.TrieRule.trie g.R.TrieRule.with_trie g.R.CellRule.words g.R.CellRule.Settled =
     record { trie_with = M.trie_with; trie_same = M.trie_same; trie_twice = M.trie_twice; cell_beside = M.cell_beside; words_stay = M.words_stay; settled_beside = M.settled_beside } in
     let R = g.R.TrieRule in
     let C = g.R.CellRule in
@@ -50,7 +52,7 @@ store_cell-requires-clause-place g c =
 pub store_cell-requires-clause-adds : goal.store_cell-requires-clause-adds
 store_cell-requires-clause-adds g c =
     let M = g.met.R.TrieRule in
-    let L : Parted g.R.CellRule.cell g.R.TrieRule.trie g.R.TrieRule.with_trie g.R.TrieRule.words g.R.CellRule.Settled =
+    let L : Parted g.R.CellRule.cell g.R.TrieRule.trie g.R.TrieRule.with_trie g.R.CellRule.words g.R.CellRule.Settled =
     record { trie_with = M.trie_with; trie_same = M.trie_same; trie_twice = M.trie_twice; cell_beside = M.cell_beside; words_stay = M.words_stay; settled_beside = M.settled_beside } in
     let R = g.R.TrieRule in
     let C = g.R.CellRule in
@@ -70,7 +72,7 @@ store_cell-requires-clause-adds g c =
 pub property_link-requires-clause-link : goal.property_link-requires-clause-link
 property_link-requires-clause-link g c =
     let M = g.met.R.TrieRule in
-    let L : Parted g.R.CellRule.cell g.R.TrieRule.trie g.R.TrieRule.with_trie g.R.TrieRule.words g.R.CellRule.Settled =
+    let L : Parted g.R.CellRule.cell g.R.TrieRule.trie g.R.TrieRule.with_trie g.R.CellRule.words g.R.CellRule.Settled =
     record { trie_with = M.trie_with; trie_same = M.trie_same; trie_twice = M.trie_twice; cell_beside = M.cell_beside; words_stay = M.words_stay; settled_beside = M.settled_beside } in
     let R = g.R.TrieRule in
     let C = g.R.CellRule in
@@ -95,7 +97,7 @@ property_link-requires-clause-link g c =
 pub property_link-requires-clause-place : goal.property_link-requires-clause-place
 property_link-requires-clause-place g c =
     let M = g.met.R.TrieRule in
-    let L : Parted g.R.CellRule.cell g.R.TrieRule.trie g.R.TrieRule.with_trie g.R.TrieRule.words g.R.CellRule.Settled =
+    let L : Parted g.R.CellRule.cell g.R.TrieRule.trie g.R.TrieRule.with_trie g.R.CellRule.words g.R.CellRule.Settled =
     record { trie_with = M.trie_with; trie_same = M.trie_same; trie_twice = M.trie_twice; cell_beside = M.cell_beside; words_stay = M.words_stay; settled_beside = M.settled_beside } in
     let R = g.R.TrieRule in
     let C = g.R.CellRule in
@@ -118,7 +120,7 @@ property_link-requires-clause-place g c =
 pub property_link-requires-clause-adds : goal.property_link-requires-clause-adds
 property_link-requires-clause-adds g c =
     let M = g.met.R.TrieRule in
-    let L : Parted g.R.CellRule.cell g.R.TrieRule.trie g.R.TrieRule.with_trie g.R.TrieRule.words g.R.CellRule.Settled =
+    let L : Parted g.R.CellRule.cell g.R.TrieRule.trie g.R.TrieRule.with_trie g.R.CellRule.words g.R.CellRule.Settled =
     record { trie_with = M.trie_with; trie_same = M.trie_same; trie_twice = M.trie_twice; cell_beside = M.cell_beside; words_stay = M.words_stay; settled_beside = M.settled_beside } in
     let R = g.R.TrieRule in
     let C = g.R.CellRule in
@@ -145,7 +147,7 @@ property_link-requires-clause-adds g c =
 pub property_link-requires-clause-value : goal.property_link-requires-clause-value
 property_link-requires-clause-value g c =
     let M = g.met.R.TrieRule in
-    let L : Parted g.R.CellRule.cell g.R.TrieRule.trie g.R.TrieRule.with_trie g.R.TrieRule.words g.R.CellRule.Settled =
+    let L : Parted g.R.CellRule.cell g.R.TrieRule.trie g.R.TrieRule.with_trie g.R.CellRule.words g.R.CellRule.Settled =
     record { trie_with = M.trie_with; trie_same = M.trie_same; trie_twice = M.trie_twice; cell_beside = M.cell_beside; words_stay = M.words_stay; settled_beside = M.settled_beside } in
     let R = g.R.TrieRule in
     let C = g.R.CellRule in
@@ -164,13 +166,14 @@ property_link-requires-clause-value g c =
     let linked1 = linked_far L m n1 name count fresh far1 in
     let same1 = cell_far L m n1 name count fresh far1 in
     let number : c.args.number ≡ length (sets_of (C.cell n1.0)) + 1 = c.requires.number.0 ∙ ap (λ x. length (sets_of x) + 1) (sym same1) in
-    let value : IsValue c.args.value.now = record { short = c.requires.value.1; bytes = λ i. let f = c.type_inv.value i in omega arith } in
-    (subst IsValue c.requires.value.0 value, subst (λ (k : ℕ). k < 2 ^ 55) number c.requires.number.1)
+    let value : IsValue c.args.value.now = record { within = let most = most_len c.args.name.now in let l = c.requires.value.1 in omega arith; bytes = λ i. let f = c.type_inv.value i in omega arith } in
+    let fits = subst (λ (x : List ℕ × List ℕ). length x.0 ≤ max_value_len x.1) (λ i. (c.requires.value.0 i, c.requires.name.0 i)) c.requires.value.1 in
+    (subst IsValue c.requires.value.0 value, fits, subst (λ (k : ℕ). k < 2 ^ 55) number c.requires.number.1)
 
 pub returns-clause-view : goal.returns-clause-view
 returns-clause-view g c =
     let M = g.met.R.TrieRule in
-    let L : Parted g.R.CellRule.cell g.R.TrieRule.trie g.R.TrieRule.with_trie g.R.TrieRule.words g.R.CellRule.Settled =
+    let L : Parted g.R.CellRule.cell g.R.TrieRule.trie g.R.TrieRule.with_trie g.R.CellRule.words g.R.CellRule.Settled =
     record { trie_with = M.trie_with; trie_same = M.trie_same; trie_twice = M.trie_twice; cell_beside = M.cell_beside; words_stay = M.words_stay; settled_beside = M.settled_beside } in
     let R = g.R.TrieRule in
     let C = g.R.CellRule in

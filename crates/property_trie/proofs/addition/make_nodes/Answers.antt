@@ -12,7 +12,7 @@ use Rattle.property_trie.proofs.addition.make_nodes.Goals as goal
 pub parts-init : goal.parts-init
 parts-init g c =
     let M = g.met.R.TrieRule in
-    let L : Parted g.R.CellRule.cell g.R.TrieRule.trie g.R.TrieRule.with_trie g.R.TrieRule.words g.R.CellRule.Settled =
+    let L : Parted g.R.CellRule.cell g.R.TrieRule.trie g.R.TrieRule.with_trie g.R.CellRule.words g.R.CellRule.Settled =
     record { trie_with = M.trie_with; trie_same = M.trie_same; trie_twice = M.trie_twice; cell_beside = M.cell_beside; words_stay = M.words_stay; settled_beside = M.settled_beside } in
     let m = c.args.seat.now.me in
     record {
@@ -26,7 +26,7 @@ parts-init g c =
 pub store_node-requires-clause-place : goal.store_node-requires-clause-place
 store_node-requires-clause-place g c =
     let M = g.met.R.TrieRule in
-    let L : Parted g.R.CellRule.cell g.R.TrieRule.trie g.R.TrieRule.with_trie g.R.TrieRule.words g.R.CellRule.Settled =
+    let L : Parted g.R.CellRule.cell g.R.TrieRule.trie g.R.TrieRule.with_trie g.R.CellRule.words g.R.CellRule.Settled =
     record { trie_with = M.trie_with; trie_same = M.trie_same; trie_twice = M.trie_twice; cell_beside = M.cell_beside; words_stay = M.words_stay; settled_beside = M.settled_beside } in
     let R = g.R.TrieRule in
     let m = c.args.seat.now.me in
@@ -51,7 +51,7 @@ store_node-requires-clause-place g c =
 pub interior_link-requires-clause-next : goal.interior_link-requires-clause-next
 interior_link-requires-clause-next g c =
     let M = g.met.R.TrieRule in
-    let L : Parted g.R.CellRule.cell g.R.TrieRule.trie g.R.TrieRule.with_trie g.R.TrieRule.words g.R.CellRule.Settled =
+    let L : Parted g.R.CellRule.cell g.R.TrieRule.trie g.R.TrieRule.with_trie g.R.CellRule.words g.R.CellRule.Settled =
     record { trie_with = M.trie_with; trie_same = M.trie_same; trie_twice = M.trie_twice; cell_beside = M.cell_beside; words_stay = M.words_stay; settled_beside = M.settled_beside } in
     let R = g.R.TrieRule in
     let m = c.args.seat.now.me in
@@ -141,7 +141,7 @@ overflow_add-link g c =
 pub returns-then-end-name-clause-view : goal.returns-then-end-name-clause-view
 returns-then-end-name-clause-view g c =
     let M = g.met.R.TrieRule in
-    let L : Parted g.R.CellRule.cell g.R.TrieRule.trie g.R.TrieRule.with_trie g.R.TrieRule.words g.R.CellRule.Settled =
+    let L : Parted g.R.CellRule.cell g.R.TrieRule.trie g.R.TrieRule.with_trie g.R.CellRule.words g.R.CellRule.Settled =
     record { trie_with = M.trie_with; trie_same = M.trie_same; trie_twice = M.trie_twice; cell_beside = M.cell_beside; words_stay = M.words_stay; settled_beside = M.settled_beside } in
     let R = g.R.TrieRule in
     let m = c.args.seat.now.me in
@@ -191,7 +191,7 @@ returns-then-end-name-clause-path g c =
 pub parts-preserved : goal.parts-preserved
 parts-preserved g c =
     let M = g.met.R.TrieRule in
-    let L : Parted g.R.CellRule.cell g.R.TrieRule.trie g.R.TrieRule.with_trie g.R.TrieRule.words g.R.CellRule.Settled =
+    let L : Parted g.R.CellRule.cell g.R.TrieRule.trie g.R.TrieRule.with_trie g.R.CellRule.words g.R.CellRule.Settled =
     record { trie_with = M.trie_with; trie_same = M.trie_same; trie_twice = M.trie_twice; cell_beside = M.cell_beside; words_stay = M.words_stay; settled_beside = M.settled_beside } in
     let R = g.R.TrieRule in
     let m = c.args.seat.now.me in

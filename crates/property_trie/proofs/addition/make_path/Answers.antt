@@ -7,7 +7,7 @@ use Rattle.property_trie.proofs.addition.make_path.Goals as goal
 pub returns-in-NoCell-clause-view : goal.returns-in-NoCell-clause-view
 returns-in-NoCell-clause-view g c =
     let M = g.met.R.TrieRule in
-    let L : Parted g.R.CellRule.cell g.R.TrieRule.trie g.R.TrieRule.with_trie g.R.TrieRule.words g.R.CellRule.Settled =
+    let L : Parted g.R.CellRule.cell g.R.TrieRule.trie g.R.TrieRule.with_trie g.R.CellRule.words g.R.CellRule.Settled =
     record { trie_with = M.trie_with; trie_same = M.trie_same; trie_twice = M.trie_twice; cell_beside = M.cell_beside; words_stay = M.words_stay; settled_beside = M.settled_beside } in
     let R = g.R.TrieRule in
     let m = c.args.seat.now.me in

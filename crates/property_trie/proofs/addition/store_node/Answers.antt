@@ -7,14 +7,14 @@ use Rattle.property_trie.proofs.addition.store_node.Goals as goal
 pub loop-k-init : goal.loop-k-init
 loop-k-init g c =
     let M = g.met.R.TrieRule in
-    let L : Parted g.R.CellRule.cell g.R.TrieRule.trie g.R.TrieRule.with_trie g.R.TrieRule.words g.R.CellRule.Settled =
+    let L : Parted g.R.CellRule.cell g.R.TrieRule.trie g.R.TrieRule.with_trie g.R.CellRule.words g.R.CellRule.Settled =
     record { trie_with = M.trie_with; trie_same = M.trie_same; trie_twice = M.trie_twice; cell_beside = M.cell_beside; words_stay = M.words_stay; settled_beside = M.settled_beside } in
     record { table = refl; id = refl; far = far_none L c.args.seat.now.me g.Q.Added.name g.Q.Added.linked _ c.requires.adds.1.under_way }
 
 pub fresh_word-requires-clause-table : goal.fresh_word-requires-clause-table
 fresh_word-requires-clause-table g c =
     let M = g.met.R.TrieRule in
-    let L : Parted g.R.CellRule.cell g.R.TrieRule.trie g.R.TrieRule.with_trie g.R.TrieRule.words g.R.CellRule.Settled =
+    let L : Parted g.R.CellRule.cell g.R.TrieRule.trie g.R.TrieRule.with_trie g.R.CellRule.words g.R.CellRule.Settled =
     record { trie_with = M.trie_with; trie_same = M.trie_same; trie_twice = M.trie_twice; cell_beside = M.cell_beside; words_stay = M.words_stay; settled_beside = M.settled_beside } in
     let same = words_far L c.args.seat.now.me c.loop-k.seat.me g.Q.Added.name g.Q.Added.linked _ c.loop-k.invariant.far in
     (c.loop-k.invariant.table ∙ c.requires.table.0, (same ∙ c.requires.table.1.0, subst (λ (n : ℕ). n ≤ 2 ^ 32) (sym same) c.requires.table.1.1))
@@ -22,7 +22,7 @@ fresh_word-requires-clause-table g c =
 pub fresh_word-requires-clause-place : goal.fresh_word-requires-clause-place
 fresh_word-requires-clause-place g c =
     let M = g.met.R.TrieRule in
-    let L : Parted g.R.CellRule.cell g.R.TrieRule.trie g.R.TrieRule.with_trie g.R.TrieRule.words g.R.CellRule.Settled =
+    let L : Parted g.R.CellRule.cell g.R.TrieRule.trie g.R.TrieRule.with_trie g.R.CellRule.words g.R.CellRule.Settled =
     record { trie_with = M.trie_with; trie_same = M.trie_same; trie_twice = M.trie_twice; cell_beside = M.cell_beside; words_stay = M.words_stay; settled_beside = M.settled_beside } in
     let m = c.args.seat.now.me in
     let n = c.loop-k.seat.me in
@@ -37,7 +37,7 @@ fresh_word-requires-clause-place g c =
 pub fresh_word-requires-clause-adds : goal.fresh_word-requires-clause-adds
 fresh_word-requires-clause-adds g c =
     let M = g.met.R.TrieRule in
-    let L : Parted g.R.CellRule.cell g.R.TrieRule.trie g.R.TrieRule.with_trie g.R.TrieRule.words g.R.CellRule.Settled =
+    let L : Parted g.R.CellRule.cell g.R.TrieRule.trie g.R.TrieRule.with_trie g.R.CellRule.words g.R.CellRule.Settled =
     record { trie_with = M.trie_with; trie_same = M.trie_same; trie_twice = M.trie_twice; cell_beside = M.cell_beside; words_stay = M.words_stay; settled_beside = M.settled_beside } in
     let m = c.args.seat.now.me in
     let n = c.loop-k.seat.me in
@@ -51,7 +51,7 @@ fresh_word-requires-clause-adds g c =
 pub loop-k-preserved : goal.loop-k-preserved
 loop-k-preserved g c =
     let M = g.met.R.TrieRule in
-    let L : Parted g.R.CellRule.cell g.R.TrieRule.trie g.R.TrieRule.with_trie g.R.TrieRule.words g.R.CellRule.Settled =
+    let L : Parted g.R.CellRule.cell g.R.TrieRule.trie g.R.TrieRule.with_trie g.R.CellRule.words g.R.CellRule.Settled =
     record { trie_with = M.trie_with; trie_same = M.trie_same; trie_twice = M.trie_twice; cell_beside = M.cell_beside; words_stay = M.words_stay; settled_beside = M.settled_beside } in
     let m = c.args.seat.now.me in
     let n = c.loop-k.seat.me in

@@ -14,7 +14,7 @@ load-requires g c =
       c.requires.table,
       c.requires.place.0,
       subst (λ (link : ℕ). Allows (g.R.TableRule.holds key) slots id m link (λ n. n)
-          (λ n after. (after.1 ≡ m.1) × Ends R.with_trie g.R.CellRule.noted (R.words m.0) (g.R.CellRule.cell m.0) (R.trie m.0) m.0 Q.name Q.link n after.0))
+          (λ n after. (after.1 ≡ m.1) × Ends R.with_trie g.R.CellRule.noted (g.R.CellRule.words m.0) (g.R.CellRule.cell m.0) (R.trie m.0) m.0 Q.name Q.link n after.0))
           (sym c.requires.place.1)
           (g.met.R.TrieRule.cell_link key slots id m Q.name Q.link c.requires.comes),
     )

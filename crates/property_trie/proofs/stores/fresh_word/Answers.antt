@@ -17,5 +17,5 @@ store-requires g c =
           (λ _ after. after ≡ (R.with_trie m.0 (adding (R.trie m.0) Q.name Q.linked (Q.fresh ++ c.args.word ∷ [])), m.1)))
           (sym c.requires.place.1)
           (g.met.R.TrieRule.fresh_word key slots id m Q.name Q.linked Q.fresh c.args.word c.requires.adds.0 c.requires.adds.1
-          (subst (λ (n : ℕ). n < R.words m.0) c.requires.place.1 (subst (λ (n : ℕ). c.args.place < n) (sym c.requires.table.1.0) c.requires.place.0))),
+          (subst (λ (n : ℕ). n < g.R.CellRule.words m.0) c.requires.place.1 (subst (λ (n : ℕ). c.args.place < n) (sym c.requires.table.1.0) c.requires.place.0))),
     )

@@ -17,5 +17,5 @@ store-requires g c =
       subst (λ (place : ℕ). Allows (g.R.TableRule.holds key) slots id m c.args.link (λ _. place)
           (λ _ after. after ≡ (with_added C.with_cell R.with_trie (C.cell m.0) (R.trie m.0) m.0 Q.name Q.value place, m.1)))
           (sym c.requires.place)
-          (g.met.R.TrieRule.property_link key slots id m Q.name Q.value Q.linked c.args.link c.requires.adds.0 c.requires.adds.1 c.requires.value.0 c.requires.value.1 c.requires.link.1),
+          (g.met.R.TrieRule.property_link key slots id m Q.name Q.value Q.linked c.args.link c.requires.adds.0 c.requires.adds.1 c.requires.value.0 c.requires.value.1 c.requires.value.2 c.requires.link.1),
     )

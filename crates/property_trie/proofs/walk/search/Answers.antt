@@ -34,7 +34,7 @@ parts-preserved g c =
           c.requires.rests.live c.requires.rests.no_adding (c.first_part-len.ensures.first ∙ ap (λ r. take n rest ∷ r) (ap (parts_behind n) whole ∙ more_parts name c.parts.from n inv.within c.if-end-name.false)) first.2;
       inside =
           let k = ends.0.0 in
-          let same : R.words m ≡ R.words v = ap R.words inv.walked.is ∙ L.words_stay v _ in
+          let same : g.R.CellRule.words m ≡ g.R.CellRule.words v = ap g.R.CellRule.words inv.walked.is ∙ L.words_stay v _ in
           let all = c.requires.table.1.0 in
           omega arith;
       within =

@@ -16,5 +16,5 @@ store-requires g c =
           (λ _ after. after ≡ (g.R.CellRule.with_cell m.0 (updating (sets_of (g.R.CellRule.cell m.0)) g.Q.Asked.name g.Q.Asked.value g.Q.Asked.place done), m.1)))
           (sym update.2)
           (g.met.R.CellRule.backup_word key slots id m g.Q.Asked.name g.Q.Asked.value g.Q.Asked.place c.args.k c.args.word
-          c.requires.writer.0 c.requires.writer.1 update.0 update.1 update.3 c.requires.word),
+          c.requires.writer.0 c.requires.writer.1 update.0 update.1 update.3 update.4 c.requires.word),
     )

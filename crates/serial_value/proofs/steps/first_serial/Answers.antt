@@ -12,7 +12,7 @@ load-requires g c =
       c.requires.table,
       omega arith,
       subst (λ (place : ℕ). Allows (g.R.TableRule.holds key) slots id m place (λ n. n)
-          (λ n after. (after ≡ (g.R.CellRule.with_cell m.0 (g.R.CellRule.cell after.0), m.1)) × Begins (g.R.CellRule.cell m.0) g.Q.Asked.name g.Q.Asked.place n (g.R.CellRule.cell after.0)))
+          (λ n after. (after ≡ (g.R.CellRule.with_cell m.0 (g.R.CellRule.cell after.0), m.1)) × Begins (g.R.CellRule.words m.0) (g.R.CellRule.cell m.0) g.Q.Asked.name g.Q.Asked.place n (g.R.CellRule.cell after.0)))
           (sym c.requires.place.1)
           (g.met.R.CellRule.first_serial key slots id m g.Q.Asked.name g.Q.Asked.place c.requires.linked),
     )

@@ -9,5 +9,5 @@ pub returns-then-has_room_for_any-clause-full : goal.returns-then-has_room_for_a
 returns-then-has_room_for_any-clause-full c =
     let name = c.args.name.bytes.now in
     let ample = sym c.has_room_for_any.ensures ∙ c.if-has_room_for_any.true in
-    let full = room_for_any (stored c.self.inside).props c.self.inside.used name (legal_short name c.args.name.legal) c.self.invariant.used ample in
-    c.check_numbers.ensures ∙ sym (ap (λ s. full_for s.props name) (sym c.self.view_is) ∙ full)
+    let full = room_for_any (stored c.self.inside).props c.self.inside.used name c.args.len (legal_short name c.args.name.legal) c.self.invariant.used ample in
+    c.check_numbers.ensures ∙ sym (ap (λ s. full_for s.props name c.args.len) (sym c.self.view_is) ∙ full)

@@ -11,6 +11,6 @@ returns-clause-full c =
     let name = c.args.name.bytes.now in
     let own = c.self.invariant in
     c.check_room.ensures
-    ∙ room_told v name c.need_if_new-need.result c.self.inside.used c.words.result c.self.inside.count c.need_if_new-need.ensures.need own.3
-    (c.words.ensures ∙ sym (own.2.wide ∙ ap (λ (t : TableId). t.words) own.0)) own.4
-    ∙ ap (λ (s : Seated). full_for (store_of s.view) name) c.self.view_is
+    ∙ room_told v name c.args.len c.words_needed-need.result c.self.inside.used c.words-words.result c.self.inside.count own.2.fit c.words_needed-need.ensures.need own.3
+    (c.words-words.ensures ∙ sym (own.2.wide ∙ ap (λ (t : TableId). t.words) own.0)) own.4
+    ∙ ap (λ (s : Seated). full_for (store_of s.view) name c.args.len) c.self.view_is

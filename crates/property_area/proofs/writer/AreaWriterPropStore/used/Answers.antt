@@ -5,4 +5,4 @@ use Rattle.property_area.proofs.Looking.{store_used}
 use Rattle.property_area.proofs.writer.AreaWriterPropStore.used.Goals as goal
 
 pub returns : goal.returns
-returns c = c.self.invariant.3 ∙ sym (store_used c.self.inside.seat.me.0) ∙ ap (λ (s : Seated). used_in (store_of s.view)) c.self.view_is
+returns c = c.self.invariant.3 ∙ sym (store_used c.self.inside.seat.me.0 c.self.invariant.2.fit) ∙ ap (λ (s : Seated). used_in (store_of s.view)) c.self.view_is
