@@ -1,6 +1,6 @@
 // The area in plain Rust, for comparison: the same words, loads and stores, sequentially consistent, and the same walk and
-// checks of names. `plain read|absent|put|name|read_200|read_8000 NAMES N`, of which `name` checks names alone, and the last two
-// read long values of so many bytes; and `plain map|map_absent NAMES N`, which reads a hash map behind a lock for reading. Where
+// checks of names. `plain read|absent|put|name|value|length|read_200|read_8000 NAMES N`, of which `name` checks names alone, `value`
+// checks them as values, `length` looks at their lengths, and the last two read long values of so many bytes; and `plain map|map_absent NAMES N`, which reads a hash map behind a lock for reading. Where
 // one of these kinds of reads ends with `_beside`, another thread sets the names in turn until the reads are made.
 use std::cmp::Ordering;
 use std::collections::HashMap;
@@ -289,6 +289,31 @@ fn is_name(name: &str) -> bool {
     is_legal(name.as_bytes())
 }
 
+#[inline(never)]
+fn is_value(value: &str) -> bool {
+    value.len() <= 8_191 && std::str::from_utf8(value.as_bytes()).is_ok()
+}
+
+#[inline(never)]
+fn is_short(name: &str) -> bool {
+    name.len() <= 255
+}
+
+// So many checks in turn, of which it counts those that are legal.
+fn checks(names: &[String], calls: usize, is_legal: impl Fn(&str) -> bool) -> usize {
+    let (mut legal, mut at) = (0, 0);
+    for _ in 0..calls {
+        if at >= names.len() {
+            at = 0;
+        }
+        if is_legal(&names[at]) {
+            legal += 1;
+        }
+        at += 1;
+    }
+    legal
+}
+
 type Map = RwLock<HashMap<String, ([u8; 91], usize)>>;
 
 #[inline(never)]
@@ -352,8 +377,14 @@ fn main() {
     let found = !kind.contains("absent");
     let asked = names_of(count, front, if found { "" } else { "x" });
     let mut out = vec![0; 8_191];
-    if kind == "name" {
-        println!("{}", in_turn.take(calls).filter(|name| is_name(name)).count());
+    let check: Option<fn(&str) -> bool> = match kind {
+        "name" => Some(is_name),
+        "value" => Some(is_value),
+        "length" => Some(is_short),
+        _ => None,
+    };
+    if let Some(check) = check {
+        println!("{}", checks(&names, calls, check));
         return;
     }
     if kind.starts_with("map") {

@@ -36,8 +36,17 @@ def print_long(proved, plain, checked):
         print(f"{kind}: proved {a:.0f} ns, plain {b:.0f} ns, ratio {a / b:.2f}")
 
 
+def print_checks(proved, plain, names):
+    """The checks of a name and of a value, less a call that looks at its length alone."""
+    times = medians([(program, kind) for kind in ("name", "value", "length") for program in (proved, plain)], names)
+    for kind in ("name", "value"):
+        a, b = (times[program, kind] - times[program, "length"] for program in (proved, plain))
+        print(f"check of a {kind}: proved {a:.1f} ns, plain {b:.1f} ns, ratio {a / b:.2f}")
+
+
 def main():
     proved, plain = sys.argv[1:]
+    print_checks(proved, plain, LONG_NAMES)
     for names in (1_000, 30_000):
         timed = [(program, kind) for kind in ("name", *READS, "put") for program in (proved, plain)]
         times = medians(timed + [(plain, kind) for kind in MAPS.values()], names)

@@ -165,7 +165,7 @@ struct Area {
 
 pub struct Machine<'a> {
     config: &'a Config,
-    policy: Policy,
+    pub policy: Policy,
     plans: FastMap<Box<[u8]>, (u64, u8)>,
     pub trace: Trace,
     names: FastMap<Rc<[u8]>, u32>,

@@ -86,8 +86,8 @@ impl Keeper {
         }
     }
 
-    fn replace(&mut self, saved: &Saved) -> io::Result<()> {
-        print_store(saved, &mut self.text);
+    fn replace(&mut self, saved: &Saved, policy: &Policy) -> io::Result<()> {
+        print_store(saved, policy, &mut self.text);
         let beside = OsStr::from_bytes(&self.beside);
         let mut file = fs::File::create(beside)?;
         file.write_all(&self.text)?;
@@ -204,7 +204,7 @@ impl Run<'_> {
         take(&mut self.machine, &mut self.first, &mut self.second)?;
         if self.machine.stored {
             self.machine.stored = false;
-            if self.keeper.replace(&self.machine.saved).is_err() {
+            if self.keeper.replace(&self.machine.saved, &self.machine.policy).is_err() {
                 self.machine.trace.buffer.truncate(begin);
                 self.machine.trace.flush()?;
                 return Err(Stop::Read);

@@ -2,7 +2,7 @@
 
 use crate::import::Files;
 use crate::stop::Stop;
-use crate::text::{FastMap, FastSet, digits, is_blank, is_legal_name, is_legal_value, lines};
+use crate::text::{FastMap, FastSet, digits, is_blank, is_legal_name, is_legal_value, is_q, lines, push_q, read_q};
 use std::collections::BTreeMap;
 use std::rc::Rc;
 
@@ -206,11 +206,60 @@ fn value_of(hex: &[u8]) -> Option<Vec<u8>> {
     pairs.iter().map(|[high, low]| Some(lower_hex(*high)? << 4 | lower_hex(*low)?)).collect()
 }
 
-fn pair_of(line: &[u8]) -> Option<(&[u8], Vec<u8>)> {
-    let (name, hex) = crate::text::split_at_byte(line, b' ')?;
-    let value = value_of(hex)?;
-    let fits = is_legal_name(name) && name.starts_with(b"persist.") && is_legal_value(&value);
-    fits.then_some((name, value))
+/// The type of a word of the store, by which the value is checked.
+fn saved_kind(word: &[u8]) -> Option<Kind> {
+    Some(match word {
+        b"any" | b"enum" => Kind::Any,
+        b"bool" => Kind::Bool,
+        b"int" => Kind::Int,
+        b"uint" => Kind::Uint,
+        _ => return None,
+    })
+}
+
+fn saved_word(kind: &Kind) -> &'static [u8] {
+    match kind {
+        Kind::Any => b"any",
+        Kind::Bool => b"bool",
+        Kind::Int => b"int",
+        Kind::Uint => b"uint",
+        Kind::Enum(_) => b"enum",
+    }
+}
+
+/// The value of a word: hexadecimal in version 1, in q form in version 2.
+fn value_in(is_typed: bool, word: &[u8]) -> Option<Vec<u8>> {
+    if !is_typed {
+        return value_of(word);
+    }
+    let is_printed = word.iter().all(|it| (0x21..=0x7e).contains(it));
+    (is_printed && is_q(word)).then(|| {
+        let mut value = Vec::new();
+        read_q(word, &mut value);
+        value
+    })
+}
+
+/// The name and the value of a line behind that of another name.
+fn pair_of<'a>(is_typed: bool, last: &[u8], line: &'a [u8]) -> Result<(&'a [u8], Vec<u8>), &'static str> {
+    let words: Vec<_> = line.split(|it| *it == b' ').collect();
+    let (name, kind, word) = match words[..] {
+        [name, word] if !is_typed => (name, b"any".as_slice(), word),
+        [name, kind, word] if is_typed => (name, kind, word),
+        _ => return Err("Shape"),
+    };
+    if name.is_empty() || kind.is_empty() || word.is_empty() {
+        return Err("Shape");
+    }
+    if !is_legal_name(name) || !name.starts_with(b"persist.") {
+        return Err("Name");
+    }
+    if name <= last {
+        return Err("Order");
+    }
+    let kind = saved_kind(kind).ok_or("Kind")?;
+    let value = value_in(is_typed, word).filter(|it| is_legal_value(it) && kind.admits(it)).ok_or("Value")?;
+    Ok((name, value))
 }
 
 pub fn read_store(text: &[u8]) -> Result<Saved, Stop> {
@@ -218,40 +267,40 @@ pub fn read_store(text: &[u8]) -> Result<Saved, Stop> {
     let mut last: &[u8] = b"";
     let mut at = 0;
     let mut number = 0;
+    let mut is_typed = false;
     while at < text.len() {
         number += 1;
         let end = crate::text::find_byte(text, at, b'\n');
-        if end == text.len() {
-            return Err(Stop::BadStore(number));
-        }
         let line = &text[at..end];
+        if number == 1 {
+            is_typed = line == b"persist 2";
+            if !is_typed && line != b"persist 1" {
+                return Err(Stop::BadStore(1, "Head"));
+            }
+        }
+        if end == text.len() {
+            return Err(Stop::BadStore(number, "Shape"));
+        }
         at = end + 1;
         if number == 1 {
-            if line != b"persist 1" {
-                return Err(Stop::BadStore(1));
-            }
             continue;
         }
-        let (name, value) = pair_of(line).filter(|(name, _)| *name > last).ok_or(Stop::BadStore(number))?;
+        let (name, value) = pair_of(is_typed, last, line).map_err(|cause| Stop::BadStore(number, cause))?;
         saved.insert(Rc::from(name), Rc::from(value));
         last = name;
     }
     Ok(saved)
 }
 
-pub fn print_store(saved: &Saved, out: &mut Vec<u8>) {
-    const HEX: &[u8; 16] = b"0123456789abcdef";
+pub fn print_store(saved: &Saved, policy: &Policy, out: &mut Vec<u8>) {
     out.clear();
-    out.extend_from_slice(b"persist 1\n");
+    out.extend_from_slice(b"persist 2\n");
     for (name, value) in saved {
         out.extend_from_slice(name);
         out.push(b' ');
-        if value.is_empty() {
-            out.push(b'-');
-        }
-        for byte in value.iter() {
-            out.extend_from_slice(&[HEX[usize::from(byte >> 4)], HEX[usize::from(byte & 15)]]);
-        }
+        out.extend_from_slice(saved_word(&policy.contexts[policy.context_of(name) as usize].kind));
+        out.push(b' ');
+        push_q(out, value);
         out.push(b'\n');
     }
 }

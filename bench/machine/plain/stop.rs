@@ -10,7 +10,7 @@ pub enum Stop {
     TooLarge(u64),
     BadContexts(usize),
     BadAllow(usize),
-    BadStore(usize),
+    BadStore(usize, &'static str),
 }
 
 impl Stop {
@@ -23,7 +23,7 @@ impl Stop {
             Stop::NoInit => 6,
             Stop::TooLarge(_) => 7,
             Stop::BadContexts(_) | Stop::BadAllow(_) => 8,
-            Stop::BadStore(_) => 9,
+            Stop::BadStore(..) => 9,
         }
     }
 }
@@ -39,7 +39,7 @@ impl std::fmt::Display for Stop {
             Stop::TooLarge(number) => write!(out, "too large {number}"),
             Stop::BadContexts(line) => write!(out, "bad contexts line {line}"),
             Stop::BadAllow(line) => write!(out, "bad allow line {line}"),
-            Stop::BadStore(line) => write!(out, "bad store line {line}"),
+            Stop::BadStore(line, cause) => write!(out, "bad store line {line} {cause}"),
         }
     }
 }

@@ -1,7 +1,7 @@
 //! A program that is timed from outside: it makes so many reads or sets at an area of so many names.
 //!
-//! `area_bench read|absent|put|name|read_beside|absent_beside|read_200|read_8000 NAMES N`, of which `name` checks names alone, and
-//! the last two read long values of so many bytes. Where the kind ends with `_beside`, another thread sets the names in turn until
+//! `area_bench read|absent|put|name|value|length|read_beside|absent_beside|read_200|read_8000 NAMES N`, of which `name` checks names
+//! alone, `value` checks them as values, `length` looks at their lengths, and the last two read long values of so many bytes. Where the kind ends with `_beside`, another thread sets the names in turn until
 //! the reads are made; else there is no other thread. `bench/area` has the same in plain Rust, and runs both.
 #![tactic(auto)]
 
@@ -160,8 +160,36 @@ fn is_name(name: &String) -> bool {
     PropName::of(name.as_bytes()).is_some()
 }
 
-/// So many checks of names, of which it counts those that are legal.
-fn checks(names: &[String], count: u64) -> u64 {
+/// One check of a value.
+#[inline(never)]
+fn is_value(value: &String) -> bool {
+    PropValue::of(value.as_bytes()).is_ok()
+}
+
+/// A call that checks nothing but a length.
+#[inline(never)]
+fn is_short(name: &String) -> bool {
+    name.as_bytes().len() <= 255
+}
+
+/// What is checked of a text.
+#[derive(Clone, Copy)]
+enum Check {
+    Name,
+    Value,
+    Length,
+}
+
+fn is_legal(check: Check, text: &String) -> bool {
+    match check {
+        Check::Name => is_name(text),
+        Check::Value => is_value(text),
+        Check::Length => is_short(text),
+    }
+}
+
+/// So many checks of texts, of which it counts those that are legal.
+fn checks(names: &[String], check: Check, count: u64) -> u64 {
     let mut legal = 0;
     let mut at = 0;
     for _ in 0..count {
@@ -169,7 +197,7 @@ fn checks(names: &[String], count: u64) -> u64 {
             at = 0;
         }
         if at < names.len() {
-            if is_name(&names[at]) {
+            if is_legal(check, &names[at]) {
                 legal += 1;
             }
             at += 1;
@@ -324,6 +352,16 @@ fn value_len(kind: &str) -> usize {
     }
 }
 
+/// What a run of this kind checks, where it checks alone.
+fn check_of(kind: &str) -> Option<Check> {
+    match kind {
+        "name" => Some(Check::Name),
+        "value" => Some(Check::Value),
+        "length" => Some(Check::Length),
+        _ => None,
+    }
+}
+
 /// How many calls answered as they should. None where memory is short.
 fn answers<R: Threads + Sync>(rt: &R, alloc: Global, run: &Run) -> Option<u64>
     requires { (1 ≤ run.now.names) × (run.now.names ≤ 40000) }
@@ -341,8 +379,8 @@ fn answers<R: Threads + Sync>(rt: &R, alloc: Global, run: &Run) -> Option<u64>
         sets(&mut writer, &names, run.calls);
         return Some(writer.count().saturating_sub(run.names as u64));
     }
-    if kind == "name" {
-        return Some(checks(&names, run.calls));
+    if let Some(check) = check_of(kind) {
+        return Some(checks(&names, check, run.calls));
     }
     let found = !kind.starts_with("absent");
     let beside = kind.ends_with("_beside");
@@ -364,7 +402,7 @@ fn main(rt: HostRuntime) -> ExitCode {
     let shown = match made {
         Some(count) => println!(&rt; "{count}"),
         None => eprintln!(&rt;
-            "area_bench: usage: read|absent|put|name|read_beside|absent_beside|read_200|read_8000 NAMES N"
+            "area_bench: usage: read|absent|put|name|value|length|read_beside|absent_beside|read_200|read_8000 NAMES N"
         ),
     };
     if made.is_some() && shown.is_ok() {

@@ -1,3 +1,4 @@
+pub mod Brief
 pub mod Digits
 pub mod Effects
 pub mod Expansions

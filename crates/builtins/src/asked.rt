@@ -1,23 +1,46 @@
 //! Commands whose arguments are expanded.
 
-ghost use Rattle.std.specs.Prelude.{◌≡◌, IfOk};
+ghost use Rattle.std.specs.Prelude.{◌≡◌, IfOk, IsTrue};
 ghost use Rattle.init_machine.specs.Effect.{expand_all as expand_all_lem};
 ghost use Rattle.init_machine.specs.Expand.{expand as expand_lem};
 ghost use Rattle.init_machine.specs.Props.{value_in};
-ghost use Rattle.builtins.specs.Asked.{asked_by};
+ghost use Rattle.builtins.specs.Asked.{asked_by, is_brief_if_ok};
 
 use crate::task::task_of;
 use init_base::{List, NoMemory, Text};
 use init_machine::{Cause, Command, PropStore, Task};
 use prop_rules::{ExpandRefusal, expand};
 use std::alloc::Global;
+use std::marker::Model;
 
 /// A command as its line shows it, with the arguments expanded, or as written where they could not be; and what it asks
-/// for, or why they could not be.
+/// for, or why they could not be. No wait for a file is longer than the longest one.
 #[derive(Drop)]
 pub struct Asked {
-    pub command: Command,
-    pub task: Result<Task, Cause>,
+    command: Command,
+    task: Result<Task, Cause>,
+}
+
+impl Model for Asked {
+    ghost use Rattle.std.specs.Prelude.{IsTrue};
+    ghost use Rattle.builtins.specs.Asked.{AskedView, is_brief_if_ok};
+
+    ghost Value = { AskedView };
+
+    ghost view = { λ a. record { command = a.command; task = a.task } };
+
+    ghost invariant = { λ a. IsTrue (is_brief_if_ok a.task) };
+}
+
+impl Asked {
+    /// The command, and what it asks for.
+    pub(crate) fn into_parts(self) -> (Command, Result<Task, Cause>)
+        ensures command { result.0 ≡ self.command }
+        ensures task { result.1 ≡ self.task }
+        ensures brief { IsTrue (is_brief_if_ok result.1) }
+    {
+        (self.command, self.task)
+    }
 }
 
 /// An argument, expanded.

@@ -1,8 +1,9 @@
 //! What tasks do (AOSP, init's README, "Commands").
 
-ghost use Rattle.std.specs.Prelude.{◌≡◌, IfOk, OnOk};
+ghost use Rattle.std.specs.Prelude.{◌≡◌, IfOk, IsTrue, OnOk};
 ghost use Rattle.init_machine.specs.Effect.{perform as perform_lem};
 ghost use Rattle.machine_parts.specs.Parts.{Does, rules_of, state_of};
+ghost use Rattle.builtins.specs.Asked.{is_brief};
 
 use crate::at_once::{export, note, set_property, trigger};
 use crate::on_services::{exec_start, on_class, on_service};
@@ -21,6 +22,7 @@ pub fn perform<S: PropStore>(
     parts: &mut Parts<S>,
     task: Task,
 ) -> Result<Done, NoMemory>
+    requires { IsTrue (is_brief task) }
     ensures ending { IfOk result (λ ending. ending ≡ (perform_lem (rules_of parts.old) task (state_of S.meaning parts.old)).ending) }
     ensures did { OnOk result (Does S.meaning S.told parts.old parts.new (perform_lem (rules_of parts.old) task (state_of S.meaning parts.old)).did) }
     ensures beside { S.Beside parts.old.store parts.new.store }

@@ -1,10 +1,10 @@
 //! Running a command.
 
-ghost use Rattle.std.specs.Prelude.{◌≡◌, ◌++◌, ◌∷◌, [], IfOk, OnOk};
+ghost use Rattle.std.specs.Prelude.{◌≡◌, ◌++◌, ◌∷◌, [], IfOk, IsTrue, OnOk};
 ghost use Rattle.init_machine.specs.Effect.{effect, command_line, ending_line, wait_line as wait_line_lem, waiting_by};
 ghost use Rattle.init_machine.specs.declared.action.Command.{Command as CommandLem};
 ghost use Rattle.machine_parts.specs.Parts.{Does, rules_of, state_of};
-ghost use Rattle.builtins.specs.Asked.{asked_by, done_by, ran_by};
+ghost use Rattle.builtins.specs.Asked.{asked_by, done_by, is_brief_if_ok, ran_by};
 
 use crate::asked::Asked;
 use crate::performing::perform;
@@ -19,6 +19,7 @@ fn perform_asked<S: PropStore>(
     parts: &mut Parts<S>,
     task: Result<Task, Cause>,
 ) -> Result<Done, NoMemory>
+    requires { IsTrue (is_brief_if_ok task) }
     ensures ending { IfOk result (λ ending. ending ≡ (ran_by (rules_of parts.old) task (state_of S.meaning parts.old)).ending) }
     ensures did { OnOk result (Does S.meaning S.told parts.old parts.new (ran_by (rules_of parts.old) task (state_of S.meaning parts.old)).did) }
     ensures beside { S.Beside parts.old.store parts.new.store }
@@ -87,7 +88,7 @@ fn run_asked<S: PropStore>(
     ensures done { OnOk result (Does S.meaning S.told parts.old parts.new (done_by (rules_of parts.old) asked (state_of S.meaning parts.old))) }
     ensures beside { S.Beside parts.old.store parts.new.store }
 {
-    let Asked { command, task } = asked;
+    let (command, task) = asked.into_parts();
     parts.outputs.push(line_of(command))?;
     let ending = perform_asked(alloc, parts, task)?;
     end_command(ending, &mut parts.waits, &mut parts.outputs)

@@ -1,6 +1,6 @@
 //! Commands that wait: for a program, for a value of a property, and for a file.
 
-ghost use Rattle.std.specs.Prelude.{◌≡◌, ◌+◌, IfOk, OnOk};
+ghost use Rattle.std.specs.Prelude.{◌≡◌, ◌≤◌, IfOk, OnOk};
 ghost use Rattle.init_machine.specs.Effect.{exec as exec_lem, wait_for_file as wait_for_file_lem, wait_for_property as wait_for_property_lem};
 ghost use Rattle.machine_parts.specs.Parts.{Does, rules_of, state_of};
 
@@ -53,22 +53,13 @@ pub fn wait_for_property<S: PropStore>(
     }
 }
 
-/// The time so long from now. One past 64 bits is want of memory.
-fn time_after(now: Millis, within: Millis) -> Result<Millis, NoMemory>
-    ensures { IfOk result (λ until. until.0 ≡ now.0 + within.0) }
-{
-    match now.0.checked_add(within.0) {
-        Some(until) => Ok(Millis(until)),
-        None => Err(NoMemory),
-    }
-}
-
 /// Waits for a file, unless it is there already.
 pub fn wait_for_file<S: PropStore>(
     parts: &mut Parts<S>,
     path: Text,
     within: Millis,
 ) -> Result<Done, NoMemory>
+    requires { within.0 ≤ 1000000000 }
     ensures ending { IfOk result (λ ending. ending ≡ (wait_for_file_lem path within (state_of S.meaning parts.old)).ending) }
     ensures did { OnOk result (Does S.meaning S.told parts.old parts.new (wait_for_file_lem path within (state_of S.meaning parts.old)).did) }
     ensures beside { S.Beside parts.old.store parts.new.store }
@@ -76,6 +67,6 @@ pub fn wait_for_file<S: PropStore>(
     if parts.tree.has(path.bytes()) {
         return Ok(Done::Ok);
     }
-    let until = time_after(parts.kernel.now(), within)?;
+    let until = Millis(parts.kernel.now().0 + within.0);
     Ok(Done::Wait(Waiting::File { path, until }))
 }

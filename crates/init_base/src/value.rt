@@ -3,7 +3,7 @@
 ghost use Rattle.std.specs.Prelude.{◌≡◌, ◌<◌, ◌≤◌, IfOk, IfErr, length};
 ghost use Rattle.std.specs.Result.{result_err};
 ghost use Rattle.std.specs.Str.{is_utf8};
-ghost use Rattle.init_base.specs.Value.{LegalValue, IsSomeValue, is_legal_value, fault_past, short_value_fault, value_fault, value_fault_under};
+ghost use Rattle.init_base.specs.Value.{LegalValue, IsSomeValue, fault_past, short_value_fault, value_fault, value_fault_under};
 
 use crate::name::PropName;
 
@@ -23,7 +23,7 @@ pub enum BadValue {
 }
 
 /// A property's value, which is legal under some name: at most 8,191 bytes of UTF-8. Under a name that doesn't begin with `ro.`
-/// at most 91 are legal (AOSP, system properties): `under` and `is_legal_under` judge that.
+/// at most 91 are legal (AOSP, system properties): `under` judges that.
 #[derive(Clone, Copy, Debug)]
 pub struct PropValue<'a> {
     pub bytes: &'a [u8],
@@ -58,13 +58,6 @@ impl<'a> PropValue<'a> {
     {
         check(bytes, name.max_value_len())?;
         Ok(PropValue { bytes })
-    }
-
-    /// Whether the value is legal under the name.
-    pub fn is_legal_under(&self, name: PropName<'_>) -> bool
-        ensures { result ≡ is_legal_value name.entry.bytes.now self.now.bytes.now }
-    {
-        self.bytes.len() <= name.max_value_len()
     }
 
     pub fn bytes(&self) -> &'a [u8]

@@ -13,8 +13,7 @@ use Rattle.init_machine.specs.declared.action.Command.{Command}
 use Rattle.init_machine.specs.declared.service.ServiceDef.{ServiceDef}
 use Rattle.machine_parts.specs.Parts.{Does, state_of, rules_of}
 use Rattle.machine_parts.specs.declared.parts.Parts.{Parts}
-use Rattle.builtins.specs.Asked.{asked_by}
-use Rattle.builtins.specs.declared.asked.Asked.{Asked}
+use Rattle.builtins.specs.Asked.{AskedView, asked_by}
 use Rattle.init_core.specs.Reaped.{onrestart_of}
 use Rattle.machine_parts.proofs.Doing.{does_plain, does_both, does_then, does_no_more}
 
@@ -53,7 +52,7 @@ module _ {S : Type 0} {meaning : S → Props} {told : S → Option (List (List �
 
 module _ {S : Type 0} (meaning : S → Props) (told : S → Option (List (List ℕ × List ℕ))) where
   -- a command that was found and expanded runs
-  pub runs_found : {T E : Type 0} (p new : Parts S) (s : S) (r : Result T E) (asked : Asked) (found command : Command)
+  pub runs_found : {T E : Type 0} (p new : Parts S) (s : S) (r : Result T E) (asked : AskedView) (found command : Command)
       → found ≡ command → meaning s ≡ meaning p.store → told s ≡ told p.store → asked ≡ asked_by found (meaning p.store)
       → ((c : Command) → asked ≡ asked_by c (meaning s) → OnOk r (Does meaning told (record p { store = s }) new (effect (rules_of p) c (state_of meaning (record p { store = s })))))
       → OnOk r (Does meaning told p new (effect (rules_of p) command (state_of meaning p)))

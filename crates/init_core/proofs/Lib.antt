@@ -2,7 +2,6 @@ pub mod Asks
 pub mod Boots
 pub mod ByName
 pub mod Commands
-pub mod Domains
 pub mod Exits
 pub mod Fronts
 pub mod Left

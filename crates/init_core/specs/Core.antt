@@ -1,5 +1,5 @@
 -- What a core is to the layers above.
-use Rattle.std.specs.Prelude.{ℕ, Bool, false, List, []}
+use Rattle.std.specs.Prelude.{ℕ, ◌≤◌, ⊤, Bool, false, List, [], length}
 use Rattle.init_machine.specs.Changes.{Change}
 use Rattle.init_machine.specs.Policy.{PolicyLines}
 use Rattle.init_machine.specs.State.{Opening, State, first_state}
@@ -7,6 +7,7 @@ use Rattle.init_machine.specs.Step.{step}
 use Rattle.init_machine.specs.declared.config.Config.{Config}
 use Rattle.init_machine.specs.declared.config.Pair.{Pair}
 use Rattle.init_machine.specs.declared.input.Input.{Input}
+use Rattle.init_machine.specs.declared.input.Input.TheVariants as input
 use Rattle.init_machine.specs.declared.output.Output.{Output}
 use Rattle.machine_parts.specs.declared.parts.Parts.{Parts}
 
@@ -51,3 +52,12 @@ opened config policy capacity store = record {
 -- what the next input does
 abbrev pub step_of : {S : Type 0} → CoreView S → Input → Change
 step_of core i = step core.config core.policy core.state i
+
+-- a set is of a client that the configuration declares; every other input is the main actor's
+abbrev pub IsDeclared : Config → Input → Type 0
+IsDeclared config input.Boot = ⊤
+IsDeclared config input.Next = ⊤
+IsDeclared config (input.Tick ms) = ⊤
+IsDeclared config (input.Exit name status) = ⊤
+IsDeclared config (input.File path content) = ⊤
+IsDeclared config (input.Set who name value) = (1 ≤ who.0) × (who.0 ≤ length config.domains)

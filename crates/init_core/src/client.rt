@@ -1,6 +1,6 @@
 //! Sets by clients, each judged by the domain of its client.
 
-ghost use Rattle.std.specs.Prelude.{◌≡◌, [], IfOk, OnOk};
+ghost use Rattle.std.specs.Prelude.{◌≡◌, ◌≤◌, IfOk, OnOk, length};
 ghost use Rattle.init_machine.specs.Setting.{is_control as is_control_lem};
 ghost use Rattle.init_machine.specs.Step.{answer_line as answer_line_lem, ask as ask_lem, domain_of as domain_of_lem};
 ghost use Rattle.machine_parts.specs.Parts.{Does, rules_of, state_of};
@@ -18,12 +18,12 @@ fn is_control(name: &[u8]) -> bool
 
 /// The domain of a client. The clients are numbered from 1.
 fn domain_of(domains: &List<Text>, who: ClientId) -> Result<Text, NoMemory>
+    requires from { 1 ≤ who.0 }
+    requires to { who.0 ≤ length domains.now }
     ensures { IfOk result (λ domain. domain ≡ domain_of_lem domains.now who) }
 {
-    match domains.at(who.0.saturating_sub(1) as usize) {
-        Some(domain) => domain.share(),
-        None => Ok(Text::empty()),
-    }
+    let place = who.0 as usize - 1;
+    domains.items()[place].share()
 }
 
 fn answer_line(refused: Option<SetRefusal>, is_control: bool, count: u64) -> Output
@@ -63,6 +63,8 @@ pub fn set_of_client<S: PropStore>(
     name: &Text,
     value: &Text,
 ) -> Result<(), NoMemory>
+    requires from { 1 ≤ who.0 }
+    requires to { who.0 ≤ length domains.now }
     ensures done { OnOk result (Does S.meaning S.told parts.old parts.new (ask_lem (rules_of parts.old) (domain_of_lem domains.now who) name.now value.now (state_of S.meaning parts.old))) }
     ensures beside { S.Beside parts.old.store parts.new.store }
 {

@@ -10,6 +10,7 @@ mod last_pairs;
 mod machine;
 mod next;
 mod opening;
+mod parting;
 mod read;
 mod reaping;
 mod restarting;
@@ -17,3 +18,4 @@ mod step;
 mod waiting;
 
 pub use machine::{Core, CoreStop};
+pub use parting::Ended;

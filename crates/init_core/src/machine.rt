@@ -35,12 +35,12 @@ impl From<NoMemory> for CoreStop {
 /// To contracts it is what it goes by, its state, the outputs of its last input, its store, and whether it is spent.
 #[derive(Drop)]
 pub struct Core<S: PropStore> {
-    alloc: Global,
+    pub(crate) alloc: Global,
     /// The pairs of the build files.
     pairs: List<Pair>,
     /// The domains of the clients.
     domains: List<Text>,
-    parts: Parts<S>,
+    pub(crate) parts: Parts<S>,
     spent: bool,
 }
 
@@ -62,7 +62,7 @@ impl<S: PropStore> Model for Core<S> {
 }
 
 impl<S: PropStore> Core<S> {
-    ghost use Rattle.init_core.specs.Core.{opened, step_of};
+    ghost use Rattle.init_core.specs.Core.{opened, step_of, IsDeclared};
     ghost use Rattle.init_core.specs.declared.machine.CoreStop.TheVariants as CoreStop;
     ghost use Rattle.init_base.specs.Value.{max_value_len};
     ghost use Rattle.init_machine.specs.History.{sets_in};
@@ -98,11 +98,12 @@ impl<S: PropStore> Core<S> {
         })
     }
 
-    /// Takes one input: what the documented step does. Its outputs take the place of those of the input before.
+    /// Takes one input: what the documented step does. A set is of a client that the configuration declares. Its outputs take the place of those of the input before.
     ///
     /// `Spent` comes exactly where an earlier call answered `NoMemory`, and changes nothing. After `NoMemory` the store
     /// is the same beside the map, and nothing else is said of the core.
     pub fn take(&mut self, input: &Input) -> Result<(), CoreStop>
+        requires declared { IsDeclared self.old.config input.now }
         ensures config { OnOk result (self.new.config ≡ self.old.config) }
         ensures policy { OnOk result (self.new.policy ≡ self.old.policy) }
         ensures state { OnOk result (self.new.state ≡ (step_of self.old input.now).state) }
@@ -150,6 +151,13 @@ impl<S: PropStore> Core<S> {
         ensures { result ≡ self.now.state.saving }
     {
         self.parts.saving
+    }
+
+    /// The policy by which sets are judged.
+    pub fn policy(&self) -> &Policy
+        ensures { result.now ≡ self.now.policy }
+    {
+        &self.parts.policy
     }
 
     /// The store of properties.

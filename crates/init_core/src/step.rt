@@ -3,7 +3,7 @@
 ghost use Rattle.std.specs.Prelude.{◌≡◌, OnOk};
 ghost use Rattle.init_machine.specs.Step.{respond as respond_lem, step as step_lem};
 ghost use Rattle.machine_parts.specs.Parts.{Does, rules_of, state_of};
-ghost use Rattle.init_core.specs.Core.{config_of};
+ghost use Rattle.init_core.specs.Core.{config_of, IsDeclared};
 ghost use Rattle.init_core.specs.Down.{is_down as is_down_lem};
 
 use crate::boot::boot;
@@ -31,6 +31,7 @@ fn respond<S: PropStore>(
     parts: &mut Parts<S>,
     input: &Input,
 ) -> Result<(), NoMemory>
+    requires { IsDeclared (config_of pairs.now domains.now parts.old) input.now }
     ensures done { OnOk result (Does S.meaning S.told parts.old parts.new (respond_lem (config_of pairs.now domains.now parts.old) (rules_of parts.old) input.now (state_of S.meaning parts.old))) }
     ensures beside { S.Beside parts.old.store parts.new.store }
 {
@@ -57,6 +58,7 @@ pub fn step<S: PropStore>(
     parts: &mut Parts<S>,
     input: &Input,
 ) -> Result<(), NoMemory>
+    requires { IsDeclared (config_of pairs.now domains.now parts.old) input.now }
     ensures done { OnOk result (Does S.meaning S.told parts.old parts.new (step_lem (config_of pairs.now domains.now parts.old) parts.old.policy (state_of S.meaning parts.old) input.now)) }
     ensures beside { S.Beside parts.old.store parts.new.store }
 {

@@ -47,8 +47,8 @@ given_more : (config : Config) (policy : PolicyLines) (s : State) (first more : 
 given_more config policy s [] more = refl
 given_more config policy s (i ∷ first) more =
     let now = step config policy s i in
-    ap (λ rest. given_at now ++ rest) (given_more config policy now.state first more)
-    ∙ sym (append_assoc (given_at now) (given_from config policy now.state first) (given_from config policy (after_from config policy now.state first) more))
+    ap (λ rest. given_at policy now ++ rest) (given_more config policy now.state first more)
+    ∙ sym (append_assoc (given_at policy now) (given_from config policy now.state first) (given_from config policy (after_from config policy now.state first) more))
 
 -- ---- from place to place
 

@@ -8,6 +8,7 @@ use Rattle.init_base.specs.Keeping.{HoldsNew}
 use Rattle.init_base.specs.declared.outside.refusal.IoRefusal.{IoRefusal}
 use Rattle.init_core.specs.Core.{step_of}
 use Rattle.init_machine.specs.Changes.{change}
+use Rattle.init_machine.specs.Policy.{PolicyLines}
 use Rattle.init_machine.specs.declared.input.Input.{Input}
 use Rattle.init_machine.specs.declared.output.Output.{Output}
 use Rattle.init_machine.specs.declared.report.Entry.{Entry}
@@ -60,11 +61,13 @@ text_one i t u v took same =
     ∙ ap (λ z. t.printer ++ z) (sym (append-nil (EntryText (entry_of i (step_of t.core i).lines))))
 
 -- what the keeper took at the entry
-kept_one : (i : Input) (t u : Traced) (a : Option (List ℕ)) (k l : KeeperView) → Stepped i t u → Took k l (given_at (change u.core.state u.core.outputs))
+kept_one : (i : Input) (t u : Traced) (a : Option (List ℕ)) (k l : KeeperView) → Stepped i t u → Took k l (given_at u.core.policy (change u.core.state u.core.outputs))
     → Took k l (texts_at (place_of t a k) (i ∷ []))
 kept_one i t u a k l took kept =
     let c = step_of t.core i in
-    subst (Took k l) (ap (λ s. given_at (change s u.core.outputs)) took.state ∙ ap (λ os. given_at (change c.state os)) took.outputs ∙ sym (append-nil (given_at c))) kept
+    subst (Took k l)
+    (ap (λ (p : PolicyLines). given_at p (change u.core.state u.core.outputs)) took.policy ∙ ap (λ s. given_at t.core.policy (change s u.core.outputs)) took.state
+    ∙ ap (λ os. given_at t.core.policy (change c.state os)) took.outputs ∙ sym (append-nil (given_at t.core.policy c))) kept
 
 -- the entry was printed behind what waited
 leads_one : (i : Input) (t u v w : Traced) (a b d : Option (List ℕ)) (k l : KeeperView) → Stepped i t u
@@ -124,8 +127,9 @@ stops_one : (i : Input) (t u v : Traced) (a b : Option (List ℕ)) (k l : Keeper
     → Refuses u.core.outputs (place_of u a k) (place_of v b l) → Stops (i ∷ []) (place_of t a k) (place_of v b l)
 stops_one i t u v a b k l took h =
     let c = step_of t.core i in
-    let given : given_at (change u.core.state u.core.outputs) ≡ texts_at (place_of t a k) (i ∷ []) =
-    ap (λ s. given_at (change s u.core.outputs)) took.state ∙ ap (λ os. given_at (change c.state os)) took.outputs ∙ sym (append-nil (given_at c)) in
+    let given : given_at u.core.policy (change u.core.state u.core.outputs) ≡ texts_at (place_of t a k) (i ∷ []) =
+    ap (λ (p : PolicyLines). given_at p (change u.core.state u.core.outputs)) took.policy ∙ ap (λ s. given_at t.core.policy (change s u.core.outputs)) took.state
+    ∙ ap (λ os. given_at t.core.policy (change c.state os)) took.outputs ∙ sym (append-nil (given_at t.core.policy c)) in
     record {
       done = [];
       input = i;
@@ -169,7 +173,7 @@ pub saves_nothing : {X : Type 0} (x : X) (outputs : List Output) (t : Traced) (a
 saves_nothing x outputs t a k none = record {
   added = added_nothing a t.printer;
   empty = λ stored. absurd (false≢true (sym none ∙ stored));
-  kept = subst (Took k k) (ap (λ (b : Bool). if b then store_text t.core.state.saved ∷ [] else []) (sym none)) (took_nothing k);
+  kept = subst (Took k k) (ap (λ (b : Bool). if b then store_text t.core.policy t.core.state.saved ∷ [] else []) (sym none)) (took_nothing k);
 }
 
 front_less : (p q : Place) → TakesFront p.taken q.taken (p.waits ++ []) → TakesFront p.taken q.taken p.waits
@@ -181,11 +185,11 @@ unwritten refusal.Keeper outputs p q h kept = absurd h
 unwritten refusal.Write outputs p q h kept = record { written = front_less p q h; kept = kept }
 unwritten refusal.NoMemory outputs p q h kept = inl (record { written = front_less p q h; kept = kept })
 
-one_text : (outputs : List Output) (p : Place) → has_stored outputs ≡ true → store_text p.state.saved ∷ [] ≡ given_at (change p.state outputs)
-one_text outputs p stored = ap (λ (b : Bool). if b then store_text p.state.saved ∷ [] else []) (sym stored)
+one_text : (outputs : List Output) (p : Place) → has_stored outputs ≡ true → store_text p.policy p.state.saved ∷ [] ≡ given_at p.policy (change p.state outputs)
+one_text outputs p stored = ap (λ (b : Bool). if b then store_text p.policy p.state.saved ∷ [] else []) (sym stored)
 
 refuses : (outputs : List Output) (p q : Place) → has_stored outputs ≡ true → Added p.taken q.taken p.waits [] []
-    → (p.keeper.TellsCrash → Risks p.keeper q.keeper [] (store_text p.state.saved ∷ [])) → Refuses outputs p q
+    → (p.keeper.TellsCrash → Risks p.keeper q.keeper [] (store_text p.policy p.state.saved ∷ [])) → Refuses outputs p q
 refuses outputs p q stored written risk = record {
   stored = stored;
   written = written.taken ∙ ap (append_known p.taken) (sym (append-nil written.front) ∙ written.whole ∙ append-nil p.waits);
@@ -194,7 +198,7 @@ refuses outputs p q stored written risk = record {
 
 -- all that waited was written, and the keeper answered
 pub saves_last : {T : Type 0} (r : Result T DriveRefusal) (outputs : List Output) (p q : Place) → has_stored outputs ≡ true → Added p.taken q.taken p.waits [] [] → q.waits ≡ []
-    → Holds p.keeper q.keeper (store_text p.state.saved) r → sink_failed r ≡ false → Saves outputs p q r
+    → Holds p.keeper q.keeper (store_text p.policy p.state.saved) r → sink_failed r ≡ false → Saves outputs p q r
 saves_last (Ok v) outputs p q stored written empty keeps well = record {
   added = subst (λ w. Added p.taken q.taken p.waits w []) (sym empty) written;
   empty = λ _. empty;

@@ -3,6 +3,7 @@ pub mod Keepers
 pub mod Aheads
 pub mod Whole
 pub mod Courses
+pub mod Declared
 pub mod Entries
 pub mod Reached
 pub mod Told

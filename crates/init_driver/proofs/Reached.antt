@@ -22,8 +22,8 @@ use Rattle.init_machine.specs.declared.report.Report.{Report}
 use Rattle.machine_laws.specs.Histories.{history_from, history_of}
 use Rattle.machine_laws.proofs.Legal.{history_is_legal, inputs_of_history, same_after, same_step}
 use Rattle.machine_laws.proofs.Stored.{stores_while_saving}
-use Rattle.machine_laws.proofs.Printable.{saved_pairs_print, saved_pairs_ascend}
-use Rattle.persist_file.specs.Store.{are_saved, is_saved, names_ascend}
+use Rattle.machine_laws.proofs.Printable.{saved_pairs_are_typed, saved_pairs_ascend, saved_pairs_print}
+use Rattle.persist_file.specs.Store.{are_saved, are_typed, is_saved, names_ascend}
 use Rattle.script_lang.specs.Inputs.{act_inputs, InOrder}
 use Rattle.script_lang.specs.declared.script.Act.{Act}
 use Rattle.script_lang.specs.declared.script.Client.{Client}
@@ -99,12 +99,31 @@ stored_pairs_print config policy s i r stored =
     (saved_pairs_print o history r.well_formed legal saving)
     (subst IsTrue (sym (same_order (after o (inputs_of history)).saved)) (saved_pairs_ascend o history r.well_formed legal)))
 
+-- and each of their values passes the type of its name's context
+stored_pairs_typed : (config : Config) (policy : PolicyLines) (s : State) (i : Input) → IsReached config policy s
+    → IsTrue (has_stored (step config policy s i).lines) → IsTrue (are_typed policy (step config policy s i).state.saved)
+stored_pairs_typed config policy s i r stored =
+    let o = r.opening in
+    let history = history_of o (r.inputs ++ i ∷ []) in
+    let legal = history_is_legal o (r.inputs ++ i ∷ []) in
+    let same = same_now config policy s i r in
+    let saving : IsTrue (after o (inputs_of history)).saving = subst (λ (t : State). IsTrue t.saving) same (stores_while_saving config policy s i stored) in
+    subst (λ (t : State). IsTrue (are_typed policy t.saved)) (sym same)
+    (subst (λ (p : PolicyLines). IsTrue (are_typed p (after o (inputs_of history)).saved)) (sym r.policy_is) (saved_pairs_are_typed o history r.well_formed legal saving))
+
 -- the same, where a core took the input
 pub saved_print : (config : Config) (policy : PolicyLines) (s : State) (i : Input) (outputs : List Output) (t : State) → IsReached config policy s
     → outputs ≡ (step config policy s i).lines → t ≡ (step config policy s i).state → IsTrue (has_stored outputs) → IsTrue (are_saved t.saved)
 saved_print config policy s i outputs t r lines state stored =
     subst (λ (u : State). IsTrue (are_saved u.saved)) (sym state)
     (stored_pairs_print config policy s i r (subst (λ os. IsTrue (has_stored os)) lines stored))
+
+pub saved_typed : (config : Config) (policy policy' : PolicyLines) (s : State) (i : Input) (outputs : List Output) (t : State) → IsReached config policy s → policy' ≡ policy
+    → outputs ≡ (step config policy s i).lines → t ≡ (step config policy s i).state → IsTrue (has_stored outputs) → IsTrue (are_typed policy' t.saved)
+saved_typed config policy policy' s i outputs t r same lines state stored =
+    subst (λ (p : PolicyLines). IsTrue (are_typed p t.saved)) (sym same)
+    (subst (λ (u : State). IsTrue (are_typed policy u.saved)) (sym state)
+    (stored_pairs_typed config policy s i r (subst (λ os. IsTrue (has_stored os)) lines stored)))
 
 -- a loop over inputs keeps to such states
 pub reached_within : (all left : List Input) (a b : Place) → Going all left a b → IsReached a.config a.policy a.state → IsReached b.config b.policy b.state
@@ -125,8 +144,8 @@ given_same : (config : Config) (policy : PolicyLines) (s : State) (inputs : List
 given_same config policy s [] = refl
 given_same config policy s (i ∷ inputs) =
     let now = step config policy s i in
-    ap (λ (c : Change). given_at c ++ given_from (without_saved config) policy c.state inputs) (same_step config policy [] s i)
-    ∙ ap (λ rest. given_at now ++ rest) (given_same config policy now.state inputs)
+    ap (λ (c : Change). given_at policy c ++ given_from (without_saved config) policy c.state inputs) (same_step config policy [] s i)
+    ∙ ap (λ rest. given_at policy now ++ rest) (given_same config policy now.state inputs)
 
 readings_same : (config : Config) (policy : PolicyLines) (who : ℕ) (s : State) (acts : List Act)
     → readings_from (without_saved config) policy who s acts ≡ readings_from config policy who s acts

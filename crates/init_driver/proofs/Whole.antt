@@ -63,9 +63,9 @@ ahead_down waiting (e ∷ rest) written by h = (
 )
 
 -- what waits isn't written whole: nothing is stored
-none_at : (c : Change) (waiting written : ℕ) → written < waiting → (IsTrue (has_stored c.lines) → waiting ≤ written) → given_at c ≡ []
-none_at c waiting written less ahead =
-    elim (has_stored c.lines) as (λ (b : Bool). (IsTrue b → waiting ≤ written) → (if b then store_text c.state.saved ∷ [] else []) ≡ []) [
+none_at : (policy : PolicyLines) (c : Change) (waiting written : ℕ) → written < waiting → (IsTrue (has_stored c.lines) → waiting ≤ written) → given_at policy c ≡ []
+none_at policy c waiting written less ahead =
+    elim (has_stored c.lines) as (λ (b : Bool). (IsTrue b → waiting ≤ written) → (if b then store_text policy c.state.saved ∷ [] else []) ≡ []) [
       | true ↦ λ h. let early = h refl in absurd (omega arith)
       | false ↦ λ h. refl
     ] ahead
@@ -77,7 +77,7 @@ none_given config policy s (i ∷ inputs) waiting written less h =
     let c = step config policy s i in
     let e : Entry = record { input = i; outputs = c.lines } in
     let more : written < waiting + length (EntryText e) = omega arith in
-    ap (λ g. g ++ given_from config policy c.state inputs) (none_at c waiting written less h.0)
+    ap (λ g. g ++ given_from config policy c.state inputs) (none_at policy c waiting written less h.0)
     ∙ none_given config policy c.state inputs (waiting + length (EntryText e)) written more h.1
 
 -- of a run of these inputs the first ones were done, and so much of their text is written: as many texts were given as up to the
@@ -108,12 +108,12 @@ given_near config policy s (i ∷ done) left written stop h =
           let stop' : (left ≡ []) ⊎ (written - size ≤ length (EntriesText (history_from config policy c.state done))) =
           elim stop [ inl is ↦ inl is | inr few ↦ inr (omega arith) ] in
           elim (given_near config policy c.state done left (written - size) stop' (ahead_down 0 (history_from config policy c.state done) written size h.1)) [
-            | inl same ↦ inl (ap (λ g. given_at c ++ g) same)
-            | inr same ↦ inr (ap (λ g. given_at c ++ g) same)
+            | inl same ↦ inl (ap (λ g. given_at policy c ++ g) same)
+            | inr same ↦ inr (ap (λ g. given_at policy c ++ g) same)
           ]
       | false ↦ λ past.
           let less : written < size = grind (arith, common_steps, past) in
-          inr (ap (λ g. given_at c ++ g) (none_given config policy c.state done (0 + size) written (omega arith) h.1))
+          inr (ap (λ g. given_at policy c ++ g) (none_given config policy c.state done (0 + size) written (omega arith) h.1))
     ] refl
 
 -- up to the next entry as many texts are given, or more
@@ -125,7 +125,7 @@ given_one_more config policy s (i ∷ inputs) zero = (given_from config policy s
 given_one_more config policy s (i ∷ inputs) (suc n) =
     let c = step config policy s i in
     let rest = given_one_more config policy c.state inputs n in
-    (rest.0, ap (λ g. given_at c ++ g) rest.1 ∙ sym (append_assoc (given_at c) (given_from config policy c.state (take n inputs)) rest.0))
+    (rest.0, ap (λ g. given_at policy c ++ g) rest.1 ∙ sym (append_assoc (given_at policy c) (given_from config policy c.state (take n inputs)) rest.0))
 
 pub history_length : (config : Config) (policy : PolicyLines) (s : State) (inputs : List Input) → length (history_from config policy s inputs) ≡ length inputs
 history_length config policy s [] = refl

@@ -120,7 +120,7 @@ Prints old new (Err e) waited waits text = Unprinted e old new waited text
 pub record Refuses (outputs : List Output) (a b : Place) : Type 0 where
   pub stored : IsTrue (has_stored outputs)
   pub written : b.taken ≡ append_known a.taken a.waits
-  pub kept : a.keeper.TellsCrash → Risks a.keeper b.keeper [] (given_at (change a.state outputs))
+  pub kept : a.keeper.TellsCrash → Risks a.keeper b.keeper [] (given_at a.policy (change a.state outputs))
 
 -- not all that waited is written, and the keeper isn't asked
 pub record Unwritten (a b : Place) : Type 0 where
@@ -137,7 +137,7 @@ Unsaved refusal.NoMemory outputs a b = Unwritten a b ⊎ Refuses outputs a b
 pub record Saved (outputs : List Output) (a b : Place) : Type 0 where
   pub added : Added a.taken b.taken a.waits b.waits []
   pub empty : IsTrue (has_stored outputs) → b.waits ≡ []
-  pub kept : Took a.keeper b.keeper (given_at (change a.state outputs))
+  pub kept : Took a.keeper b.keeper (given_at a.policy (change a.state outputs))
 
 abbrev pub Saves : {T : Type 0} → List Output → Place → Place → Result T DriveRefusal → Type 0
 Saves outputs a b (Ok value) = Saved outputs a b

@@ -1,8 +1,9 @@
 //! The acts of a script, taken one after another.
 
-ghost use Rattle.std.specs.Prelude.{◌≡◌, ◌∷◌, [], All, length, map, replicate, OnOk};
+ghost use Rattle.std.specs.Prelude.{◌≡◌, ◌≤◌, ◌∷◌, [], All, length, map, replicate, OnOk};
 ghost use Rattle.std.specs.List.{flat_map};
 ghost use Rattle.init_base.specs.Faults.{Counted};
+ghost use Rattle.init_core.specs.Core.{IsDeclared};
 ghost use Rattle.init_driver.specs.Course.{IsReached, Takes, place_of, told_from};
 ghost use Rattle.init_driver.specs.Keeper.{seen_by};
 ghost use Rattle.init_driver.specs.Run.{keeper_failed, sink_failed};
@@ -29,6 +30,7 @@ pub fn take_acts<P: Keeper, K: Sink>(
     out: &mut K,
 ) -> Result<(), DriveRefusal>
     requires reached { IsReached traced.old.core.config traced.old.core.policy traced.old.core.state }
+    requires domains { length parts.old.items ≤ length traced.old.core.config.domains }
     requires asks { All (IsAskAmong (length parts.old.items)) acts.now }
     ensures takes { let seen = seen_by P.held P.TellsCrash P.moment P.MayLeave in
         Takes (flat_map act_inputs acts.now) (place_of traced.old (K.taken out.old) (seen keeper.old))
@@ -53,7 +55,8 @@ fn take_act<P: Keeper, K: Sink>(
     keeper: &mut P,
     out: &mut K,
 ) -> Result<(), DriveRefusal>
-    requires { IsReached traced.old.core.config traced.old.core.policy traced.old.core.state }
+    requires reached { IsReached traced.old.core.config traced.old.core.policy traced.old.core.state }
+    requires asked { IsAskAmong (length traced.old.core.config.domains) act.now }
     ensures takes { let seen = seen_by P.held P.TellsCrash P.moment P.MayLeave in
         Takes (act_inputs act.now) (place_of traced.old (K.taken out.old) (seen keeper.old))
         (place_of traced.new (K.taken out.new) (seen keeper.new)) result }
@@ -90,7 +93,9 @@ fn take_ask<P: Keeper, K: Sink>(
     keeper: &mut P,
     out: &mut K,
 ) -> Result<(), DriveRefusal>
-    requires { IsReached traced.old.core.config traced.old.core.policy traced.old.core.state }
+    requires reached { IsReached traced.old.core.config traced.old.core.policy traced.old.core.state }
+    requires from { 1 ≤ who.0 }
+    requires to { who.0 ≤ length traced.old.core.config.domains }
     ensures takes { let seen = seen_by P.held P.TellsCrash P.moment P.MayLeave in
         Takes (ask_inputs who ask.now) (place_of traced.old (K.taken out.old) (seen keeper.old))
         (place_of traced.new (K.taken out.new) (seen keeper.new)) result }
@@ -140,7 +145,8 @@ pub fn take<P: Keeper, K: Sink>(
     keeper: &mut P,
     out: &mut K,
 ) -> Result<(), DriveRefusal>
-    requires { IsReached traced.old.core.config traced.old.core.policy traced.old.core.state }
+    requires reached { IsReached traced.old.core.config traced.old.core.policy traced.old.core.state }
+    requires declared { IsDeclared traced.old.core.config input.now }
     ensures takes { let seen = seen_by P.held P.TellsCrash P.moment P.MayLeave in
         Takes (input.now ∷ []) (place_of traced.old (K.taken out.old) (seen keeper.old))
         (place_of traced.new (K.taken out.new) (seen keeper.new)) result }

@@ -6,12 +6,13 @@ ghost use Rattle.init_driver.specs.Course.{Holds, Saves, place_of};
 ghost use Rattle.init_driver.specs.Keeper.{seen_by};
 ghost use Rattle.init_driver.specs.Run.{keeper_failed, sink_failed};
 ghost use Rattle.init_driver.specs.Stored.{has_stored, is_stored as is_stored_lem};
-ghost use Rattle.persist_file.specs.Store.{are_saved, store_text};
+ghost use Rattle.persist_file.specs.Store.{are_saved, are_typed, store_text};
 
 use crate::refusal::DriveRefusal;
 use crate::traced::Traced;
 use init_base::{IoRefusal, Keeper, List, Sink};
 use init_machine::{Output, Pair};
+use prop_contexts::Policy;
 use std::alloc::Global;
 
 /// Where the last entry stores a property, writes all that waits, and then gives the keeper the text of the saved pairs.
@@ -22,7 +23,8 @@ pub fn save<P: Keeper, K: Sink>(
     keeper: &mut P,
     out: &mut K,
 ) -> Result<(), DriveRefusal>
-    requires { IsTrue (has_stored traced.old.core.outputs) → IsTrue (are_saved traced.old.core.state.saved) }
+    requires saved { IsTrue (has_stored traced.old.core.outputs) → IsTrue (are_saved traced.old.core.state.saved) }
+    requires typed { IsTrue (has_stored traced.old.core.outputs) → IsTrue (are_typed traced.old.core.policy traced.old.core.state.saved) }
     ensures saves { let seen = seen_by P.held P.TellsCrash P.moment P.MayLeave in
         Saves traced.old.core.outputs (place_of traced.old (K.taken out.old) (seen keeper.old))
         (place_of traced.new (K.taken out.new) (seen keeper.new)) result }
@@ -34,7 +36,7 @@ pub fn save<P: Keeper, K: Sink>(
         return Ok(());
     }
     traced.flush(out)?;
-    keep(alloc, traced.core.saved(), keeper)
+    keep(alloc, traced.core.saved(), traced.core.policy(), keeper)
 }
 
 /// Whether a property is stored.
@@ -50,15 +52,21 @@ fn is_stored(output: &Output) -> bool
     matches!(output, Output::Stored { .. })
 }
 
-/// Gives the keeper the text of pairs.
-fn keep<P: Keeper>(alloc: Global, pairs: &List<Pair>, keeper: &mut P) -> Result<(), DriveRefusal>
-    requires { IsTrue (are_saved pairs.now) }
+/// Gives the keeper the text of pairs under a policy.
+fn keep<P: Keeper>(
+    alloc: Global,
+    pairs: &List<Pair>,
+    policy: &Policy,
+    keeper: &mut P,
+) -> Result<(), DriveRefusal>
+    requires saved { IsTrue (are_saved pairs.now) }
+    requires typed { IsTrue (are_typed policy.now pairs.now) }
     ensures keeps { let seen = seen_by P.held P.TellsCrash P.moment P.MayLeave in
-        Holds (seen keeper.old) (seen keeper.new) (store_text pairs.now) result }
+        Holds (seen keeper.old) (seen keeper.new) (store_text policy.now pairs.now) result }
     ensures writes { sink_failed result ≡ false }
     ensures cause { Counted (keeper_failed result) (P.fault_count keeper.old) (P.fault_count keeper.new) }
 {
-    let text = persist_file::print(alloc, pairs)?;
+    let text = persist_file::print(alloc, pairs, policy)?;
     match keeper.replace(alloc, text.bytes()) {
         Ok(()) => Ok(()),
         Err(IoRefusal::Failed) => Err(DriveRefusal::Keeper),

@@ -1,6 +1,6 @@
 //! `run`: a script on one thread.
 
-ghost use Rattle.std.specs.Prelude.{◌≡◌, ◌∷◌, [], IfOk};
+ghost use Rattle.std.specs.Prelude.{◌≡◌, ◌≤◌, ◌∷◌, [], IfOk, length};
 ghost use Rattle.init_base.specs.Faults.{Counted};
 ghost use Rattle.init_core.specs.Core.{opening_of};
 ghost use Rattle.init_driver.specs.Course.{IsReached, Prints, Takes, place_of};
@@ -52,6 +52,7 @@ pub fn run<P: Keeper, K: Sink>(
     out: &mut K,
 ) -> Result<(), DriveRefusal>
     requires config { IsWellFormed setup.config }
+    requires domains { length script.now.clients ≤ length setup.config.domains }
     requires asks { AsksAreMet script.now }
     ensures leaves { let seen = seen_by P.held P.TellsCrash P.moment P.MayLeave in
         Leaves result (K.taken out.old) (K.taken out.new) (seen keeper.old) (seen keeper.new)
@@ -74,6 +75,7 @@ fn drive<P: Keeper, K: Sink>(
 ) -> Result<(), DriveRefusal>
     requires reached { IsReached traced.old.core.config traced.old.core.policy traced.old.core.state }
     requires empty { traced.old.printer ≡ [] }
+    requires domains { length script.now.clients ≤ length traced.old.core.config.domains }
     requires asks { AsksAreMet script.now }
     ensures leaves { let seen = seen_by P.held P.TellsCrash P.moment P.MayLeave in
         Leaves result (K.taken out.old) (K.taken out.new) (seen keeper.old) (seen keeper.new)
@@ -95,6 +97,7 @@ fn take_script<P: Keeper, K: Sink>(
     out: &mut K,
 ) -> Result<List<ClientPart>, DriveRefusal>
     requires reached { IsReached traced.old.core.config traced.old.core.policy traced.old.core.state }
+    requires domains { length script.now.clients ≤ length traced.old.core.config.domains }
     requires asks { AsksAreMet script.now }
     ensures takes { let seen = seen_by P.held P.TellsCrash P.moment P.MayLeave in
         Takes (InOrder script.now) (place_of traced.old (K.taken out.old) (seen keeper.old))

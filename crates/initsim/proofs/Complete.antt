@@ -6,7 +6,7 @@ use Rattle.init_base.specs.Tree.{file_at}
 use Rattle.init_machine.specs.Policy.{PolicyLines}
 use Rattle.init_machine.specs.declared.limit.Limit.{Limit}
 use Rattle.init_machine.specs.declared.limit.Limit.TheVariants as limits
-use Rattle.persist_file.proofs.Uniqueness.{not_both as store_or_line}
+use Rattle.persist_file.proofs.Determined.{not_both as store_or_line}
 use Rattle.prop_contexts.proofs.Readers.{not_both as policy_or_refusal}
 use Rattle.prop_contexts.specs.Grammar.{IsPolicy}
 use Rattle.prop_contexts.specs.declared.refusal.PolicyRefusal.TheVariants as policy
@@ -112,7 +112,7 @@ complete_check (status.BadScript line) world before now is says counted fit = is
 complete_check status.NoInit world before now is says counted fit = root_is_there Check world fit says
 complete_check (status.TooLarge limit number) world before now is says counted fit = check_limit world limit number is says fit
 complete_check (status.BadPolicy allow line) world before now is says counted fit = is
-complete_check (status.BadStore line) world before now is says counted fit = is
+complete_check (status.BadStore line why) world before now is says counted fit = is
 complete_check status.BadTrace world before now is says counted fit = is
 
 -- ---- a run
@@ -156,8 +156,8 @@ done (status.TooLarge limit number) bytes left world held before now is script t
     no_script_limit bytes left world held limit number is script tree store has fit stored
 done (status.BadPolicy allow line) bytes left world held before now is script tree store counted has fit stored =
     no_bad_policy Run world allow line fit tree
-done (status.BadStore line) bytes left world held before now is script tree store counted has fit stored =
-    store_or_line held stored.0 line stored.1.pairs store.1
+done (status.BadStore line why) bytes left world held before now is script tree store counted has fit stored =
+    store_or_line held stored.0 line why stored.1.pairs store.1
 done status.BadTrace bytes left world held before now is script tree store counted has fit stored = is
 
 run_is_done : (how : Status) (script left held : Option (List ℕ)) (world : World) (before now : Counts)
@@ -200,7 +200,7 @@ ends_as_run (status.BadScript line) bytes left is says has = tt
 ends_as_run status.NoInit bytes left is says has = tt
 ends_as_run (status.TooLarge limit number) bytes left is says has = limit_of_run limit number bytes says has
 ends_as_run (status.BadPolicy allow line) bytes left is says has = tt
-ends_as_run (status.BadStore line) bytes left is says has = tt
+ends_as_run (status.BadStore line why) bytes left is says has = tt
 ends_as_run status.BadTrace bytes left is says has = says.none has.0 has.1.text
 
 told_ends_as_run : (how : Status) (trace left : Option (List ℕ)) → IsAuditStatus how → IfSome trace (λ bytes. TraceSays bytes left how)

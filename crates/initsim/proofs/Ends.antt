@@ -78,8 +78,8 @@ stop_ends (stop.TooLarge limit number) told left old a b is script tree store he
     refused Run told (status.TooLarge limit number) old a b (limit_refused told left limit number is script tree store) held crash
 stop_ends (stop.BadPolicy allow line) told left old a b is script tree store held crash =
     refused Run told (status.BadPolicy allow line) old a b (inr (script.0, inl tree)) held crash
-stop_ends (stop.BadStore line) told left old a b is script tree store held crash =
-    refused Run told (status.BadStore line) old a b (inr (script.0, inr (tree.0, inr (tree.1, store)))) held crash
+stop_ends (stop.BadStore line why) told left old a b is script tree store held crash =
+    refused Run told (status.BadStore line why) old a b (inr (script.0, inr (tree.0, inr (tree.1, store)))) held crash
 stop_ends stop.BadTrace told left old a b is script tree store held crash = absurd is
 
 -- ---- why nothing is judged
@@ -114,8 +114,8 @@ audit_stop_ends (stop.TooLarge limit number) told left behind old a b script tre
     refused Audit told (status.TooLarge limit number) old a b (audit_limit told left behind limit number script tree store trace) held crash
 audit_stop_ends (stop.BadPolicy allow line) told left behind old a b script tree store trace held crash =
     refused Audit told (status.BadPolicy allow line) old a b (inl (inr (script.0, inl tree))) held crash
-audit_stop_ends (stop.BadStore line) told left behind old a b script tree store trace held crash =
-    refused Audit told (status.BadStore line) old a b (inl (inr (script.0, inr (tree.0, inr (tree.1, store))))) held crash
+audit_stop_ends (stop.BadStore line why) told left behind old a b script tree store trace held crash =
+    refused Audit told (status.BadStore line why) old a b (inl (inr (script.0, inr (tree.0, inr (tree.1, store))))) held crash
 audit_stop_ends stop.BadTrace told left behind old a b script tree store trace held crash =
     refused Audit told status.BadTrace old a b (inr (can_be_run told left script tree store, trace)) held crash
 
@@ -131,7 +131,7 @@ judged_ends verdict told old new a b (status.BadScript line) asked is h = absurd
 judged_ends verdict told old new a b status.NoInit asked is h = absurd h
 judged_ends verdict told old new a b (status.TooLarge limit number) asked is h = absurd h
 judged_ends verdict told old new a b (status.BadPolicy allow line) asked is h = absurd h
-judged_ends verdict told old new a b (status.BadStore line) asked is h = absurd h
+judged_ends verdict told old new a b (status.BadStore line why) asked is h = absurd h
 judged_ends verdict told old new a b status.BadTrace asked is h = absurd h
 
 -- ---- a run
@@ -165,7 +165,7 @@ performed_ends course told old new a b c (status.BadScript line) asked is h = ab
 performed_ends course told old new a b c status.NoInit asked is h = absurd h
 performed_ends course told old new a b c (status.TooLarge limit number) asked is h = absurd h
 performed_ends course told old new a b c (status.BadPolicy allow line) asked is h = absurd h
-performed_ends course told old new a b c (status.BadStore line) asked is h = absurd h
+performed_ends course told old new a b c (status.BadStore line why) asked is h = absurd h
 performed_ends course told old new a b c status.BadTrace asked is h = absurd h
 
 -- ---- a check
@@ -208,7 +208,7 @@ check_ends told old new a status.NoInit is tree writes =
 check_ends told old new a (status.TooLarge limit number) is tree writes =
     (Refused (status.TooLarge limit number), check_limit told limit number is tree, refl, nothing_new old new a writes)
 check_ends told old new a (status.BadPolicy allow line) is tree writes = absurd is
-check_ends told old new a (status.BadStore line) is tree writes = absurd is
+check_ends told old new a (status.BadStore line why) is tree writes = absurd is
 check_ends told old new a status.BadTrace is tree writes = absurd is
 
 -- ---- the words

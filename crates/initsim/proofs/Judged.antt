@@ -49,7 +49,7 @@ written_status P text old new (status.BadScript line) writes done fault memory =
 written_status P text old new status.NoInit writes done fault memory = absurd writes
 written_status P text old new (status.TooLarge limit number) writes done fault memory = absurd writes
 written_status P text old new (status.BadPolicy allow line) writes done fault memory = absurd writes
-written_status P text old new (status.BadStore line) writes done fault memory = absurd writes
+written_status P text old new (status.BadStore line why) writes done fault memory = absurd writes
 written_status P text old new status.BadTrace writes done fault memory = absurd writes
 
 -- a keeper that was asked for its text alone
@@ -76,7 +76,7 @@ same_as_before (status.BadScript line) one other k k' same = same
 same_as_before status.NoInit one other k k' same = same
 same_as_before (status.TooLarge limit number) one other k k' same = same
 same_as_before (status.BadPolicy allow line) one other k k' same = same
-same_as_before (status.BadStore line) one other k k' same = same
+same_as_before (status.BadStore line why) one other k k' same = same
 same_as_before status.BadTrace one other k k' same = same
 
 pub stop_of_audit : (why : Stop) → IsAuditStatus (status_of why)
@@ -86,7 +86,7 @@ stop_of_audit (stop.BadScript line) = tt
 stop_of_audit stop.NoInit = tt
 stop_of_audit (stop.TooLarge limit number) = tt
 stop_of_audit (stop.BadPolicy allow line) = tt
-stop_of_audit (stop.BadStore line) = tt
+stop_of_audit (stop.BadStore line why) = tt
 stop_of_audit stop.BadTrace = tt
 
 pub counts_written : (how : Status) (f f' s s' t t' k k' o o' : ℕ)

@@ -8,3 +8,4 @@ pub mod Performed
 pub mod Judged
 pub mod Ends
 pub mod Complete
+pub mod Stores

@@ -58,7 +58,7 @@ store_stop_counts (stop.TooLarge limit number) files files' script script' trace
     same_counts files files' script script' trace trace keeper keeper' out one two refl counted
 store_stop_counts (stop.BadPolicy allow line) files files' script script' trace keeper keeper' out one two counted =
     same_counts files files' script script' trace trace keeper keeper' out one two refl counted
-store_stop_counts (stop.BadStore line) files files' script script' trace keeper keeper' out one two counted =
+store_stop_counts (stop.BadStore line why) files files' script script' trace keeper keeper' out one two counted =
     same_counts files files' script script' trace trace keeper keeper' out one two refl counted
 store_stop_counts stop.BadTrace files files' script script' trace keeper keeper' out one two counted =
     same_counts files files' script script' trace trace keeper keeper' out one two refl counted
@@ -87,7 +87,7 @@ trace_stop_counts (stop.TooLarge limit number) files files' script script' trace
     no_stop_counts files files' script script' trace trace' keeper keeper' out same counted
 trace_stop_counts (stop.BadPolicy allow line) files files' script script' trace trace' keeper keeper' out same counted =
     no_stop_counts files files' script script' trace trace' keeper keeper' out same counted
-trace_stop_counts (stop.BadStore line) files files' script script' trace trace' keeper keeper' out same counted =
+trace_stop_counts (stop.BadStore line why) files files' script script' trace trace' keeper keeper' out same counted =
     no_stop_counts files files' script script' trace trace' keeper keeper' out same counted
 trace_stop_counts stop.BadTrace files files' script script' trace trace' keeper keeper' out same counted =
     no_stop_counts files files' script script' trace trace' keeper keeper' out same counted

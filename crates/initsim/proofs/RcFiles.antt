@@ -13,6 +13,8 @@ use Rattle.rc_import.specs.Limits.{SoFar, loaded as rc_files_of, loaded_from, lo
 use Rattle.rc_import.specs.Order.{Met, Listing, File, Fault, order, root_file}
 use Rattle.rc_import.specs.World.{IsWorld, World}
 use Rattle.rc_import.specs.declared.loaded.Loaded.{Loaded}
+use Rattle.rc_import.specs.declared.loaded.LoadLimit.{LoadLimit}
+use Rattle.rc_import.specs.declared.loaded.LoadLimit.TheVariants as load_limits
 use Rattle.rc_import.specs.declared.loaded.LoadRefusal.{LoadRefusal}
 use Rattle.rc_import.specs.declared.loaded.LoadRefusal.TheVariants as refusal
 use Rattle.initsim.specs.Check.{IsCheckStatus, IsTreeLimit}
@@ -47,7 +49,7 @@ IsOfLimits : {A : Type 0} → Result A LoadRefusal → Type 0
 IsOfLimits (Ok value) = Unit {0}
 IsOfLimits (Err refusal.NoInit) = ⊥
 IsOfLimits (Err refusal.ReadFault) = Unit {0}
-IsOfLimits (Err (refusal.TooLarge path number)) = Unit {0}
+IsOfLimits (Err (refusal.TooLarge path limit number)) = Unit {0}
 IsOfLimits (Err (refusal.TooMany path number)) = Unit {0}
 IsOfLimits (Err refusal.NoMemory) = Unit {0}
 
@@ -55,9 +57,9 @@ of_value : {A : Type 0} (value : A) → IsOfLimits (Ok value)
 unfolding IsOfLimits
 of_value value = tt
 
-of_large : (A : Type 0) (path : List ℕ) (number : ℕ) → IsOfLimits {A = A} (Err (refusal.TooLarge path number))
+of_large : (A : Type 0) (path : List ℕ) (limit : LoadLimit) (number : ℕ) → IsOfLimits {A = A} (Err (refusal.TooLarge path limit number))
 unfolding IsOfLimits
-of_large A path number = tt
+of_large A path limit number = tt
 
 of_many : (A : Type 0) (path : List ℕ) (number : ℕ) → IsOfLimits {A = A} (Err (refusal.TooMany path number))
 unfolding IsOfLimits
@@ -83,7 +85,7 @@ unfolding IsOfLimits
 of_onward (Ok value) next of all = all value
 of_onward (Err refusal.NoInit) next of all = absurd of
 of_onward (Err refusal.ReadFault) next of all = tt
-of_onward (Err (refusal.TooLarge path number)) next of all = tt
+of_onward (Err (refusal.TooLarge path limit number)) next of all = tt
 of_onward (Err (refusal.TooMany path number)) next of all = tt
 of_onward (Err refusal.NoMemory) next of all = tt
 
@@ -116,13 +118,10 @@ limit_says world limits.Steps number is large = absurd is
 limit_says world limits.StoreBytes number is large = absurd is
 limit_says world limits.TraceBytes number is large = absurd is
 
-one_of : (b c : Bool) → IsTreeLimit (if b then limits.FileBytes else if c then limits.Names else limits.RcBytes)
-one_of true c = tt
-one_of false true = tt
-one_of false false = tt
-
-is_tree_limit : (number : ℕ) → IsTreeLimit (limit_of number)
-is_tree_limit number = one_of (number == 1048577) (number == 1025)
+is_tree_limit : (limit : LoadLimit) → IsTreeLimit (limit_of limit)
+is_tree_limit load_limits.FileBytes = tt
+is_tree_limit load_limits.Names = tt
+is_tree_limit load_limits.AllBytes = tt
 
 rc_too_large : (world : World) (why : LoadRefusal) (limit : Limit) (number : ℕ)
     → AreBuildFilesShort world.tree → rc_files_of world ≡ Err why → PassesLimit why limit number → IsTreeTooLarge Check world limit number
@@ -138,9 +137,9 @@ pub load_refused : (world : World) (why : LoadRefusal)
     → AreBuildFilesShort world.tree → IsAnswer (Err why) (rc_files_of world) → GivesLoad world (Err (load_stop why))
 load_refused world refusal.NoInit short answer = record { policy = tt; build_files = short; absent = no_init world answer }
 load_refused world refusal.ReadFault short answer = tt
-load_refused world (refusal.TooLarge path number) short answer =
-    limit_says world (limit_of number) number (is_tree_limit number)
-    (rc_too_large world (refusal.TooLarge path number) (limit_of number) number short answer (refl, refl))
+load_refused world (refusal.TooLarge path limit number) short answer =
+    limit_says world (limit_of limit) number (is_tree_limit limit)
+    (rc_too_large world (refusal.TooLarge path limit number) (limit_of limit) number short answer (refl, refl))
 load_refused world (refusal.TooMany path number) short answer =
     rc_too_large world (refusal.TooMany path number) limits.Files number short answer (refl, refl)
 load_refused world refusal.NoMemory short answer = tt
@@ -148,7 +147,7 @@ load_refused world refusal.NoMemory short answer = tt
 pub refused_kind : (why : LoadRefusal) → IsCheckStatus (status_of (load_stop why))
 refused_kind refusal.NoInit = tt
 refused_kind refusal.ReadFault = tt
-refused_kind (refusal.TooLarge path number) = is_tree_limit number
+refused_kind (refusal.TooLarge path limit number) = is_tree_limit limit
 refused_kind (refusal.TooMany path number) = tt
 refused_kind refusal.NoMemory = tt
 

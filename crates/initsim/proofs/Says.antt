@@ -53,7 +53,7 @@ script_stop_tree form world (stop.BadScript line) is = tt
 script_stop_tree form world stop.NoInit is = absurd is
 script_stop_tree form world (stop.TooLarge limit number) is = script_limit_tree form world limit number is
 script_stop_tree form world (stop.BadPolicy allow line) is = absurd is
-script_stop_tree form world (stop.BadStore line) is = absurd is
+script_stop_tree form world (stop.BadStore line why) is = absurd is
 script_stop_tree form world stop.BadTrace is = absurd is
 
 script_limit_store : (held : List ℕ) (limit : Limit) (number : ℕ) → IsScriptLimit limit → StoreLimitSays held limit number
@@ -74,7 +74,7 @@ script_stop_store held (stop.BadScript line) is = tt
 script_stop_store held stop.NoInit is = absurd is
 script_stop_store held (stop.TooLarge limit number) is = script_limit_store held limit number is
 script_stop_store held (stop.BadPolicy allow line) is = absurd is
-script_stop_store held (stop.BadStore line) is = absurd is
+script_stop_store held (stop.BadStore line why) is = absurd is
 script_stop_store held stop.BadTrace is = absurd is
 
 -- ---- the tree's
@@ -86,7 +86,7 @@ of_check (stop.BadScript line) is = absurd is
 of_check stop.NoInit is = tt
 of_check (stop.TooLarge limit number) is = is
 of_check (stop.BadPolicy allow line) is = tt
-of_check (stop.BadStore line) is = absurd is
+of_check (stop.BadStore line why) is = absurd is
 of_check stop.BadTrace is = absurd is
 
 tree_limit_script : (bytes : List ℕ) (left : Option (List ℕ)) (limit : Limit) (number : ℕ)
@@ -109,7 +109,7 @@ tree_stop_script bytes left (stop.BadScript line) is read = absurd is
 tree_stop_script bytes left stop.NoInit is read = read
 tree_stop_script bytes left (stop.TooLarge limit number) is read = tree_limit_script bytes left limit number is read
 tree_stop_script bytes left (stop.BadPolicy allow line) is read = read
-tree_stop_script bytes left (stop.BadStore line) is read = absurd is
+tree_stop_script bytes left (stop.BadStore line why) is read = absurd is
 tree_stop_script bytes left stop.BadTrace is read = absurd is
 
 tree_limit_store : (held : List ℕ) (limit : Limit) (number : ℕ) → IsTreeLimit limit → StoreLimitSays held limit number
@@ -130,7 +130,7 @@ tree_stop_store held (stop.BadScript line) is = absurd is
 tree_stop_store held stop.NoInit is = tt
 tree_stop_store held (stop.TooLarge limit number) is = tree_limit_store held limit number is
 tree_stop_store held (stop.BadPolicy allow line) is = tt
-tree_stop_store held (stop.BadStore line) is = absurd is
+tree_stop_store held (stop.BadStore line why) is = absurd is
 tree_stop_store held stop.BadTrace is = absurd is
 
 -- ---- the store's
@@ -155,7 +155,7 @@ store_stop_script bytes left (stop.BadScript line) is read = absurd is
 store_stop_script bytes left stop.NoInit is read = absurd is
 store_stop_script bytes left (stop.TooLarge limit number) is read = store_limit_script bytes left limit number is read
 store_stop_script bytes left (stop.BadPolicy allow line) is read = absurd is
-store_stop_script bytes left (stop.BadStore line) is read = read
+store_stop_script bytes left (stop.BadStore line why) is read = read
 store_stop_script bytes left stop.BadTrace is read = absurd is
 
 store_limit_tree : (form : Form) (world : World) (limit : Limit) (number : ℕ)
@@ -178,7 +178,7 @@ store_stop_tree form world (stop.BadScript line) is fit = absurd is
 store_stop_tree form world stop.NoInit is fit = absurd is
 store_stop_tree form world (stop.TooLarge limit number) is fit = store_limit_tree form world limit number is fit
 store_stop_tree form world (stop.BadPolicy allow line) is fit = absurd is
-store_stop_tree form world (stop.BadStore line) is fit = fit
+store_stop_tree form world (stop.BadStore line why) is fit = fit
 store_stop_tree form world stop.BadTrace is fit = absurd is
 
 -- ---- the trace's
@@ -201,7 +201,7 @@ trace_stop_script bytes left (stop.BadScript line) is read = absurd is
 trace_stop_script bytes left stop.NoInit is read = absurd is
 trace_stop_script bytes left (stop.TooLarge limit number) is read = trace_limit_script bytes left limit number is read
 trace_stop_script bytes left (stop.BadPolicy allow line) is read = absurd is
-trace_stop_script bytes left (stop.BadStore line) is read = absurd is
+trace_stop_script bytes left (stop.BadStore line why) is read = absurd is
 trace_stop_script bytes left stop.BadTrace is read = read
 
 trace_limit_tree : (form : Form) (world : World) (limit : Limit) (number : ℕ) → IsTraceLimit limit → IsFitFor form world → TreeLimitSays form world limit number
@@ -222,7 +222,7 @@ trace_stop_tree form world (stop.BadScript line) is fit = absurd is
 trace_stop_tree form world stop.NoInit is fit = absurd is
 trace_stop_tree form world (stop.TooLarge limit number) is fit = trace_limit_tree form world limit number is fit
 trace_stop_tree form world (stop.BadPolicy allow line) is fit = absurd is
-trace_stop_tree form world (stop.BadStore line) is fit = absurd is
+trace_stop_tree form world (stop.BadStore line why) is fit = absurd is
 trace_stop_tree form world stop.BadTrace is fit = fit
 
 trace_limit_store : (held : List ℕ) (limit : Limit) (number : ℕ) → IsTraceLimit limit → HasStore held → StoreLimitSays held limit number
@@ -243,7 +243,7 @@ trace_stop_store held (stop.BadScript line) is stored = absurd is
 trace_stop_store held stop.NoInit is stored = absurd is
 trace_stop_store held (stop.TooLarge limit number) is stored = trace_limit_store held limit number is stored
 trace_stop_store held (stop.BadPolicy allow line) is stored = absurd is
-trace_stop_store held (stop.BadStore line) is stored = absurd is
+trace_stop_store held (stop.BadStore line why) is stored = absurd is
 trace_stop_store held stop.BadTrace is stored = stored
 
 -- what a run is refused by says nothing of the trace
@@ -265,7 +265,7 @@ run_stop_trace bytes left (stop.BadScript line) is = tt
 run_stop_trace bytes left stop.NoInit is = tt
 run_stop_trace bytes left (stop.TooLarge limit number) is = run_limit_trace bytes limit number is
 run_stop_trace bytes left (stop.BadPolicy allow line) is = tt
-run_stop_trace bytes left (stop.BadStore line) is = tt
+run_stop_trace bytes left (stop.BadStore line why) is = tt
 run_stop_trace bytes left stop.BadTrace is = absurd is
 
 -- ---- which refusals are of a run: those of its script, its tree and its store
@@ -288,7 +288,7 @@ script_stop_of_run (stop.BadScript line) is = tt
 script_stop_of_run stop.NoInit is = absurd is
 script_stop_of_run (stop.TooLarge limit number) is = script_limit_of_run limit is
 script_stop_of_run (stop.BadPolicy allow line) is = absurd is
-script_stop_of_run (stop.BadStore line) is = absurd is
+script_stop_of_run (stop.BadStore line why) is = absurd is
 script_stop_of_run stop.BadTrace is = absurd is
 
 tree_limit_of_run : (limit : Limit) → IsTreeLimit limit → IsRunLimit limit
@@ -309,7 +309,7 @@ tree_stop_of_run (stop.BadScript line) is = absurd is
 tree_stop_of_run stop.NoInit is = tt
 tree_stop_of_run (stop.TooLarge limit number) is = tree_limit_of_run limit is
 tree_stop_of_run (stop.BadPolicy allow line) is = tt
-tree_stop_of_run (stop.BadStore line) is = absurd is
+tree_stop_of_run (stop.BadStore line why) is = absurd is
 tree_stop_of_run stop.BadTrace is = absurd is
 
 store_limit_of_run : (limit : Limit) → IsStoreLimit limit → IsRunLimit limit
@@ -330,7 +330,7 @@ store_stop_of_run (stop.BadScript line) is = absurd is
 store_stop_of_run stop.NoInit is = absurd is
 store_stop_of_run (stop.TooLarge limit number) is = store_limit_of_run limit is
 store_stop_of_run (stop.BadPolicy allow line) is = absurd is
-store_stop_of_run (stop.BadStore line) is = tt
+store_stop_of_run (stop.BadStore line why) is = tt
 store_stop_of_run stop.BadTrace is = absurd is
 
 -- ---- a run's tree: a policy, and else what a check reads
@@ -374,5 +374,5 @@ with_policy world (stop.BadScript line) policy says = tt
 with_policy world stop.NoInit policy says = no_root world policy says
 with_policy world (stop.TooLarge limit number) policy says = limit_with_policy world limit number policy says
 with_policy world (stop.BadPolicy allow line) policy says = absurd says
-with_policy world (stop.BadStore line) policy says = (policy, says.1)
+with_policy world (stop.BadStore line why) policy says = (policy, says.1)
 with_policy world stop.BadTrace policy says = (policy, says.1)

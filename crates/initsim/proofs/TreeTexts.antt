@@ -83,7 +83,7 @@ policy_text world text (stop.BadScript line) says gives = absurd gives
 policy_text world text stop.NoInit says gives = absurd gives
 policy_text world text (stop.TooLarge limit number) says gives = large_policy world text limit number says gives
 policy_text world text (stop.BadPolicy allow line) says gives = absurd gives
-policy_text world text (stop.BadStore line) says gives = absurd gives
+policy_text world text (stop.BadStore line why) says gives = absurd gives
 policy_text world text stop.BadTrace says gives = absurd gives
 
 pub unread_contexts : (world : World) (why : Stop) → GivesText (contexts_text world.tree) (Err why) → GivesPolicy world (Err why)
@@ -139,7 +139,7 @@ long_build_file tree text (stop.BadScript line) says gives = absurd gives
 long_build_file tree text stop.NoInit says gives = absurd gives
 long_build_file tree text (stop.TooLarge limit number) says gives = (says gives.0, gives.1, gives.2)
 long_build_file tree text (stop.BadPolicy allow line) says gives = absurd gives
-long_build_file tree text (stop.BadStore line) says gives = absurd gives
+long_build_file tree text (stop.BadStore line why) says gives = absurd gives
 long_build_file tree text stop.BadTrace says gives = absurd gives
 
 pub unread_system : (tree : Tree) (why : Stop)

@@ -27,7 +27,7 @@ check_says world config diagnostics old new (status.BadScript line) load writes 
 check_says world config diagnostics old new status.NoInit load writes = absurd writes
 check_says world config diagnostics old new (status.TooLarge limit number) load writes = absurd writes
 check_says world config diagnostics old new (status.BadPolicy allow line) load writes = absurd writes
-check_says world config diagnostics old new (status.BadStore line) load writes = absurd writes
+check_says world config diagnostics old new (status.BadStore line why) load writes = absurd writes
 check_says world config diagnostics old new status.BadTrace load writes = absurd writes
 
 check_text : (world : World) (config : Config) (diagnostics : List Diagnostic)
@@ -48,5 +48,5 @@ check_writes world config diagnostics old new (status.BadScript line) load write
 check_writes world config diagnostics old new status.NoInit load writes = absurd writes
 check_writes world config diagnostics old new (status.TooLarge limit number) load writes = absurd writes
 check_writes world config diagnostics old new (status.BadPolicy allow line) load writes = absurd writes
-check_writes world config diagnostics old new (status.BadStore line) load writes = absurd writes
+check_writes world config diagnostics old new (status.BadStore line why) load writes = absurd writes
 check_writes world config diagnostics old new status.BadTrace load writes = absurd writes

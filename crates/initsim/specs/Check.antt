@@ -30,7 +30,7 @@ CheckWrites world old new (status.BadScript line) = new ≡ old
 CheckWrites world old new (status.BadPolicy allow line) = new ≡ old
 CheckWrites world old new status.NoInit = new ≡ old
 CheckWrites world old new (status.TooLarge limit number) = new ≡ old
-CheckWrites world old new (status.BadStore line) = new ≡ old
+CheckWrites world old new (status.BadStore line why) = new ≡ old
 CheckWrites world old new status.BadTrace = new ≡ old
 
 -- a limit of the files of a tree
@@ -56,5 +56,5 @@ IsCheckStatus (status.BadScript line) = ⊥
 IsCheckStatus status.NoInit = ⊤
 IsCheckStatus (status.TooLarge limit number) = IsTreeLimit limit
 IsCheckStatus (status.BadPolicy allow line) = ⊥
-IsCheckStatus (status.BadStore line) = ⊥
+IsCheckStatus (status.BadStore line why) = ⊥
 IsCheckStatus status.BadTrace = ⊥

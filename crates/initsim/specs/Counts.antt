@@ -31,7 +31,7 @@ AreCounted (status.BadScript line) before now = now ≡ before
 AreCounted status.NoInit before now = now ≡ before
 AreCounted (status.TooLarge limit number) before now = now ≡ before
 AreCounted (status.BadPolicy allow line) before now = now ≡ before
-AreCounted (status.BadStore line) before now = now ≡ before
+AreCounted (status.BadStore line why) before now = now ≡ before
 AreCounted status.BadTrace before now = now ≡ before
 
 -- Done or want of memory, unless a count rose
@@ -45,5 +45,5 @@ IsDoneUnlessRisen (status.BadScript line) before now = ⊥
 IsDoneUnlessRisen status.NoInit before now = ⊥
 IsDoneUnlessRisen (status.TooLarge limit number) before now = ⊥
 IsDoneUnlessRisen (status.BadPolicy allow line) before now = ⊥
-IsDoneUnlessRisen (status.BadStore line) before now = ⊥
+IsDoneUnlessRisen (status.BadStore line why) before now = ⊥
 IsDoneUnlessRisen status.BadTrace before now = ⊥

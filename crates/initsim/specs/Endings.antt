@@ -27,7 +27,7 @@ IsRunStatus (status.BadScript line) = ⊤
 IsRunStatus status.NoInit = ⊤
 IsRunStatus (status.TooLarge limit number) = IsRunLimit limit
 IsRunStatus (status.BadPolicy allow line) = ⊤
-IsRunStatus (status.BadStore line) = ⊤
+IsRunStatus (status.BadStore line why) = ⊤
 IsRunStatus status.BadTrace = ⊥
 
 abbrev pub IsAuditStatus : Status → Type 0
@@ -40,5 +40,5 @@ IsAuditStatus (status.BadScript line) = ⊤
 IsAuditStatus status.NoInit = ⊤
 IsAuditStatus (status.TooLarge limit number) = ⊤
 IsAuditStatus (status.BadPolicy allow line) = ⊤
-IsAuditStatus (status.BadStore line) = ⊤
+IsAuditStatus (status.BadStore line why) = ⊤
 IsAuditStatus status.BadTrace = ⊤

@@ -14,7 +14,7 @@ use Rattle.init_trace.specs.Report.{DiagnosticsText}
 use Rattle.init_trace.specs.Written.{TakesFront}
 use Rattle.init_words.specs.declared.form.Form.{Form}
 use Rattle.init_words.specs.declared.form.Form.TheVariants as form
-use Rattle.persist_file.specs.Store.{IsUnfitAt}
+use Rattle.persist_file.specs.Causes.{IsUnfitAt}
 use Rattle.rc_import.specs.Limits.{loaded as rc_files_of}
 use Rattle.rc_import.specs.Order.{root_file}
 use Rattle.rc_import.specs.World.{World}
@@ -89,7 +89,7 @@ FilesRefuse world (status.TooLarge limit number) =
 FilesRefuse world _ = ⊥
 
 abbrev pub StoreRefuses : List ℕ → Status → Type 0
-StoreRefuses held (status.BadStore line) = (length held ≤ 33554432) × IsUnfitAt held line
+StoreRefuses held (status.BadStore line why) = (length held ≤ 33554432) × IsUnfitAt held line why
 StoreRefuses held (status.TooLarge limit number) = (limit ≡ limits.StoreBytes) × (33554432 < length held) × (number ≡ 33554433)
 StoreRefuses held _ = ⊥
 

@@ -41,7 +41,7 @@ status_of (stop.BadScript line) = status.BadScript line
 status_of stop.NoInit = status.NoInit
 status_of (stop.TooLarge limit number) = status.TooLarge limit number
 status_of (stop.BadPolicy allow line) = status.BadPolicy allow line
-status_of (stop.BadStore line) = status.BadStore line
+status_of (stop.BadStore line why) = status.BadStore line why
 status_of stop.BadTrace = status.BadTrace
 
 -- ---- each reader's own refusal
@@ -66,12 +66,12 @@ policy_stop policy.NoMemory = stop.NoMemory
 abbrev pub load_stop : LoadRefusal → Stop
 load_stop load.NoInit = stop.NoInit
 load_stop load.ReadFault = stop.ReadFault
-load_stop (load.TooLarge path number) = stop.TooLarge (limit_of number) number
+load_stop (load.TooLarge path limit number) = stop.TooLarge (limit_of limit) number
 load_stop (load.TooMany path number) = stop.TooLarge limits.Files number
 load_stop load.NoMemory = stop.NoMemory
 
 abbrev pub store_stop : StoreRefusal → Stop
-store_stop (store.BadLine line) = stop.BadStore line
+store_stop (store.BadLine line why) = stop.BadStore line why
 store_stop store.NoMemory = stop.NoMemory
 
 -- ---- what the readers give
@@ -83,7 +83,7 @@ is_read_fault (stop.BadScript line) = false
 is_read_fault stop.NoInit = false
 is_read_fault (stop.TooLarge limit number) = false
 is_read_fault (stop.BadPolicy allow line) = false
-is_read_fault (stop.BadStore line) = false
+is_read_fault (stop.BadStore line why) = false
 is_read_fault stop.BadTrace = false
 
 abbrev pub has_read_fault : {T : Type 0} → Result T Stop → Bool
@@ -103,7 +103,7 @@ GivesText text (Err (stop.BadScript line)) = ⊥
 GivesText text (Err stop.NoInit) = ⊥
 GivesText text (Err (stop.TooLarge limit number)) = (1048576 < length text) × (limit ≡ limits.FileBytes) × (number ≡ 1048577)
 GivesText text (Err (stop.BadPolicy allow line)) = ⊥
-GivesText text (Err (stop.BadStore line)) = ⊥
+GivesText text (Err (stop.BadStore line why)) = ⊥
 GivesText text (Err stop.BadTrace) = ⊥
 
 -- what a build file of this path and text says
@@ -125,7 +125,7 @@ GivesBuildFiles tree (Err (stop.BadScript line)) = ⊥
 GivesBuildFiles tree (Err stop.NoInit) = ⊥
 GivesBuildFiles tree (Err (stop.TooLarge limit number)) = AreBuildFilesTooLarge tree limit number
 GivesBuildFiles tree (Err (stop.BadPolicy allow line)) = ⊥
-GivesBuildFiles tree (Err (stop.BadStore line)) = ⊥
+GivesBuildFiles tree (Err (stop.BadStore line why)) = ⊥
 GivesBuildFiles tree (Err stop.BadTrace) = ⊥
 
 abbrev pub GivesPolicy : World → Result PolicyLines Stop → Type 0
@@ -164,7 +164,7 @@ IsOfScript (stop.BadScript line) = ⊤
 IsOfScript stop.NoInit = ⊥
 IsOfScript (stop.TooLarge limit number) = IsScriptLimit limit
 IsOfScript (stop.BadPolicy allow line) = ⊥
-IsOfScript (stop.BadStore line) = ⊥
+IsOfScript (stop.BadStore line why) = ⊥
 IsOfScript stop.BadTrace = ⊥
 
 abbrev pub IsOfTree : Stop → Type 0
@@ -174,7 +174,7 @@ IsOfTree (stop.BadScript line) = ⊥
 IsOfTree stop.NoInit = ⊤
 IsOfTree (stop.TooLarge limit number) = IsTreeLimit limit
 IsOfTree (stop.BadPolicy allow line) = ⊤
-IsOfTree (stop.BadStore line) = ⊥
+IsOfTree (stop.BadStore line why) = ⊥
 IsOfTree stop.BadTrace = ⊥
 
 abbrev pub IsStoreLimit : Limit → Type 0
@@ -195,7 +195,7 @@ IsOfStore (stop.BadScript line) = ⊥
 IsOfStore stop.NoInit = ⊥
 IsOfStore (stop.TooLarge limit number) = IsStoreLimit limit
 IsOfStore (stop.BadPolicy allow line) = ⊥
-IsOfStore (stop.BadStore line) = ⊤
+IsOfStore (stop.BadStore line why) = ⊤
 IsOfStore stop.BadTrace = ⊥
 
 abbrev pub IsTraceLimit : Limit → Type 0
@@ -216,5 +216,5 @@ IsOfTrace (stop.BadScript line) = ⊥
 IsOfTrace stop.NoInit = ⊥
 IsOfTrace (stop.TooLarge limit number) = IsTraceLimit limit
 IsOfTrace (stop.BadPolicy allow line) = ⊥
-IsOfTrace (stop.BadStore line) = ⊥
+IsOfTrace (stop.BadStore line why) = ⊥
 IsOfTrace stop.BadTrace = ⊤

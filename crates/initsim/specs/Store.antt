@@ -3,7 +3,8 @@ use Rattle.std.specs.Prelude.{◌≡◌, ℕ, ◌<◌, ◌≤◌, ⊤, List, len
 use Rattle.init_machine.specs.declared.config.Pair.{Pair}
 use Rattle.init_machine.specs.declared.limit.Limit.{Limit}
 use Rattle.init_machine.specs.declared.limit.Limit.TheVariants as limits
-use Rattle.persist_file.specs.Store.{IsStore, IsUnfitAt}
+use Rattle.persist_file.specs.Causes.{IsUnfitAt}
+use Rattle.persist_file.specs.Store.{IsStore}
 use Rattle.initsim.specs.declared.status.Status.{Status}
 use Rattle.initsim.specs.declared.status.Status.TheVariants as status
 
@@ -38,7 +39,7 @@ StoreSays held (status.BadScript line) = ⊤
 StoreSays held (status.BadPolicy allow line) = ⊤
 StoreSays held status.NoInit = ⊤
 StoreSays held (status.TooLarge limit number) = StoreLimitSays held limit number
-StoreSays held (status.BadStore line) = (length held ≤ 33554432) × IsUnfitAt held line
+StoreSays held (status.BadStore line why) = (length held ≤ 33554432) × IsUnfitAt held line why
 StoreSays held status.BadTrace = HasStore held
 StoreSays held status.WriteFault = HasStore held
 StoreSays held status.Done = HasStore held

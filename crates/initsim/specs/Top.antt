@@ -23,7 +23,7 @@ IsAsBefore old new (status.BadScript line) before now = new ≡ old
 IsAsBefore old new status.NoInit before now = new ≡ old
 IsAsBefore old new (status.TooLarge limit number) before now = new ≡ old
 IsAsBefore old new (status.BadPolicy allow line) before now = new ≡ old
-IsAsBefore old new (status.BadStore line) before now = new ≡ old
+IsAsBefore old new (status.BadStore line why) before now = new ≡ old
 IsAsBefore old new status.BadTrace before now = new ≡ old
 
 -- What is told can be run: the script's bytes are a script, the world can be run, and the text that the keeper holds is a store.

@@ -1,5 +1,5 @@
 -- What a status says of the tree that files tell.
-use Rattle.std.specs.Prelude.{◌≡◌, ℕ, ◌==◌, if◌then◌else◌, ◌⊎◌, ⊤, Bool, List, ◌++◌, Option, None, Ok, Err}
+use Rattle.std.specs.Prelude.{◌≡◌, ℕ, ◌⊎◌, ⊤, Bool, List, ◌++◌, Option, None, Ok, Err}
 use Rattle.init_base.specs.Tree.{file_at}
 use Rattle.init_machine.specs.declared.config.Config.{Config}
 use Rattle.init_machine.specs.declared.diagnostic.Diagnostic.{Diagnostic}
@@ -10,6 +10,8 @@ use Rattle.rc_import.specs.Limits.{loaded as rc_files_of}
 use Rattle.rc_import.specs.Order.{root_file}
 use Rattle.rc_import.specs.World.{IsWorld, World}
 use Rattle.rc_import.specs.declared.loaded.Loaded.{Loaded}
+use Rattle.rc_import.specs.declared.loaded.LoadLimit.{LoadLimit}
+use Rattle.rc_import.specs.declared.loaded.LoadLimit.TheVariants as load_limits
 use Rattle.rc_import.specs.declared.loaded.LoadRefusal.{LoadRefusal}
 use Rattle.rc_import.specs.declared.loaded.LoadRefusal.TheVariants as refusal
 use Rattle.initsim.specs.Policy.{HasPolicy, IsBadPolicyAt, IsPolicyTooLarge}
@@ -48,16 +50,17 @@ abbrev pub AreBuildFilesTooLarge : Tree → Limit → ℕ → Type 0
 AreBuildFilesTooLarge tree limit number =
     IsOneLong (build_text tree system_path) (build_text tree vendor_path) × (limit ≡ limits.FileBytes) × (number ≡ 1048577)
 
--- which limit a number passes: it is one more than the bytes of a file, or one more than the names of a directory, or else
--- a sum of the bytes of all files
-abbrev pub limit_of : ℕ → Limit
-limit_of number = if number == 1048577 then limits.FileBytes else if number == 1025 then limits.Names else limits.RcBytes
+-- the limit on what is read of a tree, among all limits
+abbrev pub limit_of : LoadLimit → Limit
+limit_of load_limits.FileBytes = limits.FileBytes
+limit_of load_limits.Names = limits.Names
+limit_of load_limits.AllBytes = limits.RcBytes
 
 -- the rc files are refused since they pass this limit, with this number
 abbrev pub PassesLimit : LoadRefusal → Limit → ℕ → Type 0
 PassesLimit refusal.NoInit limit number = ⊥
 PassesLimit refusal.ReadFault limit number = ⊥
-PassesLimit (refusal.TooLarge path found) limit number = (limit ≡ limit_of found) × (number ≡ found)
+PassesLimit (refusal.TooLarge path passed found) limit number = (limit ≡ limit_of passed) × (number ≡ found)
 PassesLimit (refusal.TooMany path found) limit number = (limit ≡ limits.Files) × (number ≡ found)
 PassesLimit refusal.NoMemory limit number = ⊥
 
@@ -128,7 +131,7 @@ TreeSays form world (status.BadScript line) = ⊤
 TreeSays form world (status.BadPolicy allow line) = IsBadPolicyFor form world.tree allow line
 TreeSays form world status.NoInit = HasNoRoot form world
 TreeSays form world (status.TooLarge limit number) = TreeLimitSays form world limit number
-TreeSays form world (status.BadStore line) = IsFitFor form world
+TreeSays form world (status.BadStore line why) = IsFitFor form world
 TreeSays form world status.BadTrace = IsFitFor form world
 TreeSays form world status.WriteFault = IsFitFor form world
 TreeSays form world status.Done = IsFitFor form world

@@ -3,6 +3,7 @@
 
 ghost use Rattle.std.specs.Prelude.{◌≤◌, IfSome, length};
 
+use crate::audit_causes::{bad_trace, bad_verdict};
 use crate::status::Status;
 use crate::texts::read_build_files;
 use init_base::{
@@ -38,26 +39,33 @@ const MOST_BYTES: &str = "has more than 1048576 bytes";
 /// What an absent contexts file counts as.
 const DEFAULT_CONTEXTS: &[u8] = b"* default_prop";
 
-/// Prints what is wrong where the status is a refusal of what was read.
-pub fn tell_cause(rt: &HostRuntime, status: Status, words: &List<Text>) {
-    if let Some(line) = cause_line(rt, status, words) {
+/// Prints what is wrong where the status is a refusal of what was read, or where the verdict that was written isn't yes.
+pub fn tell_cause(rt: &HostRuntime, status: Status, words: &List<Text>, wrote: &[u8]) {
+    if let Some(line) = cause_line(rt, status, words, wrote) {
         let _ = eprintln!(rt; "initsim: {line}");
     }
 }
 
-fn cause_line(rt: &HostRuntime, status: Status, words: &List<Text>) -> Option<String> {
+fn cause_line(
+    rt: &HostRuntime,
+    status: Status,
+    words: &List<Text>,
+    wrote: &[u8],
+) -> Option<String> {
     match status {
+        Status::Done if words.at(0)?.is(b"audit") => bad_verdict(rt, words, wrote),
+        Status::BadTrace => bad_trace(rt, words.at(3)?),
         Status::BadScript { line } => bad_script(rt, words.at(2)?, line),
         Status::BadPolicy { allow: false, line } => bad_contexts(rt, words.at(1)?, line),
         Status::BadPolicy { allow: true, line } => bad_allow(rt, words.at(1)?, line),
-        Status::BadStore { line } => bad_store(rt, words.at(1)?, line),
+        Status::BadStore { line, .. } => bad_store(rt, words.at(1)?, line),
         Status::TooLarge { limit, number } => too_large(rt, words, limit, number),
         _ => None,
     }
 }
 
 fn bad_script(rt: &HostRuntime, path: &Text, line: u32) -> Option<String> {
-    let text = script_at(rt, path)?;
+    let text = text_at(rt, path, MOST_SCRIPT_BYTES)?;
     let cause = script_cause(rt.alloc(), text.bytes(), line).ok()??;
     said(rt, path, line, &cause)
 }
@@ -92,14 +100,14 @@ fn said<C: fmt::Display>(rt: &HostRuntime, path: &Text, line: u32, cause: &C) ->
     format!(in rt.alloc(); "{}:{line}: {cause}", ShownPath(path.bytes())).ok()
 }
 
-/// The bytes of a script that is a plain file: another can't be read twice.
-fn script_at(rt: &HostRuntime, path: &Text) -> Option<Text> {
+/// The bytes of a script or a trace that is a plain file: another can't be read twice.
+pub fn text_at(rt: &HostRuntime, path: &Text, most: usize) -> Option<Text> {
     let name = std::str::from_utf8(path.bytes()).ok()?;
     if !fs::metadata(rt, name).ok()?.is_file() {
         return None;
     }
     let mut source = StdSource::at(rt, rt.alloc(), path).ok()?;
-    read_all(rt.alloc(), &mut source, MOST_SCRIPT_BYTES).ok()
+    read_all(rt.alloc(), &mut source, most).ok()
 }
 
 /// The bytes of a file of the tree, or other ones where it is absent.
@@ -172,7 +180,7 @@ fn is_long(rt: &HostRuntime, root: &Text, path: &[u8]) -> bool {
 /// What the rc files pass, by loading them once more.
 fn unloaded(rt: &HostRuntime, root: &Text, limit: Limit, told: u64) -> Option<String> {
     let (path, number) = match refusal_of(rt, root)? {
-        LoadRefusal::TooLarge { path, number } => (path, number),
+        LoadRefusal::TooLarge { path, number, .. } => (path, number),
         LoadRefusal::TooMany { path, number } => (path, number),
         _ => return None,
     };

@@ -4,11 +4,13 @@
 //! trace and output, and makes that call.
 #![tactic(auto)]
 
+mod audit_causes;
 mod auditing;
 mod causes;
 mod command_line;
 mod help;
 mod loading;
+mod noting;
 mod prepare;
 mod reading;
 mod status;
@@ -24,6 +26,7 @@ use help::{is_help, tell_help};
 use init_base::{
     Fault, Keeper, List, NoMemory, Source, StdFiles, StdKeeper, StdSink, StdSource, Text,
 };
+use noting::Noting;
 use status::Status;
 use std::process::ExitCode;
 use telling::{tell, tell_misuse};
@@ -49,7 +52,7 @@ fn run(rt: &HostRuntime) -> Result<Status, NoMemory> {
     let mut script = StdSource::at(rt, alloc, &path)?;
     let mut trace = StdSource::at(rt, alloc, &word_at(&words, 3)?)?;
     let mut keeper = StdKeeper::below(rt, &root, &Text::of(alloc, STORE_PATH)?)?;
-    let mut out = StdSink::stdout(rt);
+    let mut out = Noting::new(alloc, StdSink::stdout(rt));
     let status = initsim(
         alloc,
         &words,
@@ -59,9 +62,9 @@ fn run(rt: &HostRuntime) -> Result<Status, NoMemory> {
         &mut keeper,
         &mut out,
     );
-    let fault = fault_behind(status, &script, &trace, &files, &keeper, &out);
+    let fault = fault_behind(status, &script, &trace, &files, &keeper, &out.sink);
     let _ = tell(rt, status, fault);
-    tell_cause(rt, status, &words);
+    tell_cause(rt, status, &words, out.first());
     if status == Status::Usage {
         let _ = tell_usage(rt, &words);
     }

@@ -4,6 +4,7 @@ ghost use Rattle.std.specs.Prelude.{◌≡◌};
 ghost use Rattle.initsim.specs.Status.{code_of};
 
 use init_machine::Limit;
+use persist_file::StoreCause;
 
 /// How a run of the program ended.
 #[derive(Clone, Copy, Debug, PartialEq, Eq)]
@@ -26,8 +27,8 @@ pub enum Status {
     TooLarge { limit: Limit, number: u64 },
     /// A line of the allow text, or else of the contexts text, is bad: the first one, from 1.
     BadPolicy { allow: bool, line: u32 },
-    /// A line of the persistent store is bad: the first one, from 1.
-    BadStore { line: u32 },
+    /// A line of the persistent store is bad: the first one, from 1, and why.
+    BadStore { line: u32, cause: StoreCause },
     /// The trace is no report's text.
     BadTrace,
 }

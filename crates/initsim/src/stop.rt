@@ -7,25 +7,19 @@ ghost use Rattle.initsim.specs.Tree.{limit_of as limit_of_lem};
 use crate::status::Status;
 use init_base::{NoMemory, ReadRefusal};
 use init_machine::Limit;
-use persist_file::StoreRefusal;
+use persist_file::{StoreCause, StoreRefusal};
 use prop_contexts::PolicyRefusal;
-use rc_import::LoadRefusal;
+use rc_import::{LoadLimit, LoadRefusal};
 use script_lang::ScriptRefusal;
 
-/// One byte more than a file may have.
-const BYTES_OF_LONG_FILE: u64 = 1_048_577;
-
-/// One name more than a directory may have.
-const NAMES_OF_FULL_DIRECTORY: u64 = 1_025;
-
-/// Which limit a number passes that isn't one of files.
-fn limit_of(number: u64) -> Limit
-    ensures { result ≡ limit_of_lem number }
+/// The limit on what is read of a tree, among all limits.
+fn limit_of(limit: LoadLimit) -> Limit
+    ensures { result ≡ limit_of_lem limit }
 {
-    match number {
-        BYTES_OF_LONG_FILE => Limit::FileBytes,
-        NAMES_OF_FULL_DIRECTORY => Limit::Names,
-        _ => Limit::RcBytes,
+    match limit {
+        LoadLimit::FileBytes => Limit::FileBytes,
+        LoadLimit::Names => Limit::Names,
+        LoadLimit::AllBytes => Limit::RcBytes,
     }
 }
 
@@ -41,8 +35,8 @@ pub enum Stop {
     TooLarge { limit: Limit, number: u64 },
     /// The first bad line of the allow text, or else of the contexts text.
     BadPolicy { allow: bool, line: u32 },
-    /// The first bad line of the persistent store.
-    BadStore { line: u32 },
+    /// The first bad line of the persistent store, and why it is bad.
+    BadStore { line: u32, cause: StoreCause },
     /// The trace is no report's text.
     BadTrace,
 }
@@ -59,7 +53,7 @@ impl Stop {
             Stop::NoInit => Status::NoInit,
             Stop::TooLarge { limit, number } => Status::TooLarge { limit, number },
             Stop::BadPolicy { allow, line } => Status::BadPolicy { allow, line },
-            Stop::BadStore { line } => Status::BadStore { line },
+            Stop::BadStore { line, cause } => Status::BadStore { line, cause },
             Stop::BadTrace => Status::BadTrace,
         }
     }
@@ -133,8 +127,8 @@ impl From<LoadRefusal> for Stop {
         match refusal {
             LoadRefusal::NoInit => Stop::NoInit,
             LoadRefusal::ReadFault => Stop::ReadFault,
-            LoadRefusal::TooLarge { number, .. } => Stop::TooLarge {
-                limit: limit_of(number),
+            LoadRefusal::TooLarge { limit, number, .. } => Stop::TooLarge {
+                limit: limit_of(limit),
                 number,
             },
             LoadRefusal::TooMany { number, .. } => Stop::TooLarge {
@@ -154,7 +148,7 @@ impl From<StoreRefusal> for Stop {
 
     fn from(refusal: StoreRefusal) -> Self {
         match refusal {
-            StoreRefusal::BadLine { line } => Stop::BadStore { line },
+            StoreRefusal::BadLine { line, cause } => Stop::BadStore { line, cause },
             StoreRefusal::NoMemory => Stop::NoMemory,
         }
     }

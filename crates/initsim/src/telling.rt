@@ -3,6 +3,8 @@
 use crate::status::Status;
 use init_base::{Fault, List, Text};
 use init_words::{Form, Misuse, Place, WordFault, misuse_of};
+use persist_file::StoreCause;
+use refusal_causes::ShownPath;
 use std::fmt;
 
 /// Prints the line of the status, and behind it which path was meant and what the system said, where it said anything and there
@@ -31,22 +33,36 @@ fn tell_status(rt: &HostRuntime, status: Status) -> std::io::Result<()> {
             eprintln!(rt; "initsim: bad contexts line {line}")
         }
         Status::BadPolicy { allow: true, line } => eprintln!(rt; "initsim: bad allow line {line}"),
-        Status::BadStore { line } => eprintln!(rt; "initsim: bad store line {line}"),
+        Status::BadStore { line, cause } => {
+            eprintln!(rt; "initsim: bad store line {line} {}", cause_name(cause))
+        }
         Status::BadTrace => eprintln!(rt; "initsim: bad trace"),
     }
 }
 
-/// The system's number of the error is left out behind its words.
+fn cause_name(cause: StoreCause) -> &'static str {
+    match cause {
+        StoreCause::Head => "Head",
+        StoreCause::Shape => "Shape",
+        StoreCause::Name => "Name",
+        StoreCause::Order => "Order",
+        StoreCause::Kind => "Kind",
+        StoreCause::Value => "Value",
+    }
+}
+
+/// Prints which path was meant, in one line whatever its bytes are, and what the system said. The system's number of the error is
+/// left out behind its words.
 fn tell_fault(rt: &HostRuntime, fault: &Fault) -> std::io::Result<()> {
     let alloc = rt.alloc();
-    let line = format!(in alloc; "{fault}")?;
+    let line = format!(in alloc; "{}", fault.error)?;
     let number = match fault.error.raw_os_error() {
         Some(code) => format!(in alloc; " (os error {code})")?,
         None => String::new(alloc),
     };
     let line = line.as_str();
     let said = line.strip_suffix(number.as_str()).unwrap_or(line);
-    eprintln!(rt; "initsim: {said}")
+    eprintln!(rt; "initsim: {}: {said}", ShownPath(fault.path.bytes()))
 }
 
 /// Prints what is wrong with words that have no form.

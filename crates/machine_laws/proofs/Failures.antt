@@ -143,6 +143,7 @@ pub record Accepted (rules : Rules) (s : State) (name value : List ℕ) : Type 0
   pub on : s.over ≡ None
   pub legal : is_legal_name name ≡ true
   pub sound : is_control name ≡ false → value_fault_under name value ≡ None
+  pub typed : is_control name ≡ false → is_typed (context_of rules.policy name).kind value ≡ true
   pub fresh : is_control name ≡ false → is_read_only name ≡ true → lookup_in s.props.held name ≡ None
 
 choice_false : {T : Type 0} (b : Bool) (first second : List (Option T)) → NoneOf (if b then first else second) → b ≡ false → NoneOf second
@@ -165,6 +166,9 @@ accepted rules s by name value none =
       on = not_down s.over all.0;
       legal = not_not (is_legal_name name) (not_only_if (not (is_legal_name name)) refusal.InvalidName all.1.0);
       sound = λ plain. no_fault (value_fault_under name value) (of_property plain).1.1.0;
+      typed = λ plain.
+          let typed = is_typed (context_of rules.policy name).kind value in
+          not_not typed (not_only_if (not typed) refusal.InvalidType (of_property plain).1.0);
       fresh = λ plain once. read_only_none (is_read_only name) (lookup_in s.props.held name) (of_property plain).1.1.1.0 once;
     }
 

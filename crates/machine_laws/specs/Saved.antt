@@ -3,7 +3,9 @@ use Rattle.std.specs.Prelude.{Bool, true, false, ◌&&◌, List}
 use Rattle.std.specs.List.{list_any}
 use Rattle.init_base.specs.Name.{is_legal_name}
 use Rattle.init_base.specs.Value.{is_short_value}
+use Rattle.init_machine.specs.Policy.{PolicyLines, context_of}
 use Rattle.init_machine.specs.Setting.{is_persistent}
+use Rattle.init_machine.specs.Typed.{is_typed}
 use Rattle.init_machine.specs.declared.config.Pair.{Pair}
 use Rattle.init_machine.specs.declared.output.Output.{Output}
 use Rattle.init_machine.specs.declared.output.Output.TheVariants as output
@@ -11,6 +13,10 @@ use Rattle.init_machine.specs.declared.output.Output.TheVariants as output
 -- the name is legal and begins with `persist.`, and the value is legal under it
 abbrev pub can_be_printed : Pair → Bool
 can_be_printed p = is_legal_name p.name && is_persistent p.name && is_short_value p.value
+
+-- the value passes the type of its name's context
+abbrev pub is_typed_under : PolicyLines → Pair → Bool
+is_typed_under policy p = is_typed (context_of policy p.name).kind p.value
 
 abbrev pub is_stored : Output → Bool
 is_stored (output.Stored name) = true

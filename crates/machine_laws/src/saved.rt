@@ -10,14 +10,17 @@ ghost use Rattle.init_machine.specs.WellFormed.{IsWellFormed, ascend};
 ghost use Rattle.init_machine.specs.declared.config.Config.{Config};
 ghost use Rattle.init_machine.specs.declared.input.Input.{Input};
 ghost use Rattle.init_machine.specs.declared.report.Entry.{Entry};
-ghost use Rattle.machine_laws.specs.Saved.{can_be_printed, has_stored};
+ghost use Rattle.machine_laws.specs.Saved.{can_be_printed, has_stored, is_typed_under};
 
 /// Where saving is on after a legal history of a well-formed configuration, each saved pair has a legal name that begins
-/// with `persist.` and a legal value. The pairs ascend by name, also where saving is off.
+/// with `persist.` and a legal value that passes the type of the name's context. The pairs ascend by name, also where saving is off.
 pub fn saved_can_be_printed()
     ensures pairs { (o : Opening) (history : List Entry) → IsWellFormed o.config → Legal o history
         → IsTrue (after o (inputs_of history)).saving
         → IsTrue (list_all can_be_printed (after o (inputs_of history)).saved) }
+    ensures typed { (o : Opening) (history : List Entry) → IsWellFormed o.config → Legal o history
+        → IsTrue (after o (inputs_of history)).saving
+        → IsTrue (list_all (is_typed_under o.policy) (after o (inputs_of history)).saved) }
     ensures order { (o : Opening) (history : List Entry) → IsWellFormed o.config → Legal o history
         → IsTrue (ascend (after o (inputs_of history)).saved) }
 {}

@@ -51,6 +51,13 @@ impl Saved {
         &self.pairs
     }
 
+    /// The pairs, as a list of their own.
+    pub fn into_pairs(self) -> List<Pair>
+        ensures { result ≡ self }
+    {
+        self.pairs
+    }
+
     /// Puts a pair in the place of its name's old one, or in its place by the order of names.
     pub fn put(&mut self, name: &Text, value: &Text) -> Result<(), NoMemory>
         requires { IsTrue (is_persistent name.now) }

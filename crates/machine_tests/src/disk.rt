@@ -4,6 +4,7 @@ use init_base::{IoRefusal, Keeper, List, MemKeeper, SteadyKeeper, Text};
 use persist_disk::{
     Disk, DiskKeeper, DiskStep, MemDisk, OpenRefusal, ReopenRefusal, StdDisk, reopen,
 };
+use persist_file::StoreCause;
 use std::alloc::Global;
 use std::process::Abort;
 use std::test::Fail;
@@ -136,7 +137,10 @@ fn disks_that_do_not_open(rt: HostRuntime) -> Result<(), Fail> {
     assert!(rt; refusal(alloc, b"\x01\0\0\0\0\0\0\0\0\0\0\0\0\0\0\0")? == Some(cut));
     let short = ReopenRefusal::BadSlot { slot: 0, len: 2 };
     assert!(rt; refusal(alloc, b"\0\0\0\0\0\0\0\0\x02\0\0\0\0\0\0\0x")? == Some(short));
-    let unfit = ReopenRefusal::BadLine { line: 1 };
+    let unfit = ReopenRefusal::BadLine {
+        line: 1,
+        cause: StoreCause::Head,
+    };
     assert!(rt; refusal(alloc, b"\0\0\0\0\0\0\0\0\x01\0\0\0\0\0\0\0x")? == Some(unfit));
     assert!(rt; refusal(alloc, b"")?.is_none());
     Ok(())

@@ -40,7 +40,7 @@ impl Model for Kernel {
 }
 
 impl Kernel {
-    ghost use Rattle.std.specs.Prelude.{◌≡◌, ◌+◌, ◌↔◌, true, false, IsTrue, IfOk, OnOk, OnErr, nat_lt};
+    ghost use Rattle.std.specs.Prelude.{◌≡◌, ◌+◌, ◌≤◌, ◌↔◌, true, false, IsTrue, IfOk, OnOk, OnErr, nat_lt};
     ghost use Rattle.init_machine.specs.Kernel.{has_pid, last_time};
     ghost use Rattle.init_machine.specs.WellFormed.{are_distinct};
     ghost use Rattle.model_kernel.specs.Kernel.{end_in_time, exited, exiting, killed, opened, paths_of, reaped_at, spawned, ticked};
@@ -125,9 +125,10 @@ impl Kernel {
         Ok(reaped)
     }
 
-    /// The time.
+    /// The time, which is never past the last one.
     pub fn now(&self) -> Millis
-        ensures { result.0 ≡ self.now.kernel.clock }
+        ensures clock { result.0 ≡ self.now.kernel.clock }
+        ensures within { result.0 ≤ last_time }
     {
         Millis(self.clock)
     }

@@ -31,5 +31,5 @@ of_load reading.TooLarge = reopening.Failed
 of_load reading.NoMemory = reopening.NoMemory
 
 abbrev pub of_store : StoreRefusal → ReopenRefusal
-of_store (store.BadLine line) = reopening.BadLine line
+of_store (store.BadLine line why) = reopening.BadLine line why
 of_store store.NoMemory = reopening.NoMemory

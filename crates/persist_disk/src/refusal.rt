@@ -1,7 +1,7 @@
 //! Why a store wasn't opened.
 
 use init_base::{IoRefusal, ReadRefusal};
-use persist_file::StoreRefusal;
+use persist_file::{StoreCause, StoreRefusal};
 
 /// Why a store wasn't opened.
 #[derive(Clone, Copy, Debug, PartialEq, Eq)]
@@ -51,8 +51,8 @@ pub enum ReopenRefusal {
     Failed,
     /// The chosen slot's length is more than a slot holds, or passes the end of the disk.
     BadSlot { slot: u8, len: u64 },
-    /// The first line of the text that doesn't fit, from 1.
-    BadLine { line: u32 },
+    /// The first line of the text that doesn't fit, from 1, and why.
+    BadLine { line: u32, cause: StoreCause },
     NoMemory,
 }
 
@@ -95,7 +95,7 @@ impl From<StoreRefusal> for ReopenRefusal {
 
     fn from(refusal: StoreRefusal) -> Self {
         match refusal {
-            StoreRefusal::BadLine { line } => ReopenRefusal::BadLine { line },
+            StoreRefusal::BadLine { line, cause } => ReopenRefusal::BadLine { line, cause },
             StoreRefusal::NoMemory => ReopenRefusal::NoMemory,
         }
     }

@@ -19,7 +19,7 @@ use std::alloc::Global;
 /// empty store.
 ///
 /// `BadSlot` as at [`DiskKeeper::open`]. `BadLine` exactly where the text isn't a store's, at its first line that doesn't
-/// fit. `Failed` where a call on the disk failed.
+/// fit, with its cause. `Failed` where a call on the disk failed.
 pub fn reopen<D: Disk + Drop>(
     alloc: Global,
     disk: D,

@@ -1,16 +1,36 @@
--- Bytes cut at the first one of a value.
+-- Bytes in parts at a byte.
 use Rattle.std.proofs.Common.{◌≡◌, ℕ, suc, ◌+◌, ◌-◌, ◌<◌, Bool, true, false, not, cond, ◌==◌, Some, None, List, [], ◌∷◌, ◌++◌, length, take, drop, get_or, position, refl, ap, sym, ◌∙◌, eq-eqb, arith}
 use Rattle.std.specs.List.{list_all, position_or_len, prefix_len}
 use Rattle.std.proofs.Math.Seq.{take-length}
 use Rattle.std.proofs.lemmas.Bool.{false≢true, and_parts, eqb-true}
 use Rattle.std.proofs.lemmas.List.{take_rest}
-use Rattle.std.proofs.lemmas.List.Folds.{list_all-append}
-use Rattle.std.proofs.lemmas.List.Sums.{prefix_len-le-length, split_at_first, passes_at_first}
-use Rattle.persist_file.specs.Lines.{lacks}
+use Rattle.std.proofs.lemmas.List.Splits.{length-slice_split, slice_split_first}
+use Rattle.std.proofs.lemmas.List.Sums.{passes_at_first, prefix_len-le-length, split_at_first}
+use Rattle.persist_file.specs.Causes.{parts_at, three_words}
 
--- a byte isn't another one that is it
-is_not : (c b : ℕ) → c ≡ b → not (b == c) ≡ true → ⊥
-is_not c b is h = false≢true (sym (ap not (eq-eqb b c (sym is))) ∙ h)
+-- none of the bytes is this one
+abbrev pub lacks : ℕ → List ℕ → Bool
+lacks byte bytes = list_all (λ b. not (b == byte)) bytes
+
+not_true : (b : Bool) → not b ≡ true → b ≡ false
+not_true true h = absurd (false≢true h)
+not_true false h = refl
+
+pub parts_none : (c : ℕ) (xs : List ℕ) → lacks c xs ≡ true → parts_at c xs ≡ xs ∷ []
+parts_none c [] h = refl
+parts_none c (x ∷ xs) h =
+    let parts = and_parts (not (x == c)) (lacks c xs) h in
+    rw (not_true (x == c) parts.0, parts_none c xs parts.1) refl
+
+-- the first part, and those of what stands behind
+pub parts_first : (c : ℕ) (xs more : List ℕ) → lacks c xs ≡ true → parts_at c (xs ++ c ∷ more) ≡ xs ∷ parts_at c more
+parts_first c [] more h = rw (eq-eqb c c refl) refl
+parts_first c (x ∷ xs) more h =
+    let parts = and_parts (not (x == c)) (lacks c xs) h in
+    rw (not_true (x == c) parts.0, parts_first c xs more parts.1) refl
+
+pub some_parts : (c : ℕ) (xs : List ℕ) → parts_at c xs ≡ [] → ⊥
+some_parts c xs h = omega (arith, ap length h, length-slice_split (λ b. b == c) xs)
 
 front_passes : (q : ℕ → Bool) (xs : List ℕ) → list_all q (take (prefix_len q xs) xs) ≡ true
 front_passes q [] = refl
@@ -22,37 +42,33 @@ front_passes q (b ∷ rest) = by (q b) refl (front_passes q rest)
         rw (one, e) more
     by false e more = refl
 
-pub cut_none : (c : ℕ) (xs : List ℕ) → position (λ b. b == c) xs ≡ None → lacks c xs ≡ true
-cut_none c xs h =
+lacks_it : (c : ℕ) (xs : List ℕ) → position (λ b. b == c) xs ≡ None → lacks c xs ≡ true
+lacks_it c xs h =
     let all : prefix_len (λ b. not (b == c)) xs ≡ length xs = grind (arith, prefix_len-le-length (λ b. not (b == c)) xs) in
     ap (λ ys. lacks c ys) (sym (ap (λ n. take n xs) all ∙ take-length xs)) ∙ front_passes (λ b. not (b == c)) xs
 
-pub cut_some : (c : ℕ) (xs : List ℕ) (at : ℕ) → position (λ b. b == c) xs ≡ Some at
-    → (xs ≡ take at xs ++ c ∷ take (length xs - (at + 1)) (drop (at + 1) xs)) × (lacks c (take at xs) ≡ true)
-cut_some c xs at h =
+pub none_at : (c : ℕ) (xs : List ℕ) → position (λ b. b == c) xs ≡ None → parts_at c xs ≡ xs ∷ []
+none_at c xs h = parts_none c xs (lacks_it c xs h)
+
+pub some_at : (c : ℕ) (xs : List ℕ) (at : ℕ) → position (λ b. b == c) xs ≡ Some at
+    → parts_at c xs ≡ take at xs ∷ parts_at c (take (length xs - (at + 1)) (drop (at + 1) xs))
+some_at c xs at h =
+    let place : (at ≡ position_or_len (λ b. b == c) xs) × (at < length xs) = grind arith in
+    let inside : position_or_len (λ b. b == c) xs < length xs = omega arith in
+    rw (take_rest, place.0) (slice_split_first (λ b. b == c) xs 0 inside)
+
+-- bytes up to a byte, and those behind
+pub cut_at : (c : ℕ) (xs : List ℕ) (at : ℕ) → position (λ b. b == c) xs ≡ Some at → xs ≡ take at xs ++ c ∷ drop (at + 1) xs
+cut_at c xs at h =
     let place : (at ≡ position_or_len (λ b. b == c) xs) × (at < length xs) = grind arith in
     let inside : position_or_len (λ b. b == c) xs < length xs = omega arith in
     let byte : get_or xs (position_or_len (λ b. b == c) xs) 0 ≡ c = eqb-true _ c (passes_at_first (λ b. b == c) xs 0 inside) in
-    let whole = split_at_first (λ b. b == c) xs 0 inside in (
-      rw (take_rest, place.0) (whole ∙ ap (λ b. take (position_or_len (λ b. b == c) xs) xs ++ b ∷ drop (position_or_len (λ b. b == c) xs + 1) xs) byte),
-      rw place.0 (front_passes (λ b. not (b == c)) xs),
-    )
+    rw place.0 (split_at_first (λ b. b == c) xs 0 inside ∙ ap (λ b. take (position_or_len (λ b. b == c) xs) xs ++ b ∷ drop (position_or_len (λ b. b == c) xs + 1) xs) byte)
 
--- bytes are cut in one way
-pub same_cut : (c : ℕ) (xs ys more rest : List ℕ) → lacks c xs ≡ true → lacks c ys ≡ true → xs ++ c ∷ more ≡ ys ++ c ∷ rest → (xs ≡ ys) × (more ≡ rest)
-same_cut c [] [] more rest h i e = (refl, cc e)
-same_cut c [] (y ∷ ys) more rest h i e =
-    let is : c ≡ y = cc e in
-    absurd (is_not c y is (and_parts (not (y == c)) (lacks c ys) i).0)
-same_cut c (x ∷ xs) [] more rest h i e =
-    let is : c ≡ x = sym (cc e) in
-    absurd (is_not c x is (and_parts (not (x == c)) (lacks c xs) h).0)
-same_cut c (x ∷ xs) (y ∷ ys) more rest h i e =
-    let first : x ≡ y = cc e in
-    let tail : xs ++ c ∷ more ≡ ys ++ c ∷ rest = cc e in
-    let same = same_cut c xs ys more rest (and_parts (not (x == c)) (lacks c xs) h).1 (and_parts (not (y == c)) (lacks c ys) i).1 tail in
-    (cc (first, same.0), same.1)
-
--- what has the byte doesn't lack it
-pub has_it : (c : ℕ) (xs more : List ℕ) → lacks c (xs ++ c ∷ more) ≡ true → ⊥
-has_it c xs more h = is_not c c refl (and_parts (not (c == c)) (lacks c more) (and_parts (lacks c xs) (lacks c (c ∷ more)) (sym (list_all-append (λ b. not (b == c)) xs (c ∷ more)) ∙ h)).1).0
+-- a space stands behind the value
+pub more_words : (name kind value first behind : List ℕ) → parts_at 32 value ≡ first ∷ parts_at 32 behind → three_words name kind (parts_at 32 value) ≡ None
+more_words name kind value first behind h = ap (three_words name kind) h ∙ by (parts_at 32 behind) (some_parts 32 behind)
+  where
+    by : (parts : List (List ℕ)) → (parts ≡ [] → ⊥) → three_words name kind (first ∷ parts) ≡ None
+    by [] some = absurd (some refl)
+    by (next ∷ more) some = refl

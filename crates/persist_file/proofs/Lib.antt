@@ -1,7 +1,8 @@
 pub mod Values
-pub mod Fronts
 pub mod Cuts
 pub mod Order
-pub mod Texts
-pub mod Uniqueness
-pub mod Existence
+pub mod Written
+pub mod LinesRead
+pub mod Whole
+pub mod Determined
+pub mod Printed

@@ -1,3 +1,4 @@
 pub mod Store
-pub mod Lines
+pub mod Causes
+pub mod Readings
 pub mod Examples

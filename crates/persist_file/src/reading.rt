@@ -1,109 +1,173 @@
 //! Reading a store's text.
 
-ghost use Rattle.std.specs.Prelude.{◌≡◌, ◌≤◌, ◌++◌, ◌∷◌, [], ◌==◌, position, IsTrue, IfOk, IfErr, MatchOption, length};
+ghost use Rattle.std.specs.Prelude.{◌≡◌, ◌≢◌, ◌+◌, ◌<◌, ◌≤◌, ◌&&◌, [], IfOk, IfErr, MatchResult, OnOk, length};
+ghost use Rattle.init_base.specs.Name.{is_legal_name};
+ghost use Rattle.init_base.specs.Value.{is_short_value};
 ghost use Rattle.init_machine.specs.Pairs.{is_before as is_before_lem};
-ghost use Rattle.init_machine.specs.declared.config.Pair.{Pair};
-ghost use Rattle.persist_file.specs.Lines.{lacks, IsLineOf, TakesPair};
-ghost use Rattle.persist_file.specs.Store.{are_saved, names_ascend, BeginsWithNext, IsStore, IsRefused};
+ghost use Rattle.persist_file.specs.Causes.{is_above as is_above_lem, last_name, line_reading, parts_at, value_in as value_in_lem, with_value, IsRefused};
+ghost use Rattle.persist_file.specs.Readings.{reading, rest_reading, text_reading, Answers};
+ghost use Rattle.persist_file.specs.Store.{is_saved_name as is_saved_name_lem, passes as passes_lem, IsStore};
 
-use crate::refusal::StoreRefusal;
-use crate::value::read_value;
-use init_base::{List, NoMemory, PropName, Text};
+use crate::kind::{SavedKind, kind_named, passes};
+use crate::refusal::{StoreCause, StoreRefusal};
+use crate::value::value_in;
+use crate::version::{Version, version_of};
+use crate::words::{Words, cut, words_in};
+use init_base::{List, NoMemory, PropName, PropValue, Text};
 use init_machine::Pair;
 use std::alloc::Global;
-
-/// The first line, with its end.
-const HEAD: &[u8] = b"persist 1\n";
 
 /// How the names of properties begin that are saved.
 const PERSISTENT: &[u8] = b"persist.";
 
-/// The pairs of a store's text, in ascending order of names.
+/// The pairs of a store's text of either version, in ascending order of names.
+#[tactic(auto, using(crate::proofs::Determined::store_of, crate::proofs::Determined::refusal_of))]
 pub fn read(alloc: Global, bytes: &[u8]) -> Result<List<Pair>, StoreRefusal>
     requires { length bytes.now ≤ 33554432 }
     ensures store { IfOk result (IsStore bytes.now) }
     ensures refused { IfErr result (IsRefused bytes.now) }
 {
+    read_lines(alloc, bytes)
+}
+
+fn read_lines(alloc: Global, bytes: &[u8]) -> Result<List<Pair>, StoreRefusal>
+    requires { length bytes.now ≤ 33554432 }
+    ensures { Answers result (reading bytes.now) }
+{
     let mut pairs = List::new(alloc);
     if bytes.is_empty() {
         return Ok(pairs);
     }
-    let Some(mut rest) = bytes.strip_prefix(HEAD) else {
-        return Err(StoreRefusal::BadLine { line: 1 });
-    };
+    let (version, mut rest) = read_head(bytes)?;
     while !rest.is_empty() {
-        let line = pairs.len() as u32 + 2;
-        let Some(behind) = take_pair(alloc, &mut pairs, rest)? else {
-            return Err(StoreRefusal::BadLine { line });
-        };
-        rest = behind;
+        rest = take_line(alloc, version, &mut pairs, rest)?;
     }
     Ok(pairs)
 }
 
-/// Takes the pair of the first line, and answers what stands behind the line. None, and nothing is taken, where the line
-/// can't follow those of the pairs.
-fn take_pair<'a>(
+/// The version of a text, and what stands behind its first line.
+#[tactic(auto, using(crate::proofs::Determined::head_read))]
+fn read_head(bytes: &[u8]) -> Result<(Version, &[u8]), StoreRefusal>
+    ensures version { MatchResult result
+        (λ read. text_reading bytes.entry.now ≡ rest_reading read.0 [] (parts_at 10 read.1.now))
+        (λ refusal. Answers (Err refusal) (text_reading bytes.entry.now)) }
+    ensures shorter { IfOk result (λ read. length read.1.now < length bytes.entry.now) }
+{
+    match cut(bytes, b'\n') {
+        Some((line, rest)) => match version_of(line) {
+            Some(version) => Ok((version, rest)),
+            None => Err(unfit(1, StoreCause::Head)),
+        },
+        None if version_of(bytes).is_some() => Err(unfit(1, StoreCause::Shape)),
+        None => Err(unfit(1, StoreCause::Head)),
+    }
+}
+
+fn unfit(line: u32, cause: StoreCause) -> StoreRefusal
+    ensures { result ≡ StoreRefusal.BadLine line cause }
+{
+    StoreRefusal::BadLine { line, cause }
+}
+
+/// Takes the pair of the first line, and answers what stands behind the line.
+#[tactic(auto, using(crate::proofs::Whole::line_taken, crate::proofs::Whole::line_refused))]
+fn take_line<'a>(
     alloc: Global,
+    version: Version,
     pairs: &mut List<Pair>,
     bytes: &'a [u8],
-) -> Result<Option<&'a [u8]>, NoMemory>
-    requires { IsTrue (are_saved pairs.old) }
-    ensures { IfOk result (λ behind. MatchOption behind (¬ BeginsWithNext pairs.old bytes.entry.now) (λ behind. TakesPair pairs.old pairs.new bytes.entry.now behind.now)) }
+) -> Result<&'a [u8], StoreRefusal>
+    requires some { bytes.now ≢ [] }
+    requires few { length pairs.old ≤ 33554432 }
+    ensures taken { MatchResult result
+        (λ behind. rest_reading version pairs.old (parts_at 10 bytes.entry.now) ≡ rest_reading version pairs.new (parts_at 10 behind.now))
+        (λ refusal. Answers (Err refusal) (rest_reading version pairs.old (parts_at 10 bytes.entry.now))) }
+    ensures shorter { IfOk result (λ behind. length behind.now < length bytes.entry.now) }
+    ensures more { OnOk result (length pairs.new ≡ length pairs.old + 1) }
 {
+    let number = pairs.len() as u32 + 2;
     let Some((line, behind)) = cut(bytes, b'\n') else {
-        return Ok(None);
+        return Err(unfit(number, StoreCause::Shape));
     };
-    let Some(pair) = read_pair(alloc, line)? else {
-        return Ok(None);
-    };
-    if !may_follow(pairs, &pair) {
-        return Ok(None);
-    }
-    pairs.push(pair)?;
-    Ok(Some(behind))
-}
-
-/// What stands before the first byte of this value, and what stands behind it.
-fn cut(bytes: &[u8], at: u8) -> Option<(&[u8], &[u8])>
-    ensures { MatchOption result (IsTrue (lacks at bytes.entry.now))
-        (λ parts. (bytes.entry.now ≡ parts.0.now ++ at ∷ parts.1.now) × IsTrue (lacks at parts.0.now)) }
-{
-    let place = place_of(bytes, at)?;
-    Some((&bytes[..place], &bytes[place + 1..]))
-}
-
-fn place_of(bytes: &[u8], at: u8) -> Option<usize>
-    ensures { result ≡ position (λ b. b == at) bytes.now }
-{
-    bytes.iter().position(|byte| *byte == at)
-}
-
-/// The pair of a line. None exactly where it is the line of no pair that may be saved.
-fn read_pair(alloc: Global, line: &[u8]) -> Result<Option<Pair>, NoMemory>
-    ensures { IfOk result (λ pair. MatchOption pair ((pair : Pair) → ¬ IsLineOf line.now pair) (IsLineOf line.now)) }
-{
-    let Some((name, value)) = cut(line, b' ') else {
-        return Ok(None);
-    };
-    if !name.starts_with(PERSISTENT) || PropName::of(name).is_none() {
-        return Ok(None);
-    }
-    match read_value(alloc, value)? {
-        Some(value) => Ok(Some(Pair {
-            name: Text::of(alloc, name)?,
-            value,
-        })),
-        None => Ok(None),
+    match read_line(alloc, version, pairs, line)? {
+        Ok(pair) => {
+            pairs.push(pair)?;
+            Ok(behind)
+        }
+        Err(cause) => Err(unfit(number, cause)),
     }
 }
 
-/// Whether a pair may stand behind others, by its name.
-fn may_follow(pairs: &List<Pair>, pair: &Pair) -> bool
-    ensures { IsTrue (names_ascend pairs.now) → result ≡ names_ascend (pairs.now ++ pair.now ∷ []) }
+/// The pair of a line behind those of these pairs, or why it has none.
+fn read_line(
+    alloc: Global,
+    version: Version,
+    pairs: &List<Pair>,
+    line: &[u8],
+) -> Result<Result<Pair, StoreCause>, NoMemory>
+    ensures { IfOk result (λ read. read ≡ line_reading version (last_name pairs.now) line.now) }
+{
+    let Some(words) = words_in(version, line) else {
+        return Ok(Err(StoreCause::Shape));
+    };
+    if !is_saved_name(words.name) {
+        return Ok(Err(StoreCause::Name));
+    }
+    if !is_above(pairs, words.name) {
+        return Ok(Err(StoreCause::Order));
+    }
+    match kind_named(words.kind) {
+        Some(kind) => read_value(alloc, version, words, kind),
+        None => Ok(Err(StoreCause::Kind)),
+    }
+}
+
+/// The pair of the words of a line, whose name and type fit.
+fn read_value(
+    alloc: Global,
+    version: Version,
+    words: Words<'_>,
+    kind: SavedKind,
+) -> Result<Result<Pair, StoreCause>, NoMemory>
+    ensures { IfOk result (λ read. read ≡ with_value words.entry.name.now kind (value_in_lem version words.entry.value.now)) }
+{
+    let Some(value) = value_in(alloc, version, words.value)? else {
+        return Ok(Err(StoreCause::Value));
+    };
+    if !is_fit(kind, value.bytes()) {
+        return Ok(Err(StoreCause::Value));
+    }
+    Ok(Ok(Pair {
+        name: Text::of(alloc, words.name)?,
+        value,
+    }))
+}
+
+fn is_saved_name(name: &[u8]) -> bool
+    ensures { result ≡ is_saved_name_lem name.now }
+{
+    is_legal(name) && name.starts_with(PERSISTENT)
+}
+
+fn is_legal(name: &[u8]) -> bool
+    ensures { result ≡ is_legal_name name.now }
+{
+    PropName::of(name).is_some()
+}
+
+/// Whether a value is legal and passes its type.
+fn is_fit(kind: SavedKind, value: &[u8]) -> bool
+    ensures { result ≡ (is_short_value value.now && passes_lem kind value.now) }
+{
+    PropValue::short(value).is_ok() && passes(kind, value)
+}
+
+/// Whether a name is above that of the last pair.
+fn is_above(pairs: &List<Pair>, name: &[u8]) -> bool
+    ensures { result ≡ is_above_lem (last_name pairs.now) name.now }
 {
     match pairs.items().last() {
-        Some(last) => is_before(last.name.bytes(), pair.name.bytes()),
+        Some(last) => is_before(last.name.bytes(), name),
         None => true,
     }
 }

@@ -1,32 +1,47 @@
-//! A value in the store's text: lower-case hexadecimal digits, or `-`.
+//! How a value is written: in version 1 as lower-case hexadecimal digits, or `-`; in version 2 in q form.
 
-ghost use Rattle.std.specs.Prelude.{◌≡◌, ◌++◌, IfOk, IsErr, MatchOption, OnOk, Ok, ℕ, List as Items};
-ghost use Rattle.hex.specs.Hex.{decode_of};
+ghost use Rattle.std.specs.Prelude.{◌≡◌, ◌++◌, ◌∷◌, [], ◌<◌, IfOk, IsErr, MatchOption, OnOk, Ok, true};
+ghost use Rattle.std.specs.Fmt.{digit_glyph};
+ghost use Rattle.std.specs.List.{flat_map};
 ghost use Rattle.std.specs.Str.{bytes_eq};
-ghost use Rattle.persist_file.specs.Lines.{IsValueOf};
-ghost use Rattle.persist_file.specs.Store.{value_text};
+ghost use Rattle.hex.specs.Hex.{decode_of};
+ghost use Rattle.init_base.specs.Quoted.{is_plain as is_plain_lem, quoted, quoted_byte};
+ghost use Rattle.persist_file.specs.Causes.{hex_value as hex_value_lem, value_in as value_in_lem};
+ghost use Rattle.persist_file.specs.Store.{hex_text};
 
+use crate::version::Version;
 use hex::FromHexError;
-use init_base::{NoMemory, PropValue, Text};
+use init_base::{NoMemory, Text, unquoted};
 use std::alloc::Global;
 
-/// The text of the empty value.
+/// The empty value in version 1.
 const EMPTY: &[u8] = b"-";
 
-/// The legal value of a text. None exactly where it has none.
-pub fn read_value(alloc: Global, text: &[u8]) -> Result<Option<Text>, NoMemory>
-    ensures { IfOk result (λ value. MatchOption value ((value : Items ℕ) → ¬ IsValueOf text.now value) (IsValueOf text.now)) }
+/// The value of a word. None exactly where its form isn't the version's.
+pub fn value_in(alloc: Global, version: Version, word: &[u8]) -> Result<Option<Text>, NoMemory>
+    ensures { IfOk result (λ value. value ≡ value_in_lem version word.now) }
 {
-    if text == EMPTY {
-        return Ok(Some(Text::of(alloc, b"")?));
+    match version {
+        Version::First => hex_value(alloc, word),
+        Version::Second => unquoted(alloc, word),
     }
-    let Some(value) = decode(alloc, text)? else {
+}
+
+/// The value that hexadecimal digits spell, where these are how it is written.
+fn hex_value(alloc: Global, word: &[u8]) -> Result<Option<Text>, NoMemory>
+    ensures { IfOk result (λ value. value ≡ hex_value_lem word.now) }
+{
+    if word == EMPTY {
+        return Ok(Some(Text::empty()));
+    }
+    let Some(value) = decode(alloc, word)? else {
         return Ok(None);
     };
-    if PropValue::short(&value).is_err() || !is_text_of(alloc, text, &value)? {
-        return Ok(None);
+    if is_hex_of(alloc, word, &value)? {
+        Ok(Some(Text::of(alloc, &value)?))
+    } else {
+        Ok(None)
     }
-    Ok(Some(Text::of(alloc, &value)?))
 }
 
 /// The bytes of hexadecimal digits of either case. None exactly where there are others, or an odd number of them.
@@ -40,23 +55,70 @@ fn decode(alloc: Global, text: &[u8]) -> Result<Option<Vec<u8>>, NoMemory>
     }
 }
 
-/// Whether this is how the value is printed: upper-case digits aren't.
-fn is_text_of(alloc: Global, text: &[u8], value: &[u8]) -> Result<bool, NoMemory>
-    ensures { IfOk result (λ is. is ≡ bytes_eq (value_text value.now) text.now) }
-{
-    let mut page = Vec::new(alloc);
-    print_value(alloc, &mut page, value)?;
-    Ok(page.as_slice() == text)
-}
-
-/// Adds a value's text to a page.
-pub fn print_value(alloc: Global, page: &mut Vec<u8>, value: &[u8]) -> Result<(), NoMemory>
-    ensures { OnOk result (page.new.items ≡ page.old.items ++ value_text value.now) }
+/// Whether this is how a value is written in version 1: upper-case digits aren't.
+fn is_hex_of(alloc: Global, word: &[u8], value: &[u8]) -> Result<bool, NoMemory>
+    ensures { IfOk result (λ is. is ≡ bytes_eq (hex_text value.now) word.now) }
 {
     if value.is_empty() {
-        page.extend_from_slice(EMPTY)?;
-    } else {
-        page.extend_from_slice(hex::encode(alloc, value)?.as_bytes())?;
+        return Ok(word == EMPTY);
     }
+    Ok(hex::encode(alloc, value)?.as_bytes() == word)
+}
+
+/// Adds a value in q form to a page.
+#[tactic(auto, unfolding(init_base::specs::Quoted::quoted))]
+pub fn put_quoted(page: &mut Vec<u8>, value: &[u8]) -> Result<(), NoMemory>
+    ensures { OnOk result (page.new.items ≡ page.old.items ++ quoted value.now) }
+{
+    match value {
+        [] => put_byte(page, b'%'),
+        _ => put_quoted_bytes(page, value),
+    }
+}
+
+fn put_quoted_bytes(page: &mut Vec<u8>, bytes: &[u8]) -> Result<(), NoMemory>
+    ensures { OnOk result (page.new.items ≡ page.old.items ++ flat_map quoted_byte bytes.now) }
+{
+    for byte in bytes {
+        put_quoted_byte(page, *byte)?;
+    }
+    Ok(())
+}
+
+fn put_quoted_byte(page: &mut Vec<u8>, byte: u8) -> Result<(), NoMemory>
+    ensures { OnOk result (page.new.items ≡ page.old.items ++ quoted_byte byte) }
+{
+    if is_plain(byte) {
+        put_byte(page, byte)
+    } else {
+        put_byte(page, b'%')?;
+        put_byte(page, hex_digit(byte / 16))?;
+        put_byte(page, hex_digit(byte % 16))
+    }
+}
+
+/// Whether a byte stands for itself in q form.
+fn is_plain(byte: u8) -> bool
+    ensures { result ≡ is_plain_lem byte }
+{
+    byte >= 0x21 && byte <= 0x7e && byte != b'%'
+}
+
+fn hex_digit(digit: u8) -> u8
+    requires { digit < 16 }
+    ensures { result ≡ digit_glyph true digit }
+{
+    if digit < 10 {
+        b'0' + digit
+    } else {
+        b'A' - 10 + digit
+    }
+}
+
+/// Adds one byte.
+fn put_byte(page: &mut Vec<u8>, byte: u8) -> Result<(), NoMemory>
+    ensures { OnOk result (page.new.items ≡ page.old.items ++ byte ∷ []) }
+{
+    page.push(byte)?;
     Ok(())
 }

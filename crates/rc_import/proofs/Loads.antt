@@ -39,7 +39,7 @@ gone_from world (Some bytes) is = cc
 as_answer : (refusal : LoadRefusal) (answer : Result SoFar LoadRefusal) (next : SoFar → Result Loaded LoadRefusal) → Stops refusal answer → IsAnswer (Err refusal) (onward answer next)
 as_answer NoInit answer next stops = absurd stops
 as_answer ReadFault answer next stops = tt
-as_answer (TooLarge path number) answer next stops = ap (λ r. onward r next) stops
+as_answer (TooLarge path limit number) answer next stops = ap (λ r. onward r next) stops
 as_answer (TooMany path number) answer next stops = ap (λ r. onward r next) stops
 as_answer NoMemory answer next stops = tt
 
@@ -76,8 +76,8 @@ root_stops : (world : World) (refusal : LoadRefusal) (reach : ℕ → List ℕ �
     → false ≡ is_some found → IsAnswer (Err refusal) (Err NoInit)
 root_stops world NoInit reach found stops gone = absurd stops
 root_stops world ReadFault reach found stops gone = tt
-root_stops world (TooLarge path number) reach None stops gone = let no = stops in cc
-root_stops world (TooLarge path number) reach (Some bytes) stops gone = cc
+root_stops world (TooLarge path limit number) reach None stops gone = let no = stops in cc
+root_stops world (TooLarge path limit number) reach (Some bytes) stops gone = cc
 root_stops world (TooMany path number) reach None stops gone = let no = stops in cc
 root_stops world (TooMany path number) reach (Some bytes) stops gone = cc
 root_stops world NoMemory reach found stops gone = tt

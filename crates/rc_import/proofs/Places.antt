@@ -15,6 +15,7 @@ use Rattle.rc_import.specs.Paths.{bare, file_in, is_absolute}
 use Rattle.rc_import.specs.World.{IsWorld, World}
 use Rattle.rc_import.specs.Code.Listings.{HasNames, ListsInOrder}
 use Rattle.rc_import.specs.Code.Steps.{Follows, FollowsFile, IsFile, Reaches, ReachesFile, ReachesImports, Stands, Stops, imports_at}
+use Rattle.rc_import.specs.declared.loaded.LoadLimit.TheVariants as limits
 use Rattle.rc_import.specs.declared.loaded.LoadRefusal.{LoadRefusal}
 use Rattle.rc_import.specs.declared.loaded.LoadRefusal.TheVariants.{NoInit, ReadFault, TooLarge, TooMany, NoMemory}
 use Rattle.rc_import.specs.declared.loading.Loading.{Loading}
@@ -190,7 +191,7 @@ names_met world sofar dir names reach other has =
     ap (λ ns. with_all world sofar (flat_map (λ name. reach world (file_in dir name)) ns)) has.ordered
     ∙ sym (
     ap (λ b. with_all world sofar (if b then at_directory world (reach world) dir else other world)) has.is_one
-    ∙ ap (λ b. onward (if b then Err (TooLarge dir 1025) else Ok sofar) (λ next. with_all world next (flat_map (λ name. reach world (file_in dir name)) (in_byte_order (names_in world.tree dir)))))
+    ∙ ap (λ b. onward (if b then Err (TooLarge dir limits.Names 1025) else Ok sofar) (λ next. with_all world next (flat_map (λ name. reach world (file_in dir name)) (in_byte_order (names_in world.tree dir)))))
     (not_many (length (names_in world.tree dir)) has.few))
 
 pub dir_names : (tree : Option Tree) (look_up : LookUp) (loading : Loading) (result : Result Loading LoadRefusal) (dir : List ℕ) (names : List (List ℕ)) (reach : World → List ℕ → List Met) (other : World → List Met)
@@ -203,12 +204,12 @@ pub dir_refused : (tree : Option Tree) (look_up : LookUp) (loading : Loading) (r
     → ListsInOrder tree dir (Err refusal) → Follows tree look_up loading (Err refusal) (dir_or reach other dir)
 dir_refused tree look_up loading NoInit dir reach other lists = λ world is sofar stands. told_names tree look_up world dir (Err NoInit) is lists
 dir_refused tree look_up loading ReadFault dir reach other lists = λ world is sofar stands. tt
-dir_refused tree look_up loading (TooLarge path number) dir reach other lists = λ world is sofar stands.
-    let more = told_names tree look_up world dir (Err (TooLarge path number)) is lists in
+dir_refused tree look_up loading (TooLarge path limit number) dir reach other lists = λ world is sofar stands.
+    let more = told_names tree look_up world dir (Err (TooLarge path limit number)) is lists in
     ap (λ b. with_all world sofar (if b then at_directory world (reach world) dir else other world)) more.is_one
-    ∙ ap (λ b. onward (if b then Err (TooLarge dir 1025) else Ok sofar) (λ next. with_all world next (flat_map (λ name. reach world (file_in dir name)) (in_byte_order (names_in world.tree dir)))))
+    ∙ ap (λ b. onward (if b then Err (TooLarge dir limits.Names 1025) else Ok sofar) (λ next. with_all world next (flat_map (λ name. reach world (file_in dir name)) (in_byte_order (names_in world.tree dir)))))
     (many_more (length (names_in world.tree dir)) more.many)
-    ∙ (λ i. Err (TooLarge (sym more.path_is i) (sym more.number_is i)))
+    ∙ (λ i. Err (TooLarge (sym more.path_is i) (sym more.limit_is i) (sym more.number_is i)))
 dir_refused tree look_up loading (TooMany path number) dir reach other lists = λ world is sofar stands. absurd (told_names tree look_up world dir (Err (TooMany path number)) is lists)
 dir_refused tree look_up loading NoMemory dir reach other lists = λ world is sofar stands. tt
 

@@ -30,7 +30,7 @@ all_behind world sofar (met ∷ a) b =
 pub stopped : (refusal : LoadRefusal) (answer : Result SoFar LoadRefusal) (next : SoFar → Result SoFar LoadRefusal) → Stops refusal answer → Stops refusal (onward answer next)
 stopped NoInit answer next stops = stops
 stopped ReadFault answer next stops = tt
-stopped (TooLarge path number) answer next stops = ap (λ r. onward r next) stops
+stopped (TooLarge path limit number) answer next stops = ap (λ r. onward r next) stops
 stopped (TooMany path number) answer next stops = ap (λ r. onward r next) stops
 stopped NoMemory answer next stops = tt
 

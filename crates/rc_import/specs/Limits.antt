@@ -10,6 +10,7 @@ use Rattle.rc_parse.specs.declared.parsed.Parsed.{Parsed}
 use Rattle.rc_import.specs.Order.{Fault, File, Listing, Met, order, root_file}
 use Rattle.rc_import.specs.World.{World}
 use Rattle.rc_import.specs.declared.loaded.Loaded.{Loaded}
+use Rattle.rc_import.specs.declared.loaded.LoadLimit.TheVariants as limits
 use Rattle.rc_import.specs.declared.loaded.LoadRefusal.{LoadRefusal}
 use Rattle.rc_import.specs.declared.loaded.LoadRefusal.TheVariants.{NoInit, TooLarge, TooMany}
 
@@ -40,12 +41,12 @@ with_file sofar size parsed = record {
 abbrev pub with_bytes : World → SoFar → List ℕ → Option (List ℕ) → Result SoFar LoadRefusal
 with_bytes world sofar path None = Ok (record sofar { files = sofar.files + 1 })
 with_bytes world sofar path (Some bytes) =
-    if nat_lt 1048576 (length bytes) then Err (TooLarge path 1048577)
-    else if nat_lt 33554432 (sofar.bytes + length bytes) then Err (TooLarge path (sofar.bytes + length bytes))
+    if nat_lt 1048576 (length bytes) then Err (TooLarge path limits.FileBytes 1048577)
+    else if nat_lt 33554432 (sofar.bytes + length bytes) then Err (TooLarge path limits.AllBytes (sofar.bytes + length bytes))
     else Ok (with_file sofar (length bytes) (world.means path bytes))
 
 abbrev pub with_met : World → SoFar → Met → Result SoFar LoadRefusal
-with_met world sofar (Listing dir names) = if nat_lt 1024 names then Err (TooLarge dir 1025) else Ok sofar
+with_met world sofar (Listing dir names) = if nat_lt 1024 names then Err (TooLarge dir limits.Names 1025) else Ok sofar
 with_met world sofar (File path found) = if nat_lt sofar.files 1024 then with_bytes world sofar path found else Err (TooMany path 1025)
 with_met world sofar (Fault diagnostic) = Ok (record sofar { diagnostics = sofar.diagnostics ++ diagnostic ∷ [] })
 

@@ -16,5 +16,5 @@ mod place;
 mod world;
 
 pub use first::load;
-pub use loaded::{LoadRefusal, Loaded};
+pub use loaded::{LoadLimit, LoadRefusal, Loaded};
 pub use world::each_tree_has_its_world;

@@ -6,7 +6,7 @@ ghost use Rattle.rc_import.specs.Answers.{HasItsNumber, is_read_fault};
 ghost use Rattle.rc_import.specs.Code.Listings.{ListsInOrder};
 ghost use Rattle.rc_import.specs.Names.{in_byte_order as in_byte_order_lem};
 
-use crate::loaded::LoadRefusal;
+use crate::loaded::{LoadLimit, LoadRefusal};
 use init_base::{Files, List, NoMemory, ReadRefusal, Text};
 use std::alloc::Global;
 
@@ -29,6 +29,7 @@ pub fn list<F: Files>(
         Ok(None) => Ok(None),
         Err(ReadRefusal::TooLarge) => Err(LoadRefusal::TooLarge {
             path: dir.share()?,
+            limit: LoadLimit::Names,
             number: ONE_NAME_MORE,
         }),
         Err(ReadRefusal::Failed) => Err(LoadRefusal::ReadFault),

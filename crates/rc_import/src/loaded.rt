@@ -11,6 +11,17 @@ pub struct Loaded {
     pub diagnostics: List<Diagnostic>,
 }
 
+/// A limit on what is read of a tree.
+#[derive(Clone, Copy, Debug, PartialEq, Eq)]
+pub enum LoadLimit {
+    /// 1,048,576 bytes of a file.
+    FileBytes,
+    /// 1,024 names in a directory.
+    Names,
+    /// 33,554,432 bytes of all files.
+    AllBytes,
+}
+
 /// Why a tree isn't loaded.
 #[derive(Debug, Drop)]
 pub enum LoadRefusal {
@@ -18,11 +29,18 @@ pub enum LoadRefusal {
     NoInit,
     /// A call on the files failed.
     ReadFault,
-    /// The file of the path has more than 1,048,576 bytes, and the number is 1,048,577; or the directory has more than
-    /// 1,024 names, and it is 1,025; or with the file all files have more than 33,554,432 bytes, and it is their sum.
-    TooLarge { path: Text, number: u64 },
+    /// The file of the path has too many bytes, or the directory too many names, and the number is one more than it may
+    /// have; or with the file all files have too many bytes, and it is their sum.
+    TooLarge {
+        path: Text,
+        limit: LoadLimit,
+        number: u64,
+    },
     /// The file of the path would be the 1,025th that is read, which is the number.
-    TooMany { path: Text, number: u64 },
+    TooMany {
+        path: Text,
+        number: u64,
+    },
     NoMemory,
 }
 

@@ -12,7 +12,7 @@ ghost use Rattle.rc_import.specs.Code.Sound.{AreSound};
 ghost use Rattle.rc_import.specs.Code.Steps.{Follows, IsFile, IsShort, MeansFiles, ReachesImports, ReadsContent, Stands};
 
 use crate::gathered::Gathered;
-use crate::loaded::{LoadRefusal, Loaded};
+use crate::loaded::{LoadLimit, LoadRefusal, Loaded};
 use init_base::{Files, List, NoMemory, ReadRefusal, Text};
 use init_machine::{DiagKind, Diagnostic};
 use rc_parse::{Import, Parsed, one_meaning, parse};
@@ -124,6 +124,7 @@ impl Loading {
         if bytes > MOST_BYTES {
             return Err(LoadRefusal::TooLarge {
                 path: path.share()?,
+                limit: LoadLimit::AllBytes,
                 number: bytes,
             });
         }
@@ -203,6 +204,7 @@ fn content_of<F: Files>(
         Ok(content) => Ok(content),
         Err(ReadRefusal::TooLarge) => Err(LoadRefusal::TooLarge {
             path: path.share()?,
+            limit: LoadLimit::FileBytes,
             number: ONE_BYTE_MORE,
         }),
         Err(ReadRefusal::Failed) => Err(LoadRefusal::ReadFault),

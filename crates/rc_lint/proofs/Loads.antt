@@ -11,6 +11,8 @@ use Rattle.rc_import.specs.Answers.{IsAnswer}
 use Rattle.rc_import.specs.Limits.{loaded as rc_files_of, onward}
 use Rattle.rc_import.specs.World.{IsWorld, World}
 use Rattle.rc_import.specs.declared.loaded.Loaded.{Loaded}
+use Rattle.rc_import.specs.declared.loaded.LoadLimit.{LoadLimit}
+use Rattle.rc_import.specs.declared.loaded.LoadLimit.TheVariants as limits
 use Rattle.rc_import.specs.declared.loaded.LoadRefusal.{LoadRefusal}
 use Rattle.rc_import.specs.declared.loaded.LoadRefusal.TheVariants as why
 use Rattle.rc_lint.specs.Code.Steps.{AreBuildFiles, GivesBuildFile, GivesBuildFiles, GivesText, RefusesText}
@@ -48,15 +50,16 @@ both_short : {A : Type 0} (tree : Tree) (next : Result A LoadRefusal)
 both_short tree next system vendor =
     behind_short (length (build_text tree system_path)) _ _ system ∙ behind_short (length (build_text tree vendor_path)) _ _ vendor
 
-too_long : {A : Type 0} (path file : List ℕ) (number : ℕ) (r : Result A LoadRefusal) → r ≡ Err (why.TooLarge path 1048577)
-    → file ≡ path → number ≡ 1048577 → r ≡ Err (why.TooLarge file number)
-too_long path file number r is same one = cc
+too_long : {A : Type 0} (path file : List ℕ) (limit : LoadLimit) (number : ℕ) (r : Result A LoadRefusal) → r ≡ Err (why.TooLarge path limits.FileBytes 1048577)
+    → file ≡ path → limit ≡ limits.FileBytes → number ≡ 1048577 → r ≡ Err (why.TooLarge file limit number)
+too_long path file limit number r is same of_file one = cc
 
 pub system_refused : (world : World) (refusal : LoadRefusal) → RefusesText world.tree system_path refusal → IsAnswer (Err refusal) (loaded world)
 system_refused world why.NoInit refused = absurd refused
 system_refused world why.ReadFault refused = tt
-system_refused world (why.TooLarge file number) refused =
-    too_long system_path file number (loaded world) (behind_long (length (build_text world.tree system_path)) _ _ refused.long) refused.path_is refused.number_is
+system_refused world (why.TooLarge file limit number) refused =
+    too_long system_path file limit number (loaded world) (behind_long (length (build_text world.tree system_path)) _ _ refused.long)
+    refused.path_is refused.limit_is refused.number_is
 system_refused world (why.TooMany file number) refused = absurd refused
 system_refused world why.NoMemory refused = tt
 
@@ -64,10 +67,10 @@ vendor_refused : (world : World) (refusal : LoadRefusal) → length (build_text 
     → RefusesText world.tree vendor_path refusal → IsAnswer (Err refusal) (loaded world)
 vendor_refused world why.NoInit short refused = absurd refused
 vendor_refused world why.ReadFault short refused = tt
-vendor_refused world (why.TooLarge file number) short refused =
-    too_long vendor_path file number (loaded world)
+vendor_refused world (why.TooLarge file limit number) short refused =
+    too_long vendor_path file limit number (loaded world)
     (behind_short (length (build_text world.tree system_path)) _ _ short ∙ behind_long (length (build_text world.tree vendor_path)) _ _ refused.long)
-    refused.path_is refused.number_is
+    refused.path_is refused.limit_is refused.number_is
 vendor_refused world (why.TooMany file number) short refused = absurd refused
 vendor_refused world why.NoMemory short refused = tt
 
@@ -99,7 +102,7 @@ pub rc_files_refused : (world : World) (props : BuildProps) (refusal : LoadRefus
 unfolding behind_rc_files
 rc_files_refused world props why.NoInit files answer = rc_files_decide world props files ∙ ap (behind_rc_files world) answer
 rc_files_refused world props why.ReadFault files answer = tt
-rc_files_refused world props (why.TooLarge path number) files answer = rc_files_decide world props files ∙ ap (behind_rc_files world) answer
+rc_files_refused world props (why.TooLarge path limit number) files answer = rc_files_decide world props files ∙ ap (behind_rc_files world) answer
 rc_files_refused world props (why.TooMany path number) files answer = rc_files_decide world props files ∙ ap (behind_rc_files world) answer
 rc_files_refused world props why.NoMemory files answer = tt
 

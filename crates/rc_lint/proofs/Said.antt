@@ -104,7 +104,7 @@ faulty_of (error ∷ errors) some = refl
 pub later_answer : (refusal : LoadRefusal) (answer : Result Loaded LoadRefusal) → IsLater refusal → IsAnswer (Err refusal) answer
 later_answer why.NoInit answer later = absurd later
 later_answer why.ReadFault answer later = tt
-later_answer (why.TooLarge path number) answer later = absurd later
+later_answer (why.TooLarge path limit number) answer later = absurd later
 later_answer (why.TooMany path number) answer later = absurd later
 later_answer why.NoMemory answer later = tt
 
@@ -112,14 +112,14 @@ pub refusal_said : (request : Request) (told : Told) (old new : Option (List ℕ
     → IsAnswer (Err refusal) (loaded told.world) → new ≡ old → LintSays request told old new (status.Refused refusal)
 refusal_said request told old new why.NoInit answer same = (answer, same)
 refusal_said request told old new why.ReadFault answer same = same
-refusal_said request told old new (why.TooLarge path number) answer same = (answer, same)
+refusal_said request told old new (why.TooLarge path limit number) answer same = (answer, same)
 refusal_said request told old new (why.TooMany path number) answer same = (answer, same)
 refusal_said request told old new why.NoMemory answer same = inl same
 
 pub refusal_unwritten : (old new : Option (List ℕ)) (refusal : LoadRefusal) → new ≡ old → IsUnwritten old new (status.Refused refusal)
 refusal_unwritten old new why.NoInit same = same
 refusal_unwritten old new why.ReadFault same = same
-refusal_unwritten old new (why.TooLarge path number) same = same
+refusal_unwritten old new (why.TooLarge path limit number) same = same
 refusal_unwritten old new (why.TooMany path number) same = same
 refusal_unwritten old new why.NoMemory same = tt
 
@@ -127,14 +127,14 @@ pub refusal_kept : (request : Request) (told : Told) (old new : Option (List ℕ
     → IsAnswer (Err refusal) (loaded told.world) → new ≡ old → LintKeeps request told old new (status.Refused refusal)
 refusal_kept request told old new why.NoInit answer same = (answer, same)
 refusal_kept request told old new why.ReadFault answer same = same
-refusal_kept request told old new (why.TooLarge path number) answer same = (answer, same)
+refusal_kept request told old new (why.TooLarge path limit number) answer same = (answer, same)
 refusal_kept request told old new (why.TooMany path number) answer same = (answer, same)
 refusal_kept request told old new why.NoMemory answer same = tt
 
 pub refusal_unkept : (old new : Option (List ℕ)) (refusal : LoadRefusal) → new ≡ old → IsUnkept old new (status.Refused refusal)
 refusal_unkept old new why.NoInit same = same
 refusal_unkept old new why.ReadFault same = same
-refusal_unkept old new (why.TooLarge path number) same = same
+refusal_unkept old new (why.TooLarge path limit number) same = same
 refusal_unkept old new (why.TooMany path number) same = same
 refusal_unkept old new why.NoMemory same = tt
 
@@ -142,7 +142,7 @@ pub refusal_counted : (refusal : LoadRefusal) (files later out : ℕ) → Counte
     → AreCounted (status.Refused refusal) (record { files = files; out = out }) (record { files = later; out = out })
 refusal_counted why.NoInit files later out same = ap (λ (n : ℕ). let counts : Counts = record { files = n; out = out } in counts) same
 refusal_counted why.ReadFault files later out rose = (rose, refl)
-refusal_counted (why.TooLarge path number) files later out same = ap (λ (n : ℕ). let counts : Counts = record { files = n; out = out } in counts) same
+refusal_counted (why.TooLarge path limit number) files later out same = ap (λ (n : ℕ). let counts : Counts = record { files = n; out = out } in counts) same
 refusal_counted (why.TooMany path number) files later out same = ap (λ (n : ℕ). let counts : Counts = record { files = n; out = out } in counts) same
 refusal_counted why.NoMemory files later out same = ap (λ (n : ℕ). let counts : Counts = record { files = n; out = out } in counts) same
 

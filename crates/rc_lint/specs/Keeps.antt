@@ -24,8 +24,8 @@ LintKeeps request told old new status.WriteFault = ⊤
 LintKeeps request told old new (status.Refused why.NoMemory) = ⊤
 LintKeeps request told old new (status.Refused why.ReadFault) = new ≡ old
 LintKeeps request told old new (status.Refused why.NoInit) = (loaded told.world ≡ Err why.NoInit) × (new ≡ old)
-LintKeeps request told old new (status.Refused (why.TooLarge path number)) =
-    (loaded told.world ≡ Err (why.TooLarge path number)) × (new ≡ old)
+LintKeeps request told old new (status.Refused (why.TooLarge path limit number)) =
+    (loaded told.world ≡ Err (why.TooLarge path limit number)) × (new ≡ old)
 LintKeeps request told old new (status.Refused (why.TooMany path number)) =
     (loaded told.world ≡ Err (why.TooMany path number)) × (new ≡ old)
 
@@ -37,5 +37,5 @@ IsUnkept old new status.WriteFault = ⊤
 IsUnkept old new (status.Refused why.NoMemory) = ⊤
 IsUnkept old new (status.Refused why.ReadFault) = new ≡ old
 IsUnkept old new (status.Refused why.NoInit) = new ≡ old
-IsUnkept old new (status.Refused (why.TooLarge path number)) = new ≡ old
+IsUnkept old new (status.Refused (why.TooLarge path limit number)) = new ≡ old
 IsUnkept old new (status.Refused (why.TooMany path number)) = new ≡ old

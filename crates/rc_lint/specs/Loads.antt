@@ -8,6 +8,7 @@ use Rattle.prop_rules.specs.View.{view}
 use Rattle.rc_import.specs.Limits.{loaded as rc_files_of, onward}
 use Rattle.rc_import.specs.World.{IsWorld, World}
 use Rattle.rc_import.specs.declared.loaded.Loaded.{Loaded}
+use Rattle.rc_import.specs.declared.loaded.LoadLimit.TheVariants as limits
 use Rattle.rc_import.specs.declared.loaded.LoadRefusal.{LoadRefusal}
 use Rattle.rc_import.specs.declared.loaded.LoadRefusal.TheVariants.{TooLarge}
 
@@ -46,7 +47,7 @@ IsWorldOf told world = IsWorld told (view (pairs_of world.tree)) world
 
 -- a build file of more than 1,048,576 bytes is refused
 abbrev pub behind_build_file : {A : Type 0} → Tree → List ℕ → Result A LoadRefusal → Result A LoadRefusal
-behind_build_file tree path next = if nat_lt 1048576 (length (build_text tree path)) then Err (TooLarge path 1048577) else next
+behind_build_file tree path next = if nat_lt 1048576 (length (build_text tree path)) then Err (TooLarge path limits.FileBytes 1048577) else next
 
 -- the rc files, and the pairs and diagnostics of the build files before them
 abbrev pub with_build_files : Tree → Loaded → Loaded

@@ -58,8 +58,8 @@ LintSays request told old new status.WriteFault = ReportsFront request told old 
 LintSays request told old new (status.Refused why.NoMemory) = (new ≡ old) ⊎ ReportsFront request told old new
 LintSays request told old new (status.Refused why.ReadFault) = new ≡ old
 LintSays request told old new (status.Refused why.NoInit) = (loaded told.world ≡ Err why.NoInit) × (new ≡ old)
-LintSays request told old new (status.Refused (why.TooLarge path number)) =
-    (loaded told.world ≡ Err (why.TooLarge path number)) × (new ≡ old)
+LintSays request told old new (status.Refused (why.TooLarge path limit number)) =
+    (loaded told.world ≡ Err (why.TooLarge path limit number)) × (new ≡ old)
 LintSays request told old new (status.Refused (why.TooMany path number)) =
     (loaded told.world ≡ Err (why.TooMany path number)) × (new ≡ old)
 
@@ -71,5 +71,5 @@ IsUnwritten old new status.WriteFault = ⊤
 IsUnwritten old new (status.Refused why.NoMemory) = ⊤
 IsUnwritten old new (status.Refused why.ReadFault) = new ≡ old
 IsUnwritten old new (status.Refused why.NoInit) = new ≡ old
-IsUnwritten old new (status.Refused (why.TooLarge path number)) = new ≡ old
+IsUnwritten old new (status.Refused (why.TooLarge path limit number)) = new ≡ old
 IsUnwritten old new (status.Refused (why.TooMany path number)) = new ≡ old

@@ -23,6 +23,6 @@ AreCounted status.Faulty before now = now ≡ before
 AreCounted status.WriteFault before now = Rose before.out now.out × (now.files ≡ before.files)
 AreCounted (status.Refused why.ReadFault) before now = Rose before.files now.files × (now.out ≡ before.out)
 AreCounted (status.Refused why.NoInit) before now = now ≡ before
-AreCounted (status.Refused (why.TooLarge path number)) before now = now ≡ before
+AreCounted (status.Refused (why.TooLarge path limit number)) before now = now ≡ before
 AreCounted (status.Refused (why.TooMany path number)) before now = now ≡ before
 AreCounted (status.Refused why.NoMemory) before now = now ≡ before

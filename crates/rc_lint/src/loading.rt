@@ -10,7 +10,7 @@ ghost use Rattle.rc_lint.specs.Code.Steps.{GivesBuildFile, GivesBuildFiles, Give
 use init_base::{Files, ReadRefusal, Text};
 use init_machine::Config;
 use prop_rules::{BuildProps, boot_view, build_props};
-use rc_import::{LoadRefusal, Loaded};
+use rc_import::{LoadLimit, LoadRefusal, Loaded};
 use std::alloc::Global;
 
 /// The most bytes of a build file.
@@ -36,6 +36,7 @@ fn read_text<F: Files>(alloc: Global, files: &mut F, path: &Text) -> Result<Text
         Err(ReadRefusal::Failed) => Err(LoadRefusal::ReadFault),
         Err(ReadRefusal::TooLarge) => Err(LoadRefusal::TooLarge {
             path: path.share()?,
+            limit: LoadLimit::FileBytes,
             number: BYTES_OF_LONG_FILE,
         }),
         Err(ReadRefusal::NoMemory) => Err(LoadRefusal::NoMemory),

@@ -4,8 +4,8 @@ use crate::status::Status;
 use init_base::{Fault, Text};
 use lint_baseline::BaselineRefusal;
 use rc_import::LoadRefusal;
-use std::io;
 use std::string::String;
+use std::{fmt, io};
 
 /// Prints why there is no report, and behind it which path was meant and what the system said, where it said anything and
 /// there is memory for it.
@@ -30,7 +30,7 @@ fn tell_refusal(rt: &HostRuntime, refusal: &LoadRefusal, fault: Option<&Fault>) 
             eprintln!(rt; "rc-lint: read fault")?;
             tell_fault(rt, fault)
         }
-        LoadRefusal::TooLarge { path, number } => tell_limit(rt, "too large", path, *number),
+        LoadRefusal::TooLarge { path, number, .. } => tell_limit(rt, "too large", path, *number),
         LoadRefusal::TooMany { path, number } => tell_limit(rt, "too many files", path, *number),
         LoadRefusal::NoMemory => eprintln!(rt; "rc-lint: no memory"),
     }
@@ -80,7 +80,7 @@ pub fn tell_no_file(rt: &HostRuntime, path: &Text) -> io::Result<()> {
 /// The limit that a path passes.
 fn tell_limit(rt: &HostRuntime, what: &str, path: &Text, number: u64) -> io::Result<()> {
     let path = String::from_utf8_lossy(rt.alloc(), path.bytes())?;
-    eprintln!(rt; "rc-lint: {what}: {path}: {number}")
+    eprintln!(rt; "rc-lint: {what}: {}: {number}", OneLine(path.as_str()))
 }
 
 /// What the system said. Its number of the error is left out behind its words.
@@ -96,5 +96,18 @@ fn tell_fault(rt: &HostRuntime, fault: Option<&Fault>) -> io::Result<()> {
     };
     let line = line.as_str();
     let said = line.strip_suffix(number.as_str()).unwrap_or(line);
-    eprintln!(rt; "rc-lint: {said}")
+    eprintln!(rt; "rc-lint: {}", OneLine(said))
+}
+
+/// A text in one line: a control character is shown as `?`, as on the page.
+#[derive(Clone, Copy)]
+struct OneLine<'a>(&'a str);
+
+impl fmt::Display for OneLine<'_> {
+    fn fmt<W: fmt::Write>(&self, f: &mut fmt::Formatter<W>) -> fmt::Result {
+        for shown in self.0.chars() {
+            f.write_char(if shown.is_control() { '?' } else { shown })?;
+        }
+        Ok(())
+    }
 }

@@ -6,5 +6,4 @@ pub mod ContextLines
 pub mod ContextCauses
 pub mod Refusals
 pub mod AllowCauses
-pub mod StoreLines
-pub mod StoreCauses
+pub mod StoreFaults

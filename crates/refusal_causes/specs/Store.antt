@@ -1,110 +1,104 @@
--- Why a line of the persistent store's text is bad: the line `persist 1`, and then a line NAME VALUE for each pair.
-use Rattle.std.specs.Prelude.{◌≡◌, ℕ, ◌+◌, ◌-◌, ◌==◌, Bool, not, ◌&&◌, nat_eq, nat_le, if◌then◌else◌, List, [], ◌∷◌, length, drop, take, position, codes, slice_get, Option, Some, None, option_map, Result, Ok, Err}
-use Rattle.std.specs.List.{ends_with, starts_with}
-use Rattle.std.specs.Option.{option_or}
+-- What is wrong with the first line of the persistent store's text that doesn't fit: its cause, with what stands there.
+use Rattle.std.specs.Prelude.{◌≡◌, ℕ, ◌-◌, ◌==◌, Bool, not, ◌&&◌, nat_eq, if◌then◌else◌, List, [], ◌∷◌, length, slice_get, Option, Some, None}
+use Rattle.std.specs.List.{ends_with}
 use Rattle.std.specs.Str.{bytes_eq}
-use Rattle.hex.specs.Hex.{decode_of}
 use Rattle.init_base.specs.Name.{is_legal_name}
 use Rattle.init_base.specs.Value.{short_value_fault}
-use Rattle.init_machine.specs.Pairs.{is_before}
-use Rattle.persist_file.specs.Store.{IsUnfitAt, value_text}
+use Rattle.init_base.specs.declared.value.BadValue.{BadValue}
+use Rattle.persist_file.specs.Causes.{value_in, version_of, words_in, IsUnfitAt, Words}
+use Rattle.persist_file.specs.declared.refusal.StoreCause.{StoreCause}
+use Rattle.persist_file.specs.declared.refusal.StoreCause.TheVariants as cause
+use Rattle.persist_file.specs.declared.version.Version.{Version}
+use Rattle.persist_file.specs.declared.version.Version.TheVariants.{First, Second}
 use Rattle.script_lang.specs.Lines.{lines_of}
-use Rattle.refusal_causes.specs.declared.store.cause.StoreCause.{StoreCause}
-use Rattle.refusal_causes.specs.declared.store.cause.StoreCause.TheVariants as cause
+use Rattle.refusal_causes.specs.declared.store.cause.StoreFault.{StoreFault}
+use Rattle.refusal_causes.specs.declared.store.cause.StoreFault.TheVariants as fault
 
--- what parts a name and a value
-abbrev pub is_space : ℕ → Bool
-is_space b = b == 32
+abbrev pub or_empty : Option (List ℕ) → List ℕ
+or_empty None = []
+or_empty (Some line) = line
 
--- ---- names
+-- the line with a number, from 1; the empty one where there is none
+abbrev pub line_at : List (List ℕ) → ℕ → List ℕ
+line_at lines number = or_empty (slice_get lines (number - 1))
 
-abbrev pub name_cause : List ℕ → Option StoreCause
-name_cause name =
-    if not (is_legal_name name) then Some (cause.IllegalName name)
-    else if not (starts_with nat_eq name (codes "persist.")) then Some (cause.NotPersistent name)
-    else None
+abbrev pub or_first : Option Version → Version
+or_first None = First
+or_first (Some version) = version
 
-abbrev pub front_of : List ℕ → Option ℕ → List ℕ
-front_of line None = line
-front_of line (Some at) = take at line
+-- the version of a text; one whose first line is that of none counts as version 1
+abbrev pub version_in : List (List ℕ) → Version
+version_in lines = or_first (version_of (line_at lines 1))
 
--- the name of a line
-abbrev pub name_of : List ℕ → List ℕ
-name_of line = front_of line (position is_space line)
+abbrev pub name_of : Option Words → List ℕ
+name_of None = []
+name_of (Some words) = words.name
 
-abbrev pub disorder : List ℕ → List ℕ → ℕ → Option StoreCause
-disorder earlier name number =
-    if is_before earlier name then None
-    else if bytes_eq earlier name then Some (cause.Twice name number)
-    else Some (cause.OutOfOrder name number)
+-- the name of a line; one that hasn't its version's words has the empty one
+abbrev pub name_in : Version → List ℕ → List ℕ
+name_in version line = name_of (words_in version line)
 
--- a name behind the line before, which has this number; the first line has none
-abbrev pub order_cause : List ℕ → ℕ → List ℕ → Option StoreCause
-order_cause before number name = if nat_le number 1 then None else disorder (name_of before) name number
+-- the line with this number is the last of so many, and the text doesn't end with LF (10)
+abbrev pub lacks_end : List ℕ → ℕ → ℕ → Bool
+lacks_end bytes count number = not (ends_with nat_eq bytes (10 ∷ [])) && count == number
 
--- ---- values
+abbrev pub shape_fault : Version → Bool → StoreFault
+shape_fault version is_cut = if is_cut then fault.NoEnd else fault.NoWords version
 
-abbrev pub printed_so : List ℕ → {E : Type 0} → Result (List ℕ) E → Option (List ℕ)
-printed_so text (Ok value) = if bytes_eq (value_text value) text then Some value else None
-printed_so text (Err fault) = None
+abbrev pub name_fault : List ℕ → StoreFault
+name_fault name = if is_legal_name name then fault.NotPersistent name else fault.IllegalName name
 
--- the bytes whose text this is, however many
-abbrev pub value_of : List ℕ → Option (List ℕ)
-value_of text = if bytes_eq text (codes "-") then Some [] else printed_so text (decode_of text)
+-- behind the line of this name and number
+abbrev pub order_fault : List ℕ → ℕ → List ℕ → StoreFault
+order_fault before number name = if bytes_eq before name then fault.Twice name number else fault.OutOfOrder name number
 
-abbrev pub legal_cause : List ℕ → Option StoreCause
-legal_cause value = option_map cause.IllegalValue (short_value_fault value)
+abbrev pub misspelled : Version → List ℕ → StoreFault
+misspelled First word = fault.NotHex word
+misspelled Second word = fault.NotQuoted word
 
-abbrev pub spelled_cause : List ℕ → Option (List ℕ) → Option StoreCause
-spelled_cause text None = Some (cause.NotHex text)
-spelled_cause text (Some value) = legal_cause value
+abbrev pub legal_fault : List ℕ → List ℕ → Option BadValue → StoreFault
+legal_fault kind value None = fault.NotTyped kind value
+legal_fault kind value (Some why) = fault.IllegalValue why
 
-abbrev pub value_cause : List ℕ → Option StoreCause
-value_cause text = spelled_cause text (value_of text)
+abbrev pub spelled_fault : Version → List ℕ → List ℕ → Option (List ℕ) → StoreFault
+spelled_fault version kind word None = misspelled version word
+spelled_fault version kind word (Some value) = legal_fault kind value (short_value_fault value)
 
--- ---- lines
+abbrev pub value_fault : Version → List ℕ → List ℕ → StoreFault
+value_fault version kind word = spelled_fault version kind word (value_in version word)
 
-abbrev pub parted_cause : List ℕ → ℕ → List ℕ → Option ℕ → Option StoreCause
-parted_cause before number line None = Some cause.NoSpace
-parted_cause before number line (Some at) =
-    option_or (name_cause (take at line)) (option_or (order_cause before number (take at line)) (value_cause (drop (at + 1) line)))
+-- the words of a line behind one of this name and number
+abbrev pub words_fault : Version → List ℕ → ℕ → Words → StoreCause → StoreFault
+words_fault version before earlier words cause.Head = name_fault words.name
+words_fault version before earlier words cause.Shape = name_fault words.name
+words_fault version before earlier words cause.Name = name_fault words.name
+words_fault version before earlier words cause.Order = order_fault before earlier words.name
+words_fault version before earlier words cause.Kind = fault.NoKind words.kind
+words_fault version before earlier words cause.Value = value_fault version words.kind words.value
 
--- the line of a pair behind a line that has this number: the name's form, its place, and then the value
-abbrev pub pair_cause : List ℕ → ℕ → List ℕ → Option StoreCause
-pair_cause before number line = parted_cause before number line (position is_space line)
+abbrev pub line_fault : Version → Bool → List ℕ → ℕ → Option Words → StoreCause → StoreFault
+line_fault version is_cut before earlier None why = shape_fault version is_cut
+line_fault version is_cut before earlier (Some words) why = words_fault version before earlier words why
 
-abbrev pub head_cause : List ℕ → Option StoreCause
-head_cause line = if bytes_eq line (codes "persist 1") then None else Some cause.NoHead
+abbrev pub by_words : List (List ℕ) → Bool → ℕ → StoreCause → StoreFault
+by_words lines is_cut number why =
+    let version = version_in lines in
+    line_fault version is_cut (name_in version (line_at lines (number - 1))) (number - 1) (words_in version (line_at lines number)) why
 
--- a line that isn't the first, behind the line before it
-abbrev pub later_cause : ℕ → Option (List ℕ) → Option (List ℕ) → Option StoreCause
-later_cause place None line = None
-later_cause place (Some before) None = None
-later_cause place (Some before) (Some line) = pair_cause before place line
+abbrev pub fault_at : List (List ℕ) → Bool → ℕ → StoreCause → StoreFault
+fault_at lines is_cut number cause.Head = fault.NoHead
+fault_at lines is_cut number cause.Shape = shape_fault (version_in lines) is_cut
+fault_at lines is_cut number cause.Name = by_words lines is_cut number cause.Name
+fault_at lines is_cut number cause.Order = by_words lines is_cut number cause.Order
+fault_at lines is_cut number cause.Kind = by_words lines is_cut number cause.Kind
+fault_at lines is_cut number cause.Value = by_words lines is_cut number cause.Value
 
-abbrev pub first_cause : Option (List ℕ) → Option StoreCause
-first_cause None = None
-first_cause (Some line) = head_cause line
+-- what is wrong with the line with this number, from 1, by its cause
+abbrev pub fault_of : List ℕ → ℕ → StoreCause → StoreFault
+fault_of bytes number why = fault_at (lines_of bytes) (lacks_end bytes (length (lines_of bytes)) number) number why
 
-abbrev pub place_cause : List (List ℕ) → ℕ → Option StoreCause
-place_cause lines place =
-    if place == 0 then first_cause (slice_get lines place) else later_cause place (slice_get lines (place - 1)) (slice_get lines place)
-
--- the last line of a text doesn't end with LF
-abbrev pub is_open : List ℕ → Bool
-is_open bytes = not (ends_with nat_eq bytes (10 ∷ []))
-
-abbrev pub end_cause : ℕ → ℕ → Bool → Option StoreCause
-end_cause count place unended = if unended && (place + 1) == count then Some cause.NoEnd else None
-
--- the cause of the line with this number, from 1. None where it isn't bad, or isn't there.
-abbrev pub numbered_cause : List ℕ → ℕ → Option StoreCause
-numbered_cause bytes number =
-    let lines = lines_of bytes in
-    let place = number - 1 in
-    if nat_le (length lines) place then None else option_or (place_cause lines place) (end_cause (length lines) place (is_open bytes))
-
--- the line with this number is the first bad one of the store's text, and this is why
-pub record IsStoreCause (bytes : List ℕ) (number : ℕ) (why : StoreCause) : Type 0 where
-  pub bad : IsUnfitAt bytes number
-  pub cause_is : numbered_cause bytes number ≡ Some why
+-- the line with this number is the first of the store's text that doesn't fit, and this is wrong with it
+pub record IsStoreFault (bytes : List ℕ) (number : ℕ) (found : StoreFault) : Type 0 where
+  pub cause : StoreCause
+  pub bad : IsUnfitAt bytes number cause
+  pub fault_is : found ≡ fault_of bytes number cause

@@ -16,5 +16,5 @@ pub use policy::{allow_cause, context_cause};
 pub use said::quoted::ShownPath;
 pub use script::cause::ScriptCause;
 pub use script::script_cause;
-pub use store::cause::StoreCause;
+pub use store::cause::StoreFault;
 pub use store::store_cause;

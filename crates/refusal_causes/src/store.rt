@@ -1,121 +1,168 @@
-//! Why a line of the persistent store's text is bad. The causes are defined in `specs/Store.antt`.
+//! Why a line of the persistent store's text is bad, in words. What is said is defined in `specs/Store.antt`.
 
-ghost use Rattle.std.specs.Prelude.{◌≡◌, ◌<◌, ◌≤◌, ◌↔◌, ℕ, IfOk, IsTrue, List as Bytes, MatchOption, length};
-ghost use Rattle.refusal_causes.specs.Store.{IsStoreCause, end_cause as end_cause_lem, head_cause as head_cause_lem, is_open as is_open_lem, place_cause as place_cause_lem, numbered_cause as numbered_cause_lem};
-ghost use Rattle.persist_file.specs.Store.{IsRefused, IsUnfitAt};
+ghost use Rattle.std.specs.Prelude.{◌≡◌, ◌≤◌, ◌==◌, ℕ, IfOk, List as Bytes, MatchOption, if◌then◌else◌, length};
+ghost use Rattle.persist_file.specs.Causes.{IsRefused, IsUnfitAt};
+ghost use Rattle.persist_file.specs.declared.refusal.StoreCause.{StoreCause as AnyCause};
+ghost use Rattle.refusal_causes.specs.Store.{IsStoreFault, fault_at as fault_at_lem, fault_of as fault_of_lem, line_at as line_at_lem, lacks_end as lacks_end_lem, shape_fault as shape_fault_lem, version_in as version_in_lem, words_fault as words_fault_lem};
 
 pub mod cause;
-mod pair;
-mod value;
+mod words;
 
 use crate::lines::lines;
-use cause::StoreCause;
+use cause::StoreFault;
 use init_base::{List, NoMemory, Text};
-use pair::pair_cause;
-use persist_file::{StoreRefusal, each_text_has_one_reading};
+use persist_file::{
+    StoreCause, StoreRefusal, Version, Words, each_text_has_one_reading, version_of, words_in,
+};
 use std::alloc::Global;
+use words::{name_fault, name_in, order_fault, value_fault};
 
-/// Why the line with this number is the first bad one of a store's text, from 1. None exactly where it isn't.
-#[tactic(auto, using(crate::proofs::StoreCauses::is_told))]
-pub fn store_cause(alloc: Global, bytes: &[u8], number: u32) -> Result<Option<StoreCause>, NoMemory>
+/// What is wrong with the line with this number, where it is the first of a store's text that doesn't fit, from 1. None exactly
+/// where it isn't.
+#[tactic(auto, using(crate::proofs::StoreFaults::is_told))]
+pub fn store_cause(alloc: Global, bytes: &[u8], number: u32) -> Result<Option<StoreFault>, NoMemory>
     requires { length bytes.now ≤ 33554432 }
-    ensures { IfOk result (λ cause. MatchOption cause (¬ IsUnfitAt bytes.now number) (IsStoreCause bytes.now number)) }
+    ensures { IfOk result (λ fault. MatchOption fault ((why : AnyCause) → ¬ IsUnfitAt bytes.now number why) (IsStoreFault bytes.now number)) }
 {
-    if is_first_bad(alloc, bytes, number)? {
-        numbered_cause(alloc, bytes, number)
-    } else {
-        Ok(None)
+    match first_cause(alloc, bytes, number)? {
+        Some(cause) => Ok(Some(fault_of(alloc, bytes, number, cause)?)),
+        None => Ok(None),
     }
 }
 
-/// Whether the line with this number is the first bad one.
-fn is_first_bad(alloc: Global, bytes: &[u8], number: u32) -> Result<bool, NoMemory>
+/// Why the line with this number doesn't fit, where it is the first that doesn't.
+fn first_cause(alloc: Global, bytes: &[u8], number: u32) -> Result<Option<StoreCause>, NoMemory>
     requires { length bytes.now ≤ 33554432 }
-    ensures { IfOk result (λ is. IsTrue is ↔ IsUnfitAt bytes.now number) }
+    ensures { IfOk result (λ cause. MatchOption cause ((why : AnyCause) → ¬ IsUnfitAt bytes.now number why) (IsUnfitAt bytes.now number)) }
 {
     match refusal_of(alloc, bytes) {
-        Some(refusal) => is_at(refusal, number),
-        None => Ok(false),
+        Some(refusal) => cause_at(refusal, number),
+        None => Ok(None),
     }
 }
 
 /// Why bytes are no store.
 fn refusal_of(alloc: Global, bytes: &[u8]) -> Option<StoreRefusal>
     requires { length bytes.now ≤ 33554432 }
-    ensures { MatchOption result ((number : ℕ) → ¬ IsUnfitAt bytes.now number) (IsRefused bytes.now) }
+    ensures { MatchOption result ((number : ℕ) (why : AnyCause) → ¬ IsUnfitAt bytes.now number why) (IsRefused bytes.now) }
 {
     each_text_has_one_reading();
     persist_file::read(alloc, bytes).err()
 }
 
-/// Whether a refusal is of this line.
-fn is_at(refusal: StoreRefusal, number: u32) -> Result<bool, NoMemory>
-    ensures { (bytes : Bytes ℕ) → IsRefused bytes refusal → IfOk result (λ is. IsTrue is ↔ IsUnfitAt bytes number) }
+/// The cause of a refusal that is of this line.
+fn cause_at(refusal: StoreRefusal, number: u32) -> Result<Option<StoreCause>, NoMemory>
+    ensures { (bytes : Bytes ℕ) → IsRefused bytes refusal →
+        IfOk result (λ cause. MatchOption cause ((why : AnyCause) → ¬ IsUnfitAt bytes number why) (IsUnfitAt bytes number)) }
 {
     each_text_has_one_reading();
     match refusal {
-        StoreRefusal::BadLine { line } => Ok(line == number),
+        StoreRefusal::BadLine { line, cause } => Ok(at_line(line, cause, number)),
         StoreRefusal::NoMemory => Err(NoMemory),
     }
 }
 
-/// Why the line with this number is bad. None where it isn't, or isn't there.
-fn numbered_cause(alloc: Global, bytes: &[u8], number: u32) -> Result<Option<StoreCause>, NoMemory>
-    ensures { IfOk result (λ cause. cause ≡ numbered_cause_lem bytes.now number) }
+/// The cause of a line, if it is this one.
+fn at_line(line: u32, cause: StoreCause, number: u32) -> Option<StoreCause>
+    ensures { result ≡ (if line == number then Some cause else None) }
+{
+    if line == number { Some(cause) } else { None }
+}
+
+/// What is wrong with a line, by its cause.
+fn fault_of(
+    alloc: Global,
+    bytes: &[u8],
+    number: u32,
+    cause: StoreCause,
+) -> Result<StoreFault, NoMemory>
+    ensures { IfOk result (λ fault. fault ≡ fault_of_lem bytes.now number cause) }
 {
     let lines = lines(alloc, bytes)?;
-    let at = number.saturating_sub(1) as usize;
-    if at >= lines.len() {
-        return Ok(None);
-    }
-    match place_cause(alloc, &lines, at)? {
-        Some(cause) => Ok(Some(cause)),
-        None => Ok(end_cause(lines.len(), at, is_open(bytes))),
+    let is_cut = lacks_end(bytes, lines.len(), number);
+    fault_at(alloc, &lines, is_cut, number, cause)
+}
+
+fn fault_at(
+    alloc: Global,
+    lines: &List<Text>,
+    is_cut: bool,
+    number: u32,
+    cause: StoreCause,
+) -> Result<StoreFault, NoMemory>
+    ensures { IfOk result (λ fault. fault ≡ fault_at_lem lines.now is_cut number cause) }
+{
+    let version = version_in(lines);
+    match cause {
+        StoreCause::Head => Ok(StoreFault::NoHead),
+        StoreCause::Shape => Ok(shape_fault(version, is_cut)),
+        _ => match words_in(version, line_at(lines, number)) {
+            Some(words) => {
+                let earlier = number.saturating_sub(1);
+                let before = name_in(version, line_at(lines, earlier));
+                words_fault(alloc, version, before, earlier, words, cause)
+            }
+            None => Ok(shape_fault(version, is_cut)),
+        },
     }
 }
 
-/// Why the line at a place is bad, whether or not it ends.
-fn place_cause(alloc: Global, lines: &List<Text>, at: usize) -> Result<Option<StoreCause>, NoMemory>
-    ensures { IfOk result (λ cause. cause ≡ place_cause_lem lines.now at) }
+/// What is wrong with the words of a line behind one that has this name and number.
+fn words_fault(
+    alloc: Global,
+    version: Version,
+    before: &[u8],
+    earlier: u32,
+    words: Words<'_>,
+    cause: StoreCause,
+) -> Result<StoreFault, NoMemory>
+    ensures { IfOk result (λ fault. fault ≡ words_fault_lem version before.now earlier
+        (record { name = words.entry.name.now; kind = words.entry.kind.now; value = words.entry.value.now }) cause) }
 {
-    let Some(line) = lines.at(at) else {
-        return Ok(None);
-    };
-    if at == 0 {
-        return Ok(head_cause(line.bytes()));
-    }
-    match lines.at(at - 1) {
-        Some(before) => pair_cause(alloc, before.bytes(), at, line.bytes()),
-        None => Ok(None),
+    match cause {
+        StoreCause::Order => order_fault(alloc, before, earlier, words.name),
+        StoreCause::Kind => Ok(StoreFault::NoKind {
+            given: Text::of(alloc, words.kind)?,
+        }),
+        StoreCause::Value => value_fault(alloc, version, words.kind, words.value),
+        _ => name_fault(alloc, words.name),
     }
 }
 
-/// Why a line isn't the first one.
-fn head_cause(line: &[u8]) -> Option<StoreCause>
-    ensures { result ≡ head_cause_lem line.now }
+/// What is wrong with a line that hasn't its version's words, or its end.
+fn shape_fault(version: Version, is_cut: bool) -> StoreFault
+    ensures { result ≡ shape_fault_lem version is_cut }
 {
-    if line == b"persist 1".as_slice() {
-        None
+    if is_cut {
+        StoreFault::NoEnd
     } else {
-        Some(StoreCause::NoHead)
+        StoreFault::NoWords { version }
     }
 }
 
-/// What is wrong where the last line of a text doesn't end.
-fn end_cause(count: usize, at: usize, is_open: bool) -> Option<StoreCause>
-    requires { at < count }
-    ensures { result ≡ end_cause_lem count at is_open }
+/// The version of a text. One whose first line is that of none counts as version 1.
+fn version_in(lines: &List<Text>) -> Version
+    ensures { result ≡ version_in_lem lines.now }
 {
-    if is_open && at + 1 == count {
-        Some(StoreCause::NoEnd)
-    } else {
-        None
+    match version_of(line_at(lines, 1)) {
+        Some(version) => version,
+        None => Version::First,
     }
 }
 
-/// Whether the last line of a text doesn't end.
-fn is_open(bytes: &[u8]) -> bool
-    ensures { result ≡ is_open_lem bytes.now }
+/// The line with a number, from 1; the empty one where there is none.
+fn line_at(lines: &List<Text>, number: u32) -> &[u8]
+    ensures { result.now ≡ line_at_lem lines.now number }
 {
-    !bytes.ends_with(b"\n")
+    match lines.at(number.saturating_sub(1) as usize) {
+        Some(line) => line.bytes(),
+        None => b"",
+    }
+}
+
+/// Whether the line with this number is the last of so many, and the text doesn't end with LF.
+fn lacks_end(bytes: &[u8], count: usize, number: u32) -> bool
+    ensures { result ≡ lacks_end_lem bytes.now count number }
+{
+    !bytes.ends_with(b"\n") && count == number as usize
 }

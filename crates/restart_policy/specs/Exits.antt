@@ -1,11 +1,11 @@
 -- The counted exits of critical services, by place.
-use Rattle.std.specs.Prelude.{ℕ, Bool, nat_lt, List, slice_index_or}
+use Rattle.std.specs.Prelude.{ℕ, Bool, nat_lt, List, length, slice_index_or}
 use Rattle.init_machine.specs.Reaping.{counted}
 use Rattle.init_machine.specs.State.{Exits, no_exits}
 use Rattle.restart_policy.specs.declared.exits.Counted.{Counted}
 
 abbrev pub counted_of : Counted → Exits
-counted_of e = record { count = e.count; since = e.since }
+counted_of e = record { count = length e.exits; since = e.since }
 
 -- the exits at a place, and one more (a place that has no service isn't asked for)
 abbrev pub exits_behind : List Exits → ℕ → ℕ → Bool → ℕ → Exits

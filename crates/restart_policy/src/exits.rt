@@ -1,6 +1,6 @@
 //! The counted exits of critical services.
 
-use init_base::{Millis, NoMemory};
+use init_base::{List, Millis, NoMemory};
 use std::alloc::Global;
 use std::marker::Model;
 
@@ -11,10 +11,10 @@ pub struct ExitCounts {
 }
 
 impl Model for ExitCounts {
-    ghost use Rattle.std.specs.Prelude.{List, map};
+    ghost use Rattle.std.specs.Prelude.{List as Items, map};
     ghost use Rattle.init_machine.specs.State.{Exits};
 
-    ghost Value = { List Exits };
+    ghost Value = { Items Exits };
 
     ghost use Rattle.restart_policy.specs.Exits.{counted_of};
 
@@ -36,7 +36,7 @@ impl ExitCounts {
     }
 
     /// Counts an exit of the critical service at a place, whose window is so long, and answers whether it was one too
-    /// many. A count that no `u64` holds is `NoMemory`.
+    /// many.
     pub fn count(
         &mut self,
         at: usize,
@@ -49,47 +49,45 @@ impl ExitCounts {
         ensures fatal { IfOk result (λ fatal. fatal ≡ is_fatal (exits_behind self.old at window.0 booted now.0)) }
         ensures err { OnErr result (self.new ≡ self.old) }
     {
-        let exits = self.counts[at].one_more(window, booted, now)?;
-        self.counts[at] = exits;
+        let exits = &mut self.counts[at];
+        exits.add(window, booted, now)?;
         Ok(exits.is_fatal())
     }
 }
 
-ghost use Rattle.std.specs.Prelude.{◌≡◌, IfOk, map, replicate};
+ghost use Rattle.std.specs.Prelude.{◌≡◌, IfOk, OnOk, OnErr, map, replicate};
 ghost use Rattle.init_machine.specs.Reaping.{counted};
 ghost use Rattle.init_machine.specs.State.{no_exits};
 ghost use Rattle.restart_policy.specs.Exits.{counted_of, is_fatal};
 
-/// How many exits were counted, and since when.
-#[derive(Clone, Copy)]
+/// The times of the exits that are counted, and since when they are. Memory alone bounds how many they are.
+#[derive(Drop)]
 struct Counted {
-    count: u64,
+    exits: List<Millis>,
     since: u64,
 }
 
 impl Counted {
     /// One exit more: while boot isn't completed, or within the window, the count rises; else a new window begins.
-    fn one_more(self, window: Millis, booted: bool, now: Millis) -> Result<Counted, NoMemory>
-        ensures { IfOk result (λ exits. counted_of exits ≡ counted booted now.0 window.0 (counted_of self)) }
+    fn add(&mut self, window: Millis, booted: bool, now: Millis) -> Result<(), NoMemory>
+        ensures ok { OnOk result (counted_of self.new ≡ counted booted now.0 window.0 (counted_of self.old)) }
+        ensures err { OnErr result (self.new ≡ self.old) }
     {
         let is_within = now.0 < self.since || now.0 - self.since < window.0;
+        self.exits.push(now)?;
         if booted && !is_within {
-            return Ok(Counted {
-                count: 1,
-                since: now.0,
-            });
+            self.exits.truncate(1);
+            self.exits.set(0, now);
+            self.since = now.0;
         }
-        match self.count.checked_add(1) {
-            Some(count) => Ok(Counted { count, ..self }),
-            None => Err(NoMemory),
-        }
+        Ok(())
     }
 
     /// Whether the machine reboots after these exits: the fifth one is one too many.
-    fn is_fatal(self) -> bool
-        ensures { result ≡ is_fatal (counted_of self) }
+    fn is_fatal(&self) -> bool
+        ensures { result ≡ is_fatal (counted_of self.now) }
     {
-        self.count > 4
+        self.exits.len() > 4
     }
 }
 
@@ -99,7 +97,10 @@ fn none_each(alloc: Global, count: usize) -> Result<Vec<Counted>, NoMemory>
 {
     let mut exits = Vec::with_capacity(alloc, count)?;
     for _ in 0..count {
-        exits.push(Counted { count: 0, since: 0 })?;
+        exits.push(Counted {
+            exits: List::new(alloc),
+            since: 0,
+        })?;
     }
     Ok(exits)
 }

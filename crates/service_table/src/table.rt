@@ -2,8 +2,9 @@
 
 use crate::class::{Classes, copied, index_classes};
 use crate::fresh::{first_marks, index_names};
+use crate::operation::step;
 use init_base::{List, NoMemory};
-use init_machine::{Marks, ServiceDef};
+use init_machine::{Marks, Move, Op, ServiceDef};
 use std::alloc::Global;
 use std::marker::Model;
 use text_index::TextIndex;
@@ -34,7 +35,7 @@ impl Model for Table {
 impl Table {
     ghost use Rattle.std.specs.Prelude.{◌≡◌, ◌<◌, IsTrue, IfOk, Some, length, slice_get};
     ghost use Rattle.init_machine.specs.WellFormed.{are_distinct};
-    ghost use Rattle.service_table.specs.Table.{first_table, names_of, place_named, places_of_class, with_marks};
+    ghost use Rattle.service_table.specs.Table.{first_table, move_of, names_of, place_named, places_of_class, with_op};
 
     /// The table of services that were just declared: the marks are those of the options.
     pub fn new(alloc: Global, defs: List<ServiceDef>) -> Result<Table, NoMemory>
@@ -90,11 +91,12 @@ impl Table {
         &self.defs.items()[at]
     }
 
-    /// Puts marks in place of those of the service at a place.
-    pub fn put(&mut self, at: usize, marks: Marks)
+    /// Does an operation to the service at a place, and answers what follows from it. It takes no memory.
+    pub fn apply(&mut self, at: usize, op: Op) -> Move
         requires { at < length self.old.defs }
-        ensures { self.new ≡ with_marks self.old at marks }
+        ensures table { self.new ≡ with_op self.old at op }
+        ensures todo { result ≡ move_of self.old at op }
     {
-        self.marks[at] = marks;
+        step(&mut self.marks[at], op)
     }
 }

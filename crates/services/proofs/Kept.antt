@@ -1,6 +1,7 @@
 -- The times of services by their marks: at first, when the marks at one place change, and those that have come.
 use Rattle.std.proofs.Common.{◌≡◌, ◌≢◌, ℕ, zero, suc, ◌+◌, ◌<◌, Bool, true, false, ◌&&◌, nat_le, List, [], ◌∷◌, map, set, get_or, length, replicate, slice_get, Option, Some, None, is_some, refl, sym, ap, ◌∙◌, subst, arith, if◌then◌else◌}
 use Rattle.std.proofs.lemmas.List.{get_or-set_other, get_or-set_same, length-map}
+use Rattle.std.proofs.lemmas.Grind.{common_steps}
 use Rattle.std.proofs.lemmas.List.FromFn.{length-enumerate_from}
 use Rattle.std.specs.List.{cons_option, enumerate_from, filter_map}
 use Rattle.std.specs.Option.{option_map}
@@ -11,7 +12,7 @@ use Rattle.init_machine.specs.declared.service.Marks.{Marks}
 use Rattle.init_machine.specs.declared.service.ServiceDef.{ServiceDef}
 use Rattle.restart_policy.specs.Times.{has_come, place_if_come, places_due}
 use Rattle.services.specs.Services.{ServicesView, places_now, places_due as places_due_of, places_timed_out}
-use Rattle.services.specs.Times.{restart_time, time_at, times_of, timeout_time}
+use Rattle.services.specs.Times.{kept_restart, kept_timeout, restart_time, time_at, times_of, timeout_time, within_reach}
 
 -- as many values as there are others
 pub same_each : {A B : Type 0} (x : B) (others : List A) → replicate (length others) x ≡ map (λ other. x) others
@@ -94,11 +95,11 @@ module _ (time : ServiceDef → Marks → Option ℕ) (none : (service : Service
   none_kept defs = none_from (λ n. get_or (marks_first defs) n unmarked) 0 defs (λ service n. none_first service defs n)
 
 -- no service that was just declared restarts or is timed out
-pub no_restarts : (defs : List ServiceDef) → replicate (length defs) None ≡ times_of restart_time defs (marks_first defs)
-no_restarts = none_kept restart_time (λ service disabled oneshot. refl)
+pub no_restarts : (defs : List ServiceDef) → replicate (length defs) None ≡ times_of kept_restart defs (marks_first defs)
+no_restarts = none_kept kept_restart (λ service disabled oneshot. refl)
 
-pub no_timeouts : (defs : List ServiceDef) → replicate (length defs) None ≡ times_of timeout_time defs (marks_first defs)
-no_timeouts = none_kept timeout_time (λ service disabled oneshot. refl)
+pub no_timeouts : (defs : List ServiceDef) → replicate (length defs) None ≡ times_of kept_timeout defs (marks_first defs)
+no_timeouts = none_kept kept_timeout (λ service disabled oneshot. refl)
 
 -- the places whose times have come are those of the services that pass
 module _ (now : ℕ) (time : ServiceDef → Marks → Option ℕ) (passes : ServiceDef → Marks → Bool) (same : (service : ServiceDef) (m : Marks) → has_come now (time service m) ≡ passes service m) where
@@ -110,6 +111,18 @@ module _ (now : ℕ) (time : ServiceDef → Marks → Option ℕ) (passes : Serv
 
   places_come : (s : ServicesView) → places_due now (times_of time s.defs s.marks) ≡ places_now passes s
   places_come s = come_from (λ n. get_or s.marks n unmarked) 0 s.defs
+
+too_late : (time now : ℕ) → nat_le time 18446744073709551615 ≡ false → now < 18446744073709551616 → nat_le time now ≡ false
+too_late time now late reached = grind (arith, common_steps)
+
+-- a time that no clock reaches has not come
+come_if_reached : (now : ℕ) (time : Option ℕ) → now < 18446744073709551616 → has_come now (within_reach time) ≡ has_come now time
+come_if_reached now None reached = refl
+come_if_reached now (Some time) reached = by (nat_le time 18446744073709551615) refl
+  where
+    by : (b : Bool) → nat_le time 18446744073709551615 ≡ b → has_come now (if b then Some time else None) ≡ nat_le time now
+    by true is = refl
+    by false is = sym (too_late time now is reached)
 
 due_when_come : (now : ℕ) (service : ServiceDef) (m : Marks) → has_come now (restart_time service m) ≡ is_due now service m
 due_when_come now service m = by m.restarting
@@ -126,8 +139,10 @@ timed_out_when_come now service m = by (is_some m.pid) service.timeout
     by true (Some timeout) = refl
     by false timeout = refl
 
-pub due_places : (now : ℕ) (s : ServicesView) → places_due now (times_of restart_time s.defs s.marks) ≡ places_due_of s now
-due_places now s = places_come now restart_time (is_due now) (due_when_come now) s
+pub due_places : (now : ℕ) (s : ServicesView) → now < 18446744073709551616 → places_due now (times_of kept_restart s.defs s.marks) ≡ places_due_of s now
+due_places now s reached =
+    places_come now kept_restart (is_due now) (λ service m. come_if_reached now (restart_time service m) reached ∙ due_when_come now service m) s
 
-pub timed_out_places : (now : ℕ) (s : ServicesView) → places_due now (times_of timeout_time s.defs s.marks) ≡ places_timed_out s now
-timed_out_places now s = places_come now timeout_time (has_timed_out now) (timed_out_when_come now) s
+pub timed_out_places : (now : ℕ) (s : ServicesView) → now < 18446744073709551616 → places_due now (times_of kept_timeout s.defs s.marks) ≡ places_timed_out s now
+timed_out_places now s reached =
+    places_come now kept_timeout (has_timed_out now) (λ service m. come_if_reached now (timeout_time service m) reached ∙ timed_out_when_come now service m) s

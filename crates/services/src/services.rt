@@ -8,7 +8,7 @@ use service_table::{Table, step};
 use std::alloc::Global;
 use std::marker::Model;
 
-/// The declared services. The kept times are exactly those that follow from the marks.
+/// The declared services. The kept times are exactly those that follow from the marks and that a clock can reach.
 #[derive(Drop)]
 pub struct Services {
     table: Table,
@@ -23,11 +23,11 @@ impl Model for Services {
     ghost Value = { ServicesView };
 
     ghost use Rattle.std.specs.Prelude.{◌≡◌, length};
-    ghost use Rattle.services.specs.Times.{restart_time, timeout_time, times_of};
+    ghost use Rattle.services.specs.Times.{kept_restart, kept_timeout, times_of};
 
     ghost view = { λ s. record { defs = s.table.defs; marks = s.table.marks; exits = s.exits } };
 
-    ghost invariant = { λ s. (length s.exits ≡ length s.table.defs) × (s.restarts ≡ times_of restart_time s.table.defs s.table.marks) × (s.timeouts ≡ times_of timeout_time s.table.defs s.table.marks) };
+    ghost invariant = { λ s. (length s.exits ≡ length s.table.defs) × (s.restarts ≡ times_of kept_restart s.table.defs s.table.marks) × (s.timeouts ≡ times_of kept_timeout s.table.defs s.table.marks) };
 }
 
 impl Services {
@@ -84,8 +84,7 @@ impl Services {
         self.table.marks(at)
     }
 
-    /// Does an operation to the service at a place, and answers what follows from it. A time that no `u64` holds is
-    /// `NoMemory` too.
+    /// Does an operation to the service at a place, and answers what follows from it.
     pub fn apply(&mut self, at: usize, op: Op) -> Result<Move, NoMemory>
         requires { at < length self.old.defs }
         ensures services { OnOk result (self.new ≡ with_op self.old at op) }
@@ -93,12 +92,11 @@ impl Services {
         ensures err { OnErr result (self.new ≡ self.old) }
     {
         let mut marks = self.table.marks(at);
-        let todo = step(&mut marks, op);
-        let restart = restart_time(self.table.def(at), marks)?;
-        let timeout = timeout_time(self.table.def(at), marks)?;
+        step(&mut marks, op);
+        let restart = restart_time(self.table.def(at), marks);
+        let timeout = timeout_time(self.table.def(at), marks);
         set_both(at, &mut self.restarts, restart, &mut self.timeouts, timeout)?;
-        self.table.put(at, marks);
-        Ok(todo)
+        Ok(self.table.apply(at, op))
     }
 
     /// Counts an exit of the service at a place, if it is critical, and answers whether it was one too many.

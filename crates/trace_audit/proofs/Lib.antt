@@ -1,3 +1,4 @@
+pub mod Declared
 pub mod Lefts
 pub mod Merging
 pub mod FirstLeft

@@ -1,6 +1,6 @@
 //! `audit`: whether the documented machine can have written a trace.
 
-ghost use Rattle.std.specs.Prelude.{◌≡◌, ◌↔◌, ◌⊎◌, All, length, IfOk, MatchOption};
+ghost use Rattle.std.specs.Prelude.{◌≡◌, ◌≤◌, ◌↔◌, ◌⊎◌, All, length, IfOk, MatchOption};
 ghost use Rattle.init_core.specs.Core.{opening_of, without_saved};
 ghost use Rattle.init_machine.specs.State.{Opening, first_state};
 ghost use Rattle.init_machine.specs.WellFormed.{IsWellFormed};
@@ -37,6 +37,7 @@ pub fn audit(
     report: &Report,
 ) -> Result<Verdict, NoMemory>
     requires config { IsWellFormed config }
+    requires domains { length script.now.clients ≤ length config.domains }
     requires asks { All (IsAskAmong (length script.now.clients)) script.now.acts }
     ensures says { let opening = opening_of config policy script.now.words in
         IfOk result (Says opening diagnostics.now script.now report.now) }
@@ -55,7 +56,8 @@ fn judge(
     script: &Script,
     report: &Report,
 ) -> Result<Verdict, NoMemory>
-    requires { All (IsAskAmong (length script.now.clients)) script.now.acts }
+    requires domains { length script.now.clients ≤ length core.old.config.domains }
+    requires asks { All (IsAskAmong (length script.now.clients)) script.now.acts }
     ensures { (o : Opening) → core.old.config ≡ without_saved o.config → core.old.policy ≡ o.policy
         → core.old.state ≡ first_state o → IfOk result (Says o diagnostics.now script.now report.now) }
 {

@@ -1,7 +1,7 @@
 //! What the machine did, against what it does.
 
-ghost use Rattle.std.specs.Prelude.{◌≡◌, IfOk, MatchOption};
-ghost use Rattle.init_core.specs.Core.{opening_of, without_saved};
+ghost use Rattle.std.specs.Prelude.{◌≡◌, All, IfOk, MatchOption};
+ghost use Rattle.init_core.specs.Core.{IsDeclared, opening_of, without_saved};
 ghost use Rattle.init_machine.specs.History.{LegalFrom};
 ghost use Rattle.init_machine.specs.State.{first_state};
 ghost use Rattle.init_machine.specs.WellFormed.{IsWellFormed};
@@ -33,6 +33,7 @@ pub fn open(
 /// The number of the first entry whose outputs aren't those of the machine, which takes the inputs one after another. None
 /// exactly where each entry has the machine's outputs.
 pub fn outputs_fault(core: &mut Core<ListStore>, history: &[Entry]) -> Result<Option<u64>, NoMemory>
+    requires { All (λ e. IsDeclared core.old.config e.input) history.now }
     ensures { IfOk result (λ fault. MatchOption fault (LegalFrom core.old.config core.old.policy core.old.state history.now)
         (IllegalFrom core.old.config core.old.policy core.old.state history.now)) }
 {

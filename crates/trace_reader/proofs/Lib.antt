@@ -2,6 +2,7 @@ pub mod Choices
 pub mod Cuts
 pub mod Drafts
 pub mod Frames
+pub mod Fronts
 pub mod LinesRead
 pub mod OutputsRead
 pub mod RefusalsRead

@@ -2,6 +2,7 @@ pub mod Drafts
 pub mod Held
 pub mod Lines
 pub mod Outputs
+pub mod Pieces
 pub mod Reading
 pub mod Refusals
 pub mod Reports

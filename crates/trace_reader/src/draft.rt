@@ -1,7 +1,9 @@
 //! A report of which the first lines were read.
 
-ghost use Rattle.std.specs.Prelude.{◌≡◌, IfOk, MatchResult};
+ghost use Rattle.std.specs.Prelude.{◌≡◌, [], IfOk, MatchOption, MatchResult};
 ghost use Rattle.trace_reader.specs.Reading.{IsReading};
+ghost use Rattle.trace_reader.specs.Pieces.{in_front};
+ghost use Rattle.trace_reader.specs.declared.draft.Part.TheVariants as part;
 ghost use Rattle.trace_reader.specs.Drafts.{IsStep, begun, empty_draft, finished, step, with_client, with_diagnostic, with_head, with_output, with_reading};
 
 use crate::fault::Fault;
@@ -114,6 +116,25 @@ impl Draft {
         }
     }
 
+    /// Takes the first entry away that stands behind its last line. None exactly where there is none.
+    #[tactic(auto, using(crate::proofs::Fronts::first_taken))]
+    pub fn take_entry(&mut self) -> Option<Entry>
+        ensures { MatchOption result ((self.new ≡ self.old) × (self.old.history ≡ []))
+            (λ entry. self.old ≡ in_front entry self.new) }
+    {
+        if self.history.is_empty() {
+            return None;
+        }
+        Some(self.history.remove(0))
+    }
+
+    /// Puts the latest part behind those of its kind, where no further line comes.
+    pub fn close(&mut self) -> Result<(), NoMemory>
+        ensures { IfOk result (λ _. self.new ≡ begun self.old part.Diagnostics) }
+    {
+        self.begin(Part::Diagnostics)
+    }
+
     /// Puts the latest part behind those of its kind, and begins another.
     fn begin(&mut self, part: Part) -> Result<(), NoMemory>
         ensures { IfOk result (λ _. self.new ≡ begun self.old part) }
@@ -129,7 +150,7 @@ impl Draft {
     pub fn finish(mut self) -> Result<Report, NoMemory>
         ensures { IfOk result (λ report. report ≡ finished self) }
     {
-        self.begin(Part::Diagnostics)?;
+        self.close()?;
         Ok(Report {
             diagnostics: self.diagnostics,
             history: self.history,

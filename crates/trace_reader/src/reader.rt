@@ -42,7 +42,7 @@ fn report(alloc: Global, text: &[u8]) -> Result<Report, Fault>
 }
 
 /// What stands between the first line and the last one.
-fn within_frame(text: &[u8]) -> Option<&[u8]>
+pub fn within_frame(text: &[u8]) -> Option<&[u8]>
     ensures { MatchOption result (body_of text.entry.now ≡ None) (λ body. body_of text.entry.now ≡ Some body.now) }
 {
     text.strip_prefix(TITLE)?.strip_suffix(END)
@@ -61,7 +61,7 @@ fn lines(alloc: Global, body: &[u8]) -> Result<Report, Fault>
 }
 
 /// Adds the first line of a text to a draft, and answers what stands behind the line.
-fn take_line<'a>(alloc: Global, draft: &mut Draft, text: &'a [u8]) -> Result<&'a [u8], Fault>
+pub fn take_line<'a>(alloc: Global, draft: &mut Draft, text: &'a [u8]) -> Result<&'a [u8], Fault>
     requires { 0 < length text.now }
     ensures added { MatchResult result
         (λ behind. report_from draft.old (slice_split is_line_feed text.entry.now) ≡ report_from draft.new (slice_split is_line_feed behind.now))

@@ -9,6 +9,8 @@ use Rattle.rc_parse.specs.declared.parsed.Import.{Import}
 use Rattle.rc_import.specs.Limits.{SoFar, with_all, with_met}
 use Rattle.rc_import.specs.Order.{File, Met}
 use Rattle.rc_import.specs.World.{IsWorld, World}
+use Rattle.rc_import.specs.declared.loaded.LoadLimit.{LoadLimit}
+use Rattle.rc_import.specs.declared.loaded.LoadLimit.TheVariants as limits
 use Rattle.rc_import.specs.declared.loaded.LoadRefusal.{LoadRefusal}
 use Rattle.rc_import.specs.declared.loaded.LoadRefusal.TheVariants as refusal
 use Rattle.rc_import.specs.declared.loading.Loading.{Loading}
@@ -26,7 +28,7 @@ pub record Stands (loading : Loading) (sofar : SoFar) : Type 0 where
 abbrev pub Stops : LoadRefusal → Result SoFar LoadRefusal → Type 0
 Stops refusal.NoInit answer = ⊥
 Stops refusal.ReadFault answer = ⊤
-Stops (refusal.TooLarge path number) answer = answer ≡ Err (refusal.TooLarge path number)
+Stops (refusal.TooLarge path limit number) answer = answer ≡ Err (refusal.TooLarge path limit number)
 Stops (refusal.TooMany path number) answer = answer ≡ Err (refusal.TooMany path number)
 Stops refusal.NoMemory answer = ⊤
 
@@ -72,11 +74,12 @@ IsFile tree look_up loading path result =
     (world : World) → IsWorld tree look_up world → (sofar : SoFar) → Stands loading sofar →
     ReachesImports result (with_met world sofar (File path (file_at world.tree path))) (imports_at world path (file_at world.tree path))
 
-pub record HasMoreBytes (tree : List (List ℕ × List ℕ)) (file path : List ℕ) (number : ℕ) : Type 0 where
+pub record HasMoreBytes (tree : List (List ℕ × List ℕ)) (file path : List ℕ) (limit : LoadLimit) (number : ℕ) : Type 0 where
   pub bytes : List ℕ
   pub there : file_at tree file ≡ Some bytes
   pub many : 1048576 < length bytes
   pub path_is : path ≡ file
+  pub limit_is : limit ≡ limits.FileBytes
   pub number_is : number ≡ 1048577
 
 abbrev pub ReadsContent : Option (List (List ℕ × List ℕ)) → List ℕ → Result (Option (List ℕ)) LoadRefusal → Type 0
@@ -84,7 +87,7 @@ ReadsContent None file result = ⊤
 ReadsContent (Some tree) file (Ok found) = file_at tree file ≡ found
 ReadsContent (Some tree) file (Err refusal.NoInit) = ⊥
 ReadsContent (Some tree) file (Err refusal.ReadFault) = ⊤
-ReadsContent (Some tree) file (Err (refusal.TooLarge path number)) = HasMoreBytes tree file path number
+ReadsContent (Some tree) file (Err (refusal.TooLarge path limit number)) = HasMoreBytes tree file path limit number
 ReadsContent (Some tree) file (Err (refusal.TooMany path number)) = ⊥
 ReadsContent (Some tree) file (Err refusal.NoMemory) = ⊤
 

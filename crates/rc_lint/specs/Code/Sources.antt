@@ -11,7 +11,7 @@ use Rattle.rc_lint.specs.declared.source.Source.{Source}
 abbrev pub IsLater : LoadRefusal → Type 0
 IsLater why.NoInit = ⊥
 IsLater why.ReadFault = ⊤
-IsLater (why.TooLarge path number) = ⊥
+IsLater (why.TooLarge path limit number) = ⊥
 IsLater (why.TooMany path number) = ⊥
 IsLater why.NoMemory = ⊤
 

@@ -3,6 +3,8 @@ use Rattle.std.specs.Prelude.{◌≡◌, ℕ, ◌<◌, ◌≤◌, ◌⊎◌, ⊤
 use Rattle.std.specs.List.{list_any}
 use Rattle.prop_rules.specs.Build.{IsBuildFile}
 use Rattle.prop_rules.specs.declared.build.BuildProps.{BuildProps}
+use Rattle.rc_import.specs.declared.loaded.LoadLimit.{LoadLimit}
+use Rattle.rc_import.specs.declared.loaded.LoadLimit.TheVariants as limits
 use Rattle.rc_import.specs.declared.loaded.LoadRefusal.{LoadRefusal}
 use Rattle.rc_import.specs.declared.loaded.LoadRefusal.TheVariants as why
 use Rattle.rc_tokens.specs.Lines.{Line}
@@ -14,16 +16,17 @@ use Rattle.rc_lint.specs.Loads.{Tree, build_text, faults_of, pairs_of, system_pa
 -- ---- build files
 
 -- a build file is refused for its length
-pub record IsTooLong (tree : Tree) (file path : List ℕ) (number : ℕ) : Type 0 where
+pub record IsTooLong (tree : Tree) (file path : List ℕ) (limit : LoadLimit) (number : ℕ) : Type 0 where
   pub long : 1048576 < length (build_text tree file)
   pub path_is : path ≡ file
+  pub limit_is : limit ≡ limits.FileBytes
   pub number_is : number ≡ 1048577
 
 -- why a build file has no text
 abbrev pub RefusesText : Tree → List ℕ → LoadRefusal → Type 0
 RefusesText tree path why.NoInit = ⊥
 RefusesText tree path why.ReadFault = ⊤
-RefusesText tree path (why.TooLarge file number) = IsTooLong tree path file number
+RefusesText tree path (why.TooLarge file limit number) = IsTooLong tree path file limit number
 RefusesText tree path (why.TooMany file number) = ⊥
 RefusesText tree path why.NoMemory = ⊤
 

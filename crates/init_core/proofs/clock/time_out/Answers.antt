@@ -10,7 +10,7 @@ pub returns-clause-done : goal.returns-clause-done
 returns-clause-done g c =
     let old = c.args.parts.now in
     let meaning = g.S.PropStore.meaning in
-    let places = c.in_ok-places.ensures ∙ ap (λ (now : ℕ). places_timed_out old.services now) c.now.ensures in
+    let places = c.in_ok-places.ensures ∙ ap (λ (now : ℕ). places_timed_out old.services now) c.now.ensures.clock in
     on_ok_weaker c.operate_each.result
     (subst (λ (at : List ℕ). Does meaning g.S.PropStore.told old c.operate_each.new.parts (operate_each (rules_of old) op.Timeout at (state_of meaning old))) places)
     c.operate_each.ensures.done

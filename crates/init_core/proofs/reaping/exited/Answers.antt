@@ -17,7 +17,7 @@ returns-then-is_fatal-clause-done g c = λ service found.
     let counts = c.in_ok-is_fatal.ensures in
     on_ok_weaker c.reboot.result
     (exits_critical c.args.parts.now c.reboot.new.parts c.is_boot_completed-booted.new.store c.count_exit.new.self c.args.at service c.in-Some.target c.now-now.result.0 c.is_boot_completed-booted.result _
-    found (sym c.in-Some.is ∙ c.in_ok-target.ensures) booted.same booted.told c.now-now.ensures booted.answer counts.services (sym c.if-is_fatal.true ∙ counts.fatal))
+    found (sym c.in-Some.is ∙ c.in_ok-target.ensures) booted.same booted.told c.now-now.ensures.clock booted.answer counts.services (sym c.if-is_fatal.true ∙ counts.fatal))
     c.reboot.ensures.done
 
 pub returns-clause-done : goal.returns-clause-done
@@ -27,5 +27,5 @@ returns-clause-done g c = λ service found.
     let there = ap (λ (services : ServicesView). slice_get services.defs c.args.at) counts.services ∙ found in
     on_ok_weaker c.restarting-2.result
     (exits_critical c.args.parts.now c.restarting-2.new.parts c.is_boot_completed-booted.new.store c.count_exit.new.self c.args.at service c.in-Some.target c.now-now.result.0 c.is_boot_completed-booted.result _
-    found (sym c.in-Some.is ∙ c.in_ok-target.ensures) booted.same booted.told c.now-now.ensures booted.answer counts.services (sym c.if-is_fatal.false ∙ counts.fatal))
+    found (sym c.in-Some.is ∙ c.in_ok-target.ensures) booted.same booted.told c.now-now.ensures.clock booted.answer counts.services (sym c.if-is_fatal.false ∙ counts.fatal))
     (c.restarting-2.ensures.done service there)

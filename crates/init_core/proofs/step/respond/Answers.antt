@@ -1,6 +1,6 @@
-use Rattle.std.proofs.Common.{sym, ◌∙◌}
+use Rattle.std.proofs.Common.{subst, sym, ◌∙◌}
 use Rattle.std.proofs.lemmas.Result.{on_ok_weaker}
-use Rattle.init_core.specs.Core.{config_of}
+use Rattle.init_core.specs.Core.{config_of, IsDeclared}
 use Rattle.init_core.proofs.Responds.{does_boot, does_next, does_tick, does_exit, does_file, does_set, does_down}
 use Rattle.init_core.proofs.step.respond.Goals as goal
 
@@ -33,6 +33,12 @@ pub returns-in-File-clause-done : goal.returns-in-File-clause-done
 returns-in-File-clause-done g c =
     let old = c.args.parts.now in
     on_ok_weaker c.file.result (does_file (config_of c.args.pairs.now c.args.domains.now old) old c.file.new.parts c.args.input.now c.in-File.path c.in-File.content c.in-File.is (sym c.if-is_down.false ∙ c.is_down.ensures)) c.file.ensures.done
+
+pub set_of_client-requires-clause-from : goal.set_of_client-requires-clause-from
+set_of_client-requires-clause-from g c = (subst (IsDeclared (config_of c.args.pairs.now c.args.domains.now c.args.parts.now)) c.in-Set.is c.requires).0
+
+pub set_of_client-requires-clause-to : goal.set_of_client-requires-clause-to
+set_of_client-requires-clause-to g c = (subst (IsDeclared (config_of c.args.pairs.now c.args.domains.now c.args.parts.now)) c.in-Set.is c.requires).1
 
 pub returns-in-Set-clause-done : goal.returns-in-Set-clause-done
 returns-in-Set-clause-done g c =

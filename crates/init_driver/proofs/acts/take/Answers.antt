@@ -5,13 +5,18 @@ use Rattle.init_driver.specs.Keeper.{seen_by}
 use Rattle.init_driver.proofs.Courses.{takes_still}
 use Rattle.init_driver.proofs.Entries.{refused_one, takes_one}
 use Rattle.init_driver.proofs.Keepers.{took_nothing}
-use Rattle.init_driver.proofs.Reached.{saved_print}
+use Rattle.init_driver.proofs.Reached.{saved_print, saved_typed}
 use Rattle.init_driver.proofs.acts.take.Goals as goal
 
-pub save-requires : goal.save-requires
-save-requires g c =
+pub save-requires-clause-typed : goal.save-requires-clause-typed
+save-requires-clause-typed g c =
     let core = c.args.traced.now.core in
-    saved_print core.config core.policy core.state c.args.input.now _ _ c.requires c.in_ok-take.ensures.outputs c.in_ok-take.ensures.state
+    saved_typed core.config core.policy _ core.state c.args.input.now _ _ c.requires.reached c.in_ok-take.ensures.policy c.in_ok-take.ensures.outputs c.in_ok-take.ensures.state
+
+pub save-requires-clause-saved : goal.save-requires-clause-saved
+save-requires-clause-saved g c =
+    let core = c.args.traced.now.core in
+    saved_print core.config core.policy core.state c.args.input.now _ _ c.requires.reached c.in_ok-take.ensures.outputs c.in_ok-take.ensures.state
 
 pub returns-in_err-take-clause-takes : goal.returns-in_err-take-clause-takes
 returns-in_err-take-clause-takes g c =

@@ -2,12 +2,14 @@ use Rattle.std.proofs.Common.{◌∙◌, ◌+◌, drop, length, refl, sym, ap, s
 use Rattle.std.specs.List.{flat_map}
 use Rattle.std.proofs.lemmas.Result.{err_from_is_err_and}
 use Rattle.std.proofs.Math.ListN.{drop_of_length-le}
+use Rattle.init_machine.specs.declared.config.Config.{Config}
 use Rattle.script_lang.specs.Inputs.{act_inputs}
 use Rattle.script_lang.specs.Laws.{IsAskAmong}
 use Rattle.init_driver.specs.Course.{place_of, told_from}
 use Rattle.init_driver.specs.Keeper.{seen_by}
 use Rattle.init_driver.specs.declared.traced.Traced.{Traced}
 use Rattle.init_driver.proofs.Courses.{Going, act_left, acts_left, gone, going_begins, going_ends, going_on, going_stops, after_same, same_place}
+use Rattle.init_driver.proofs.Declared.{among_more}
 use Rattle.init_driver.proofs.Reached.{reached_within}
 use Rattle.init_driver.proofs.Told.{told_by_none, told_length, told_on}
 use Rattle.init_driver.proofs.acts.take_acts.Goals as goal
@@ -20,8 +22,8 @@ tell-requires g c =
     let at = c.requires.asks c.loop-act.act-index c.act-item.result c.loop-act-test.true in
     subst (λ n. IsAskAmong n c.act-item.result) (sym c.loop-act.invariant.count) (subst (IsAskAmong (length c.args.parts.now.items)) (sym c.act-item.is) at)
 
-pub take_act-requires : goal.take_act-requires
-take_act-requires g c =
+pub take_act-requires-clause-reached : goal.take_act-requires-clause-reached
+take_act-requires-clause-reached g c =
     let a = place_of c.args.traced.now (g.K.Sink.taken c.args.out.now) (seen_by g.P.Keeper.held g.P.Keeper.TellsCrash g.P.Keeper.moment g.P.Keeper.MayLeave c.args.keeper.now) in
     let told : Traced = record { core = c.tell.new.core; printer = c.loop-act.traced.printer } in
     let ok = c.in_ok-tell.ensures in
@@ -29,6 +31,13 @@ take_act-requires g c =
     let left = flat_map act_inputs (drop c.loop-act.act-index c.args.acts.now) in
     reached_within (flat_map act_inputs c.args.acts.now) left a (place_of told (g.K.Sink.taken c.loop-act.out) (seen_by g.P.Keeper.held g.P.Keeper.TellsCrash g.P.Keeper.moment g.P.Keeper.MayLeave c.loop-act.keeper))
     (subst (Going (flat_map act_inputs c.args.acts.now) left a) same c.loop-act.invariant.going) c.requires.reached
+
+pub take_act-requires-clause-asked : goal.take_act-requires-clause-asked
+take_act-requires-clause-asked g c =
+    let at = c.requires.asks c.loop-act.act-index c.act-item.result c.loop-act-test.true in
+    let among = among_more _ _ c.requires.domains c.act-item.result (subst (IsAskAmong (length c.args.parts.now.items)) (sym c.act-item.is) at) in
+    let same = ap (λ (config : Config). length config.domains) (c.in_ok-tell.ensures.config ∙ c.loop-act.invariant.going.leads.config) in
+    subst (λ n. IsAskAmong n c.act-item.result) (sym same) among
 
 pub returns-in_err-tell-clause-takes : goal.returns-in_err-tell-clause-takes
 returns-in_err-tell-clause-takes g c =

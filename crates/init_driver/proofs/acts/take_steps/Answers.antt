@@ -12,8 +12,8 @@ loop-init g c = record {
   sink = refl;
 }
 
-pub take-requires : goal.take-requires
-take-requires g c = reached_within _ _ _ _ c.loop.invariant.going c.requires
+pub take-requires-clause-reached : goal.take-requires-clause-reached
+take-requires-clause-reached g c = reached_within _ _ _ _ c.loop.invariant.going c.requires
 
 pub returns-in_err-take-clause-takes : goal.returns-in_err-take-clause-takes
 returns-in_err-take-clause-takes g c =

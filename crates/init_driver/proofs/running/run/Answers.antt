@@ -1,6 +1,7 @@
-use Rattle.std.proofs.Common.{subst, refl}
+use Rattle.std.proofs.Common.{◌≤◌, length, subst, sym, refl}
 use Rattle.std.proofs.lemmas.Result.{err_from_is_err_and}
 use Rattle.init_core.specs.Core.{opening_of}
+use Rattle.init_machine.specs.declared.config.Config.{Config}
 use Rattle.init_driver.specs.Keeper.{seen_by}
 use Rattle.init_driver.specs.Run.{Leaves, due_of}
 use Rattle.init_driver.proofs.Reached.{due_opened, reached_first}
@@ -19,6 +20,10 @@ drive-requires-clause-reached g c =
     let core = c.in_ok-traced.traced.core in
     let ok = c.in_ok-traced.ensures in
     reached_first setup.config core.config setup.policy core.policy c.args.script.now.words core.state c.requires.config ok.config ok.policy ok.state
+
+pub drive-requires-clause-domains : goal.drive-requires-clause-domains
+drive-requires-clause-domains g c =
+    subst (λ (config : Config). length c.args.script.now.clients ≤ length config.domains) (sym c.in_ok-traced.ensures.config) c.requires.domains
 
 pub returns-clause-leaves : goal.returns-clause-leaves
 returns-clause-leaves g c =

@@ -1,7 +1,9 @@
-use Rattle.std.proofs.Common.{◌∙◌, [], ◌∷◌, refl}
+use Rattle.std.proofs.Common.{◌∙◌, [], ◌∷◌, length, refl, ap, arith}
 use Rattle.std.specs.List.{flat_map}
+use Rattle.std.proofs.lemmas.List.{length-map}
 use Rattle.std.proofs.lemmas.Result.{err_from_is_err_and}
 use Rattle.init_machine.specs.History.{after_from}
+use Rattle.init_machine.specs.declared.config.Config.{Config}
 use Rattle.init_machine.specs.declared.input.Input.TheVariants as Input
 use Rattle.script_lang.specs.Inputs.{act_inputs, InOrder}
 use Rattle.init_driver.specs.Course.{place_of}
@@ -24,6 +26,13 @@ returns-in_err-take-clause-takes g c =
 
 pub take_acts-requires-clause-reached : goal.take_acts-requires-clause-reached
 take_acts-requires-clause-reached g c = reached_more _ _ _ c.in_ok-take.ensures.takes c.requires.reached
+
+pub take_acts-requires-clause-domains : goal.take_acts-requires-clause-domains
+take_acts-requires-clause-domains g c =
+    let clients = c.args.script.now.clients in
+    let many = ap length c.in_ok-parts.ensures ∙ length-map _ _ ∙ ap length c.items.ensures in
+    let same = ap (λ (config : Config). length config.domains) c.in_ok-take.ensures.takes.config in
+    omega (arith, many, same, c.requires.domains)
 
 pub returns-in_err-take_acts-clause-takes : goal.returns-in_err-take_acts-clause-takes
 returns-in_err-take_acts-clause-takes g c =

@@ -18,7 +18,7 @@ of_tree (stop.BadScript line) is = is
 of_tree stop.NoInit is = tt
 of_tree (stop.TooLarge limit number) is = is
 of_tree (stop.BadPolicy allow line) is = tt
-of_tree (stop.BadStore line) is = is
+of_tree (stop.BadStore line why) is = is
 of_tree stop.BadTrace is = is
 
 pub returns-in_err-loaded-clause-tree : goal.returns-in_err-loaded-clause-tree

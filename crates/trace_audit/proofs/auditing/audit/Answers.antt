@@ -1,6 +1,12 @@
+use Rattle.std.proofs.Common.{◌≤◌, length, sym, subst}
 use Rattle.init_core.specs.Core.{opening_of}
+use Rattle.init_machine.specs.declared.config.Config.{Config}
 use Rattle.trace_audit.proofs.Verdicts.{yes_if_ok}
 use Rattle.trace_audit.proofs.auditing.audit.Goals as goal
+
+pub judge-requires-clause-domains : goal.judge-requires-clause-domains
+judge-requires-clause-domains c =
+    subst (λ (config : Config). length c.args.script.now.clients ≤ length config.domains) (sym c.in_ok-core.ensures.config) c.requires.domains
 
 pub returns-clause-says : goal.returns-clause-says
 returns-clause-says c =

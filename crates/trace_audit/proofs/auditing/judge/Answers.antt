@@ -1,5 +1,6 @@
-use Rattle.std.proofs.Common.{◌≡◌, List, map, sym, ap, subst, ◌∙◌}
-use Rattle.init_core.specs.Core.{without_saved}
+use Rattle.std.proofs.Common.{◌≡◌, List, map, sym, ap, subst, ◌∙◌, arith}
+use Rattle.std.specs.Prelude.{All}
+use Rattle.init_core.specs.Core.{IsDeclared, without_saved}
 use Rattle.init_machine.specs.History.{Legal, LegalFrom}
 use Rattle.init_machine.specs.State.{Opening, first_state}
 use Rattle.init_machine.specs.declared.report.ClientPart.{ClientPart}
@@ -8,9 +9,19 @@ use Rattle.script_lang.specs.Inputs.{Parts}
 use Rattle.script_lang.specs.Merges.{Merges}
 use Rattle.trace_audit.specs.Audited.{EachHolds, FailsAt, IllegalAt, client_of, clients_in}
 use Rattle.trace_audit.specs.Legality.{IllegalFrom}
+use Rattle.trace_audit.proofs.Declared.{merging_declared, parts_long}
 use Rattle.trace_audit.proofs.Legality.{illegal_opened, legal_opened}
 use Rattle.trace_audit.proofs.Verdicts.{all_hold, none_is, says_legal, says_merge, says_readings, some_is}
 use Rattle.trace_audit.proofs.auditing.judge.Goals as goal
+
+pub outputs_fault-requires : goal.outputs_fault-requires
+outputs_fault-requires c =
+    let config = c.args.core.now.config in
+    let script = c.args.script.now in
+    let long = parts_long script in
+    let merges : Merges c.items-5.result.now (Parts script) = none_is _ _ _ c.in_ok-number.ensures c.in_default-2.is in
+    subst (All (λ (e : Entry). IsDeclared config e.input)) (c.items-5.ensures ∙ sym c.items-6.ensures)
+    (merging_declared (Parts script) config c.items-5.result.now (omega (arith, long, c.requires.domains)) merges)
 
 pub returns-in-Some-2 : goal.returns-in-Some-2
 returns-in-Some-2 c =

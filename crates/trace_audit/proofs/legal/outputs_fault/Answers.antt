@@ -1,12 +1,22 @@
-use Rattle.std.proofs.Common.{◌≡◌, take, sym, ap, ◌∙◌}
+use Rattle.std.proofs.Common.{◌≡◌, take, sym, subst, ap, ◌∙◌}
+use Rattle.init_core.specs.Core.{IsDeclared}
 use Rattle.init_machine.specs.Changes.{Change}
 use Rattle.init_machine.specs.History.{after_from, inputs_of}
 use Rattle.init_machine.specs.State.{State}
 use Rattle.init_machine.specs.Step.{step}
+use Rattle.init_machine.specs.declared.config.Config.{Config}
+use Rattle.init_machine.specs.declared.report.Entry.{Entry}
 use Rattle.trace_audit.proofs.Lefts.{of_some, of_none}
 use Rattle.trace_audit.proofs.Legality.{after_next, illegal_at, legal_next, ok_of, step_here}
 use Rattle.trace_audit.proofs.Verdicts.{lists_differ}
 use Rattle.trace_audit.proofs.legal.outputs_fault.Goals as goal
+
+pub take-requires : goal.take-requires
+take-requires c =
+    let first = c.args.core.now.config in
+    let e = c.index-history-place.result in
+    let declared = subst (λ (x : Entry). IsDeclared first x.input) (sym c.index-history-place.is) (c.requires c.loop-place.place e c.loop-place-test.true) in
+    record { declared = subst (λ (config : Config). IsDeclared config e.input) (sym c.loop-place.invariant.config) declared }
 
 pub returns-then-is_some : goal.returns-then-is_some
 returns-then-is_some c =

@@ -1,5 +1,13 @@
+use Rattle.std.proofs.Common.{ap, subst, sym}
+use Rattle.init_machine.specs.declared.config.Config.{Config}
+use Rattle.init_core.specs.Core.{IsDeclared}
 use Rattle.init_core.proofs.Steps.{steps}
 use Rattle.init_core.proofs.machine.Core.take.Goals as goal
+
+pub step-requires : goal.step-requires
+step-requires g c =
+    let same = ap (λ v. v.config) c.self.view_is in
+    subst (λ (config : Config). IsDeclared config c.args.input.now) (sym same) c.requires.declared
 
 pub returns-clause-config : goal.returns-clause-config
 returns-clause-config g c =

@@ -2,7 +2,7 @@
 use Rattle.std.proofs.Common.{ℕ, length, replicate, Option, None, sym, ap, ◌∙◌}
 use Rattle.std.proofs.lemmas.List.{length-replicate}
 use Rattle.init_machine.specs.State.{no_exits}
-use Rattle.services.specs.Times.{restart_time, times_of, timeout_time}
+use Rattle.services.specs.Times.{kept_restart, kept_timeout, times_of}
 use Rattle.services.proofs.Kept.{no_restarts, no_timeouts, same_each}
 use Rattle.services.proofs.services.Services.new.Goals as goal
 
@@ -11,8 +11,8 @@ invariant_of-result c =
     let table = c.in_ok-new.ensures in
     let many = ap (λ n. replicate {A = Option ℕ} n None) c.len-count.ensures in (
       ap length c.in_ok-new-2.ensures ∙ length-replicate _ _ ∙ c.len-count.ensures ∙ ap (λ t. length t.defs) (sym table),
-      c.in_ok-new-3.ensures ∙ many ∙ no_restarts c.args.defs ∙ ap (λ t. times_of restart_time t.defs t.marks) (sym table),
-      c.in_ok-new-4.ensures ∙ many ∙ no_timeouts c.args.defs ∙ ap (λ t. times_of timeout_time t.defs t.marks) (sym table),
+      c.in_ok-new-3.ensures ∙ many ∙ no_restarts c.args.defs ∙ ap (λ t. times_of kept_restart t.defs t.marks) (sym table),
+      c.in_ok-new-4.ensures ∙ many ∙ no_timeouts c.args.defs ∙ ap (λ t. times_of kept_timeout t.defs t.marks) (sym table),
     )
 
 pub returns : goal.returns

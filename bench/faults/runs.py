@@ -1,0 +1,79 @@
+"""Runs of an example in which a call of the system fails, for bench/faults/run and tools/faults-check."""
+import os
+import shutil
+import subprocess
+import sys
+
+HERE = os.path.dirname(os.path.abspath(__file__))
+sys.path.append(os.path.join(HERE, "../../tools"))
+
+from product.disk import BadImage, text_of  # noqa: E402
+
+STORE = "tree/data/property"
+EIO, ENOMEM = 5, 12
+
+
+def make_library(room, compiler):
+    """The library that is loaded before the program."""
+    library = os.path.join(room, "failing.so")
+    subprocess.run([compiler, "-O2", "-shared", "-fPIC", "-o", library, os.path.join(HERE, "failing.c")], check=True)
+    return library
+
+
+def words_of(folder):
+    if os.path.isfile(os.path.join(folder, "trace")):
+        return ["audit", "tree", "script", "trace"]
+    return ["run", "tree", "script"]
+
+
+class Runs:
+    """Runs of an example in a copy of it, of which the store is put back before each."""
+
+    def __init__(self, room, example, program, library):
+        name = os.path.basename(example)
+        self.folder, self.count = os.path.join(room, name), os.path.join(room, f"{name}.count")
+        self.program, self.library = program, library
+        shutil.copytree(example, self.folder, symlinks=True)
+        self.words, self.first = words_of(self.folder), self.files()
+        with open(os.path.join(example, "stdout"), "rb") as file:
+            self.whole = file.read()
+
+    def files(self):
+        found = {}
+        folder = os.path.join(self.folder, STORE)
+        for name in os.listdir(folder) if os.path.isdir(folder) else ():
+            with open(os.path.join(folder, name), "rb") as file:
+                found[name] = file.read()
+        return found
+
+    def stored(self):
+        """The text of the store: that of the image where it is one, else that of the text file, which is empty where it is absent."""
+        image = os.path.join(self.folder, STORE, "persist.img")
+        if os.path.isfile(image):
+            with open(image, "rb") as file:
+                try:
+                    return text_of(file.fileno())
+                except BadImage:
+                    pass
+        return self.files().get("persist.txt", b"")
+
+    def put_back(self):
+        folder = os.path.join(self.folder, STORE)
+        for name in self.files():
+            os.remove(os.path.join(folder, name))
+        for name, text in self.first.items():
+            with open(os.path.join(folder, name), "wb") as file:
+                file.write(text)
+
+    def once(self, calls, at, error):
+        """The status, the text and the store of a run in which one of the calls fails. `calls` are settings of failing.c."""
+        self.put_back()
+        env = {"LD_PRELOAD": self.library, **calls, "FAIL_AT": str(at), "FAIL_ERRNO": str(error), "FAIL_COUNT": self.count}
+        done = subprocess.run([self.program, *self.words], cwd=self.folder, env=env, capture_output=True)
+        return done.returncode, done.stdout, self.stored()
+
+    def number(self, calls):
+        """How many of these calls a run makes."""
+        self.once(calls, 0, EIO)
+        with open(self.count) as file:
+            return int(file.read())

@@ -1,0 +1,11 @@
+pub mod Histories
+pub mod Clients
+pub mod Openings
+pub mod Asking
+pub mod Moves
+pub mod Seats
+pub mod Syncing
+pub mod Beginning
+pub mod GivenBack
+pub mod Judging
+pub mod Closing

@@ -1,0 +1,5 @@
+pub mod Record
+pub mod Service
+pub mod Desk
+pub mod Back
+pub mod Ending

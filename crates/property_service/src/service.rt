@@ -1,0 +1,269 @@
+//! `Service`: the machine over the words of an area, with its history.
+
+ghost use Rattle.std.specs.Prelude.{◌≡◌, ◌≤◌, ◌↔◌, ◌∷◌, ◌++◌, ◌||◌, ◌==◌, ℕ, [], Some};
+ghost use Rattle.std.specs.Prelude.{None, Ok, Err, true, false, length, IfOk, OnOk, OnErr, IsSomeAnd};
+ghost use Rattle.init_core.specs.Core.{opening_of};
+ghost use Rattle.init_core.specs.declared.machine.CoreStop.TheVariants as stop;
+ghost use Rattle.init_machine.specs.History.{Legal, sets_of};
+ghost use Rattle.init_machine.specs.Orderly.{ListStands};
+ghost use Rattle.init_machine.specs.Setting.{is_control};
+ghost use Rattle.init_machine.specs.Step.{answer_line};
+ghost use Rattle.init_machine.specs.WellFormed.{IsWellFormed};
+ghost use Rattle.init_machine.specs.declared.client.ClientItem.TheVariants.{Told};
+ghost use Rattle.init_machine.specs.declared.output.SetRefusal.TheVariants as refusal;
+ghost use Rattle.init_machine.specs.declared.report.Reading.TheVariants.{Synced};
+ghost use Rattle.property_area.specs.Area.{list_in};
+ghost use Rattle.property_area.specs.Readers.{asker_of, handed, last_of, IsAnswer};
+ghost use Rattle.property_area.specs.Seats.{sets_in};
+ghost use Rattle.property_service.specs.Back.{ComesBack, ComesBackFrom, has_entry, line_of};
+ghost use Rattle.property_service.specs.Record.{recorded};
+ghost use Rattle.property_service.specs.Service.{Agrees, DeclaredIn, IsNoSet, MayAsk, has_seat};
+ghost use Rattle.property_service.specs.Service.{last_outputs, next_entry, refusal_now, set_by, state_after};
+
+use crate::answer::{Accepted, last_answer};
+use crate::area_name::AreaName;
+use crate::desk::Desk;
+use init_base::{ClientId, List, NoMemory, Text};
+use init_core::CoreStop;
+use init_machine::{Config, Entry, Input, Pair, SetRefusal};
+use prop_contexts::Policy;
+use property_area::{AreaWriter, Reader};
+use std::alloc::Global;
+use std::marker::Model;
+
+/// The machine over the words of an area. It serves the area that its last type parameter names.
+#[derive(Drop)]
+pub struct Service<'a, N: AreaName> {
+    pub(crate) alloc: Global,
+    pub(crate) desk: Desk<'a, N>,
+    pub(crate) history: List<Entry>,
+    pub(crate) spent: bool,
+}
+
+impl<'a, N: AreaName> Model for Service<'a, N> {
+    ghost use Rattle.std.specs.Prelude.{◌≡◌, false};
+    ghost use Rattle.property_service.specs.Service.{ServiceView};
+
+    ghost Value = { ServiceView };
+
+    ghost view = { λ s. record { opening = s.desk.opening; history = s.history; seat = s.desk.seat; spent = s.spent } };
+
+    ghost invariant = { λ s. s.spent ≡ false → (s.desk.spent ≡ false) × (s.history ≡ s.desk.history) };
+}
+
+/// A client's request to set a property.
+fn set_input(alloc: Global, who: ClientId, name: &[u8], value: &[u8]) -> Result<Input, NoMemory>
+    ensures { IfOk result (λ input. input ≡ set_by who.0 name.now value.now) }
+{
+    Ok(Input::Set {
+        who,
+        name: Text::of(alloc, name)?,
+        value: Text::of(alloc, value)?,
+    })
+}
+
+impl<'a, N: AreaName> Service<'a, N> {
+    /// The service before its first input, over an area in which nothing was set and nobody has a seat.
+    pub fn new(
+        alloc: Global,
+        config: Config,
+        policy: Policy,
+        writer: AreaWriter<'a>,
+    ) -> Result<Service<'a, N>, NoMemory>
+        requires config { IsWellFormed config }
+        requires area { writer.table ≡ N.area }
+        requires empty { (sets_in writer.view ≡ []) × (writer.view.log ≡ []) }
+        requires nobody { (writer.view.out ≡ []) × ((who : ℕ) → list_in writer.view.clients who ≡ []) }
+        ensures opening { IfOk result (λ service. service.opening ≡ opening_of config policy writer.entry.view.words) }
+        ensures empty { IfOk result (λ service. (service.history ≡ []) × (service.seat.out ≡ [])) }
+        ensures ready { IfOk result (λ service. service.spent ≡ false) }
+    {
+        let desk = Desk::new(alloc, config, policy, writer)?;
+        Ok(Service {
+            alloc,
+            desk,
+            history: List::new(alloc),
+            spent: false,
+        })
+    }
+
+    /// Gives the main actor, which is client 0, or a declared client its reader. It never entered before.
+    pub fn enter(&mut self, who: ClientId) -> Result<Reader, NoMemory>
+        requires known { who.0 ≤ length self.old.opening.config.domains }
+        requires once { has_seat self.old.seat who.0 ≡ false }
+        ensures reader { IfOk result (λ reader. (reader.table ≡ N.area) × (reader.view ≡ handed who.0 self.old.seat)) }
+        ensures list { IfOk result (λ reader. (reader.view.list ≡ []) × (reader.view.opening ≡ Some (recorded self.old.opening))) }
+        ensures same { OnOk result ((self.new.opening ≡ self.old.opening) × (self.new.history ≡ self.old.history)) }
+        ensures seats { OnOk result ((q : ℕ) → has_seat self.new.seat q ≡ (has_seat self.old.seat q || (who.0 == q))) }
+        ensures ready { OnOk result (self.new.spent ≡ false) }
+        ensures spent { OnErr result (self.new.spent ≡ true) }
+    {
+        if self.spent {
+            return Err(NoMemory);
+        }
+        self.spent = true;
+        let reader = self.desk.enter(who)?;
+        self.spent = false;
+        Ok(reader)
+    }
+
+    /// Takes an input of the main actor, whose reader has it as a request then.
+    ///
+    /// `Spent` comes exactly where an earlier call answered `NoMemory`, and changes nothing. The reader comes back but at
+    /// `NoMemory`, where it may have stayed. It is so of each call that takes a reader.
+    pub fn input(&mut self, reader: Reader, input: Input) -> (Option<Reader>, Result<(), CoreStop>)
+        requires area { reader.table ≡ N.area }
+        requires main { (reader.view.who ≡ 0) × IsNoSet input }
+        ensures history { OnOk result.1 (self.new.history ≡ self.old.history ++ next_entry self.old input ∷ []) }
+        ensures opening { OnOk result.1 (self.new.opening ≡ self.old.opening) }
+        ensures reader { OnOk result.1 (IsSomeAnd result.0
+            (λ back. ComesBackFrom self.old.history (next_entry self.old input) reader back)) }
+        ensures seats { OnOk result.1 ((who : ℕ) → has_seat self.new.seat who ≡ has_seat self.old.seat who) }
+        ensures ready { OnOk result.1 (self.new.spent ≡ false) }
+        ensures spent { (result.1 ≡ Err stop.Spent) ↔ (self.old.spent ≡ true) }
+        ensures unchanged { result.1 ≡ Err stop.Spent → (self.new ≡ self.old) × (result.0 ≡ Some reader) }
+        ensures no_memory { result.1 ≡ Err stop.NoMemory → self.new.spent ≡ true }
+    {
+        self.take(reader, input)
+    }
+
+    /// Takes an input of the reader's client, and keeps its entry.
+    fn take(&mut self, reader: Reader, input: Input) -> (Option<Reader>, Result<(), CoreStop>)
+        requires area { reader.table ≡ N.area }
+        requires asker { reader.view.who ≡ asker_of input }
+        requires declared { MayAsk reader.view.opening input }
+        ensures history { OnOk result.1 (self.new.history ≡ self.old.history ++ next_entry self.old input ∷ []) }
+        ensures opening { OnOk result.1 (self.new.opening ≡ self.old.opening) }
+        ensures reader { OnOk result.1 (IsSomeAnd result.0
+            (λ back. ComesBackFrom self.old.history (next_entry self.old input) reader back)) }
+        ensures seats { OnOk result.1 ((who : ℕ) → has_seat self.new.seat who ≡ has_seat self.old.seat who) }
+        ensures ready { OnOk result.1 (self.new.spent ≡ false) }
+        ensures spent { (result.1 ≡ Err stop.Spent) ↔ (self.old.spent ≡ true) }
+        ensures unchanged { result.1 ≡ Err stop.Spent → (self.new ≡ self.old) × (result.0 ≡ Some reader) }
+        ensures no_memory { result.1 ≡ Err stop.NoMemory → self.new.spent ≡ true }
+    {
+        if self.spent {
+            return (Some(reader), Err(CoreStop::Spent));
+        }
+        self.spent = true;
+        let (reader, taken) = self.desk.take(reader, input);
+        let Ok(entry) = taken else {
+            return (reader, Err(CoreStop::NoMemory));
+        };
+        if self.history.push(entry).is_err() {
+            return (reader, Err(CoreStop::NoMemory));
+        }
+        self.spent = false;
+        (reader, Ok(()))
+    }
+
+    /// Sets a property, or asks for an operation on a service, for the reader's client, whose reader has the request with its
+    /// answer then. A set that is refused stands in the history with its refusal, except at `Spent` and `NoMemory`.
+    pub fn set(
+        &mut self,
+        reader: Reader,
+        name: &[u8],
+        value: &[u8],
+    ) -> (Option<Reader>, Result<Accepted, SetRefusal>)
+        requires area { reader.table ≡ N.area }
+        requires client { DeclaredIn reader.view.opening reader.view.who }
+        ensures history { has_entry result.1 ≡ true
+            → self.new.history ≡ self.old.history ++ next_entry self.old (set_by reader.view.who name.now value.now) ∷ [] }
+        ensures opening { has_entry result.1 ≡ true → self.new.opening ≡ self.old.opening }
+        ensures answer { has_entry result.1 ≡ true
+            → last_of (next_entry self.old (set_by reader.view.who name.now value.now)).outputs ≡ Some (line_of result.1) }
+        ensures judged { has_entry result.1 ≡ true → line_of result.1
+            ≡ answer_line (refusal_now self.old reader.view.who name.now value.now) (is_control name.now)
+            (length (sets_of self.new.history)) }
+        ensures reader { has_entry result.1 ≡ true
+            → IsSomeAnd result.0 (λ back. ComesBackFrom self.old.history
+            (next_entry self.old (set_by reader.view.who name.now value.now)) reader back) }
+        ensures seats { has_entry result.1 ≡ true → (who : ℕ) → has_seat self.new.seat who ≡ has_seat self.old.seat who }
+        ensures ready { has_entry result.1 ≡ true → self.new.spent ≡ false }
+        ensures spent { (result.1 ≡ Err refusal.Spent) ↔ (self.old.spent ≡ true) }
+        ensures unchanged { result.1 ≡ Err refusal.Spent → (self.new ≡ self.old) × (result.0 ≡ Some reader) }
+        ensures no_memory { result.1 ≡ Err refusal.NoMemory → self.new.spent ≡ true }
+    {
+        if self.spent {
+            return (Some(reader), Err(SetRefusal::Spent));
+        }
+        let Ok(input) = set_input(self.alloc, reader.who(), name, value) else {
+            self.spent = true;
+            return (Some(reader), Err(SetRefusal::NoMemory));
+        };
+        let (reader, taken) = self.take(reader, input);
+        let Ok(()) = taken else {
+            return (reader, Err(SetRefusal::NoMemory));
+        };
+        match last_answer(self.history()) {
+            Ok(answer) => (reader, answer),
+            Err(NoMemory) => {
+                self.spent = true;
+                (reader, Err(SetRefusal::NoMemory))
+            }
+        }
+    }
+
+    /// Tells the reader's client how many sets are accepted, and answers it. It adds no entry.
+    pub fn sync(&mut self, reader: Reader) -> (Option<Reader>, Result<u64, CoreStop>)
+        requires area { reader.table ≡ N.area }
+        ensures count { IfOk result.1 (λ count. count ≡ length (sets_of self.old.history)) }
+        ensures same { OnOk result.1 ((self.new.history ≡ self.old.history) × (self.new.opening ≡ self.old.opening)) }
+        ensures reader { IfOk result.1 (λ count. IsSomeAnd result.0 (λ back. ComesBack reader back (Told (Synced count)) count)) }
+        ensures stands { OnOk result.1 (IsSomeAnd result.0
+            (λ back. ListStands (sets_of self.old.history) None back.view.began back.view.list)) }
+        ensures seats { OnOk result.1 ((who : ℕ) → has_seat self.new.seat who ≡ has_seat self.old.seat who) }
+        ensures ready { OnOk result.1 (self.new.spent ≡ false) }
+        ensures spent { (result.1 ≡ Err stop.Spent) ↔ (self.old.spent ≡ true) }
+        ensures unchanged { result.1 ≡ Err stop.Spent → (self.new ≡ self.old) × (result.0 ≡ Some reader) }
+        ensures no_memory { result.1 ≡ Err stop.NoMemory → self.new.spent ≡ true }
+    {
+        if self.spent {
+            return (Some(reader), Err(CoreStop::Spent));
+        }
+        self.spent = true;
+        let (reader, count) = self.desk.sync(reader);
+        let Ok(count) = count else {
+            return (reader, Err(CoreStop::NoMemory));
+        };
+        self.spent = false;
+        (reader, Ok(count))
+    }
+
+    /// The entries so far.
+    pub fn history(&self) -> &List<Entry>
+        ensures same { result.now ≡ self.now.history }
+        ensures agrees { self.now.spent ≡ false → Agrees self.now }
+    {
+        self.desk.agrees();
+        &self.history
+    }
+
+    /// Whether an earlier call answered `NoMemory`.
+    pub(crate) fn is_spent(&self) -> bool
+        ensures { result ≡ self.now.spent }
+    {
+        self.spent
+    }
+
+    /// The properties to be saved.
+    pub fn saved(&self) -> &List<Pair>
+        ensures { self.now.spent ≡ false → result.now ≡ (state_after self.now).saved }
+    {
+        self.desk.saved()
+    }
+
+    /// Whether sets of persistent properties are saved.
+    pub fn saving(&self) -> bool
+        ensures { self.now.spent ≡ false → result ≡ (state_after self.now).saving }
+    {
+        self.desk.saving()
+    }
+
+    /// The policy by which sets are judged.
+    pub fn policy(&self) -> &Policy
+        ensures { self.now.spent ≡ false → result.now ≡ self.now.opening.policy }
+    {
+        self.desk.policy()
+    }
+}

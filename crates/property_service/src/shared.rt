@@ -1,0 +1,78 @@
+//! `Shared`: a service behind its lock.
+
+ghost use Rattle.std.specs.Prelude.{◌≡◌, Some, None, Ok, Err, true, IfOk, OnOk, IsSomeAnd};
+ghost use Rattle.init_core.specs.declared.machine.CoreStop.TheVariants as stop;
+ghost use Rattle.init_machine.specs.declared.client.ClientItem.TheVariants.{Told};
+ghost use Rattle.init_machine.specs.declared.output.SetRefusal.TheVariants as refusal;
+ghost use Rattle.init_machine.specs.declared.report.Reading.TheVariants.{Synced};
+ghost use Rattle.property_service.specs.Back.{ComesBack, ComesBackWith, has_entry, line_of};
+ghost use Rattle.property_service.specs.Service.{DeclaredIn, IsNoSet, set_by};
+
+use crate::answer::Accepted;
+use crate::area_name::AreaName;
+use crate::service::Service;
+use init_core::CoreStop;
+use init_machine::{Input, SetRefusal};
+use property_area::Reader;
+use std::sync::{Mutex, Wait};
+
+/// A service that any number of threads may call. It serves the area that its last type parameter names.
+#[derive(Drop)]
+pub struct Shared<'a, N: AreaName> {
+    lock: Mutex<Service<'a, N>>,
+}
+
+impl<'a, N: AreaName> Shared<'a, N> {
+    /// Puts a service behind its lock. It takes no memory.
+    pub fn new(service: Service<'a, N>) -> Shared<'a, N> {
+        Shared {
+            lock: Mutex::new(service),
+        }
+    }
+
+    /// `Service::set`, behind the lock.
+    pub fn set<R: Wait>(
+        &self,
+        rt: &R,
+        reader: Reader,
+        name: &[u8],
+        value: &[u8],
+    ) -> (Option<Reader>, Result<Accepted, SetRefusal>)
+        requires area { reader.table ≡ N.area }
+        requires client { DeclaredIn reader.view.opening reader.view.who }
+        ensures reader { has_entry result.1 ≡ true
+            → IsSomeAnd result.0 (ComesBackWith (set_by reader.view.who name.now value.now) (Some (line_of result.1)) reader) }
+        ensures unchanged { result.1 ≡ Err refusal.Spent → result.0 ≡ Some reader }
+    {
+        self.lock.lock(rt).set(reader, name, value)
+    }
+
+    /// `Service::sync`, behind the lock.
+    pub fn sync<R: Wait>(&self, rt: &R, reader: Reader) -> (Option<Reader>, Result<u64, CoreStop>)
+        requires area { reader.table ≡ N.area }
+        ensures reader { IfOk result.1 (λ count. IsSomeAnd result.0 (λ back. ComesBack reader back (Told (Synced count)) count)) }
+        ensures unchanged { result.1 ≡ Err stop.Spent → result.0 ≡ Some reader }
+    {
+        self.lock.lock(rt).sync(reader)
+    }
+
+    /// `Service::input`, behind the lock.
+    pub fn input<R: Wait>(
+        &self,
+        rt: &R,
+        reader: Reader,
+        input: Input,
+    ) -> (Option<Reader>, Result<(), CoreStop>)
+        requires area { reader.table ≡ N.area }
+        requires main { (reader.view.who ≡ 0) × IsNoSet input }
+        ensures reader { OnOk result.1 (IsSomeAnd result.0 (ComesBackWith input None reader)) }
+        ensures unchanged { result.1 ≡ Err stop.Spent → result.0 ≡ Some reader }
+    {
+        self.lock.lock(rt).input(reader, input)
+    }
+
+    /// The service, which nobody shares any more.
+    pub fn into_inner(self) -> Service<'a, N> {
+        self.lock.into_inner()
+    }
+}

@@ -1,0 +1,95 @@
+//! What is wrong with the words of a line.
+
+ghost use Rattle.std.specs.Prelude.{◌≡◌, IfOk, None};
+ghost use Rattle.init_base.specs.Value.{short_value_fault};
+ghost use Rattle.refusal_causes.specs.Store.{misspelled as misspelled_lem, name_fault as name_fault_lem, name_in as name_in_lem, order_fault as order_fault_lem, spelled_fault, value_fault as value_fault_lem};
+ghost use Rattle.persist_file.specs.Causes.{value_in as value_in_lem};
+
+use super::cause::StoreFault;
+use crate::names::is_legal;
+use init_base::{BadValue, NoMemory, PropValue, Text};
+use persist_file::{Version, value_in, words_in};
+use std::alloc::Global;
+
+/// Why a name isn't that of a property that is saved.
+pub fn name_fault(alloc: Global, name: &[u8]) -> Result<StoreFault, NoMemory>
+    ensures { IfOk result (λ fault. fault ≡ name_fault_lem name.now) }
+{
+    let text = Text::of(alloc, name)?;
+    Ok(if is_legal(name) {
+        StoreFault::NotPersistent { name: text }
+    } else {
+        StoreFault::IllegalName { name: text }
+    })
+}
+
+/// Why a name can't stand behind that of the line before, which has this number.
+pub fn order_fault(
+    alloc: Global,
+    before: &[u8],
+    number: u32,
+    name: &[u8],
+) -> Result<StoreFault, NoMemory>
+    ensures { IfOk result (λ fault. fault ≡ order_fault_lem before.now number name.now) }
+{
+    let is_same = before == name;
+    let name = Text::of(alloc, name)?;
+    Ok(if is_same {
+        StoreFault::Twice {
+            name,
+            first: number,
+        }
+    } else {
+        StoreFault::OutOfOrder {
+            name,
+            behind: number,
+        }
+    })
+}
+
+/// The name of a line. One that hasn't its version's words has the empty one.
+pub fn name_in(version: Version, line: &[u8]) -> &[u8]
+    ensures { result.now ≡ name_in_lem version line.entry.now }
+{
+    match words_in(version, line) {
+        Some(words) => words.name,
+        None => b"",
+    }
+}
+
+/// Why a word isn't the value of a property of a type.
+pub fn value_fault(
+    alloc: Global,
+    version: Version,
+    kind: &[u8],
+    word: &[u8],
+) -> Result<StoreFault, NoMemory>
+    ensures { IfOk result (λ fault. fault ≡ value_fault_lem version kind.now word.now) }
+{
+    let Some(value) = value_in(alloc, version, word)? else {
+        return misspelled(alloc, version, word);
+    };
+    match fault_of(value.bytes()) {
+        Some(fault) => Ok(StoreFault::IllegalValue { fault }),
+        None => Ok(StoreFault::NotTyped {
+            kind: Text::of(alloc, kind)?,
+            value,
+        }),
+    }
+}
+
+fn misspelled(alloc: Global, version: Version, word: &[u8]) -> Result<StoreFault, NoMemory>
+    ensures { IfOk result (λ fault. fault ≡ misspelled_lem version word.now) }
+{
+    let given = Text::of(alloc, word)?;
+    Ok(match version {
+        Version::First => StoreFault::NotHex { given },
+        Version::Second => StoreFault::NotQuoted { given },
+    })
+}
+
+fn fault_of(value: &[u8]) -> Option<BadValue>
+    ensures { result ≡ short_value_fault value.now }
+{
+    PropValue::short(value).err()
+}

@@ -1,0 +1,10 @@
+use Rattle.std.proofs.Common.{◌≡◌, length}
+use Rattle.trace_reader.specs.Pieces.{left_of}
+use Rattle.trace_reader.proofs.piece.Pieces.next.Given as goal
+
+-- nothing of what was left is lost
+abbrev pub invariant-loop-self : goal.invariant-loop-self
+invariant-loop-self l = left_of l.initial.self ≡ left_of l.self
+
+abbrev pub decreases-loop-self : goal.decreases-loop-self
+decreases-loop-self l = length l.self.rest.now
