@@ -48,8 +48,9 @@ static void make_ready(void) {
 
 static int begins(const char *path, const char *front) { return strncmp(path, front, strlen(front)) == 0; }
 
+/* (a program with threads makes its calls side by side) */
 static int is_next(void) {
-    if (++count != at) {
+    if (__atomic_add_fetch(&count, 1, __ATOMIC_SEQ_CST) != at) {
         return 0;
     }
     errno = error;
@@ -86,6 +87,13 @@ __attribute__((destructor)) static void tell(void) {
         long file = syscall(SYS_openat, AT_FDCWD, path, O_WRONLY | O_CREAT | O_TRUNC, 0644);
         syscall(SYS_write, file, text, snprintf(text, sizeof text, "%ld\n", count));
     }
+}
+
+/* (a program may end so, without a call of the destructors) */
+void _exit(int status) {
+    tell();
+    syscall(SYS_exit_group, status);
+    __builtin_unreachable();
 }
 
 void *malloc(size_t size) { return grow_fails("malloc") ? NULL : __libc_malloc(size); }

@@ -21,6 +21,10 @@ def make_library(room, compiler):
 
 
 def words_of(folder):
+    words = os.path.join(folder, "words")
+    if os.path.isfile(words):
+        with open(words) as file:
+            return file.read().split("\n")[:-1]
     if os.path.isfile(os.path.join(folder, "trace")):
         return ["audit", "tree", "script", "trace"]
     return ["run", "tree", "script"]

@@ -1,9 +1,10 @@
 #!/usr/bin/env python3
 """Times an audit beside a run and the reading of the run's trace: bench/trace/audit.py PROGRAM [SHAPE..]. The inputs are those of
-bench/machine/inputs.py. What reading a trace takes is what an audit takes that ends at a diagnostic too many, less what one takes
-that ends at an empty trace. Seconds are the least user and system time of three, memory is the peak. A shape whose trace is longer
+bench/machine/inputs.py. What reading a trace takes is what an audit takes whose first entry is no boot, so that the machine takes
+no input, less what one takes that ends at an empty trace. Seconds are the least user and system time of three, memory is the peak. A shape whose trace is longer
 than an audit reads is left out. Ends with a failure where an answer isn't the one that is due."""
 import os
+import shutil
 import subprocess
 import sys
 import tempfile
@@ -50,10 +51,13 @@ def measure(program, folder, name):
         print(f"{name}: a trace of {size} bytes is longer than an audit reads")
         return
     audit, audit_peak = least([program, "audit", *words[1:], "trace"], folder, out, 0, b"yes\n")
-    with open(trace, "rb") as whole, open(other, "wb") as more:
-        more.write(whole.readline() + b"diag x 1 Cut\n")
-        more.write(whole.read())
-    stopped, _ = least([program, "audit", *words[1:], "other"], folder, out, 0, b"no Diagnostics ")
+    with open(trace, "rb") as whole, open(other, "wb") as changed:
+        for line in whole:
+            changed.write(line.replace(b"boot", b"next"))
+            if line == b"boot\n":
+                break
+        shutil.copyfileobj(whole, changed)
+    stopped, _ = least([program, "audit", *words[1:], "other"], folder, out, 0, b"no Merge 1\n")
     open(other, "wb").close()
     loaded, _ = least([program, "audit", *words[1:], "other"], folder, out, 12, b"")
     beside = run + max(0, stopped - loaded)

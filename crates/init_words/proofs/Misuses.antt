@@ -8,7 +8,7 @@ use Rattle.std.proofs.lemmas.Slice.Eq.{bytes_eq-Decides}
 use Rattle.init_words.specs.Form.{form_of, is_path_word}
 use Rattle.init_words.specs.Misuse.{misuse_at, misuse_behind, misuse_of, word_fault}
 use Rattle.init_words.specs.declared.form.Form.{Form}
-use Rattle.init_words.specs.declared.form.Form.TheVariants.{Run, Check, Audit}
+use Rattle.init_words.specs.declared.form.Form.TheVariants.{Run, Race, Check, Audit}
 use Rattle.init_words.specs.declared.misuse.Misuse.{Misuse}
 use Rattle.init_words.specs.declared.misuse.Misuse.TheVariants as misuse
 use Rattle.init_words.specs.declared.misuse.Place.{Place}
@@ -56,54 +56,72 @@ both_none : (a b : Option Misuse) → a ≡ None → b ≡ None → option_or a 
 both_none None b h k = k
 both_none (Some x) b h k = h
 
-apart_check : (word : List ℕ) → bytes_eq word (codes "run") ≡ true → bytes_eq word (codes "check") ≡ false
-apart_check word h =
-    let named : word ≡ codes "run" = (bytes_eq-Decides word (codes "run")).0 h in
-    subst (λ w. bytes_eq w (codes "check") ≡ false) (sym named) refl
+-- a word of one name has no other
+no_other : (word one other : List ℕ) → bytes_eq one other ≡ false → bytes_eq word one ≡ true → bytes_eq word other ≡ false
+no_other word one other differ h =
+    let named : word ≡ one = (bytes_eq-Decides word one).0 h in
+    subst (λ w. bytes_eq w other ≡ false) (sym named) differ
 
-run_or_audit : (word : List ℕ) → bytes_eq word (codes "run") ≡ true → bytes_eq word (codes "audit") ≡ false
-run_or_audit word h =
-    let named : word ≡ codes "run" = (bytes_eq-Decides word (codes "run")).0 h in
-    subst (λ w. bytes_eq w (codes "audit") ≡ false) (sym named) refl
+-- whichever of two tests the form passed, the first test would do
+some_of : (b c : Bool) (x y : Form) → IsSome (if b then Some x else (if c then Some y else None)) → (c ≡ true → b ≡ true) → b ≡ true
+some_of true c x y h k = refl
+some_of false true x y h k = k refl
+some_of false false x y h k = h
 
-check_or_audit : (word : List ℕ) → bytes_eq word (codes "check") ≡ true → bytes_eq word (codes "audit") ≡ false
-check_or_audit word h =
-    let named : word ≡ codes "check" = (bytes_eq-Decides word (codes "check")).0 h in
-    subst (λ w. bytes_eq w (codes "audit") ≡ false) (sym named) refl
+some_first : (b c : Bool) (x y : Form) → b ≡ true → IsSome (if b then Some x else (if c then Some y else None))
+some_first true c x y h = refl
+some_first false c x y h = cc
 
 -- the form that the tests of a word's name give
-tested : (run check audit : Bool) → Option Form
-tested run check audit = if run then Some Run else (if check then Some Check else (if audit then Some Audit else None))
+tested : (run race check audit : Bool) → Option Form
+tested run race check audit = if run then Some Run else (if race then Some Race else (if check then Some Check else (if audit then Some Audit else None)))
 
 -- what is wrong with words behind a name that is tested so
-behind : (run check audit : Bool) (words : List (List ℕ)) → Option Misuse
-behind run check audit words = option_map_or (misuse_behind words) (tested run check audit) (Some misuse.UnknownForm)
+behind : (run race check audit : Bool) (words : List (List ℕ)) → Option Misuse
+behind run race check audit words = option_map_or (misuse_behind words) (tested run race check audit) (Some misuse.UnknownForm)
 
-two : (run check audit : Bool) (root : List ℕ) → (run ≡ true → check ≡ false)
-    → (behind run check audit (root ∷ []) ≡ None) ↔ IsSome (if check && is_path_word root then Some Check else None)
+two : (run race check audit : Bool) (root : List ℕ) → (run ≡ true → check ≡ false) → (race ≡ true → check ≡ false)
+    → (behind run race check audit (root ∷ []) ≡ None) ↔ IsSome (if check && is_path_word root then Some Check else None)
 unfolding behind tested
-two true true audit root differ = let bad : false ≡ true = sym (differ refl) in (λ h. cc, λ h. cc)
-two true false audit root differ = (λ h. cc, λ h. cc)
-two false true audit root differ = (
+two true race true audit root run_differs race_differs = let bad : false ≡ true = sym (run_differs refl) in (λ h. cc, λ h. cc)
+two true race false audit root run_differs race_differs = (λ h. cc, λ h. cc)
+two false true true audit root run_differs race_differs = let bad : false ≡ true = sym (race_differs refl) in (λ h. cc, λ h. cc)
+two false true false audit root run_differs race_differs = (λ h. cc, λ h. cc)
+two false false true audit root run_differs race_differs = (
   λ h. some_if (is_path_word root) Check ((at_law _ root).0 h),
   λ h. (at_law _ root).1 (some_where (is_path_word root) Check h),
 )
-two false false true root differ = (λ h. cc, λ h. cc)
-two false false false root differ = (λ h. cc, λ h. cc)
+two false false false true root run_differs race_differs = (λ h. cc, λ h. cc)
+two false false false false root run_differs race_differs = (λ h. cc, λ h. cc)
 
-three : (run check audit : Bool) (root script : List ℕ)
-    → (behind run check audit (root ∷ script ∷ []) ≡ None)
-    ↔ IsSome (if run && is_path_word root && is_path_word script then Some Run else None)
-unfolding behind tested
-three true check audit root script = (
-  λ h. some_if (is_path_word root && is_path_word script) Run
-      (and_from (is_path_word root) (is_path_word script) ((at_law _ root).0 (first_none _ _ h)) ((at_law _ script).0 (second_none _ _ h))),
-  λ h. let both = and_parts (is_path_word root) (is_path_word script) (some_where (is_path_word root && is_path_word script) Run h) in
+both_paths : (root script : List ℕ)
+    → (option_or (misuse_at Root root) (misuse_at Script script) ≡ None) ↔ ((is_path_word root && is_path_word script) ≡ true)
+both_paths root script = (
+  λ h. and_from (is_path_word root) (is_path_word script) ((at_law _ root).0 (first_none _ _ h)) ((at_law _ script).0 (second_none _ _ h)),
+  λ h. let both = and_parts (is_path_word root) (is_path_word script) h in
       both_none _ _ ((at_law _ root).1 both.0) ((at_law _ script).1 both.1),
 )
-three false true audit root script = (λ h. cc, λ h. cc)
-three false false true root script = (λ h. cc, λ h. cc)
-three false false false root script = (λ h. cc, λ h. cc)
+
+three : (run race check audit : Bool) (root script : List ℕ)
+    → (behind run race check audit (root ∷ script ∷ []) ≡ None)
+    ↔ IsSome (if run && is_path_word root && is_path_word script then Some Run
+    else (if race && is_path_word root && is_path_word script then Some Race else None))
+unfolding behind tested
+three true true check audit root script = (
+  λ h. some_first (is_path_word root && is_path_word script) _ Run Race ((both_paths root script).0 h),
+  λ h. (both_paths root script).1 (some_of (is_path_word root && is_path_word script) _ Run Race h (λ k. k)),
+)
+three true false check audit root script = (
+  λ h. some_first (is_path_word root && is_path_word script) false Run Race ((both_paths root script).0 h),
+  λ h. (both_paths root script).1 (some_of (is_path_word root && is_path_word script) false Run Race h (λ k. cc)),
+)
+three false true check audit root script = (
+  λ h. some_if (is_path_word root && is_path_word script) Race ((both_paths root script).0 h),
+  λ h. (both_paths root script).1 (some_where (is_path_word root && is_path_word script) Race h),
+)
+three false false true audit root script = (λ h. cc, λ h. cc)
+three false false false true root script = (λ h. cc, λ h. cc)
+three false false false false root script = (λ h. cc, λ h. cc)
 
 three_paths : (root script trace : List ℕ)
     → (option_or (misuse_at Root root) (option_or (misuse_at Script script) (misuse_at Trace trace)) ≡ None)
@@ -118,44 +136,54 @@ three_paths root script trace = (
       both_none _ _ ((at_law _ root).1 both.0) (both_none _ _ ((at_law _ script).1 both.1) ((at_law _ trace).1 all.1)),
 )
 
-four : (run check audit : Bool) (root script trace : List ℕ) → (run ≡ true → audit ≡ false) → (check ≡ true → audit ≡ false)
-    → (behind run check audit (root ∷ script ∷ trace ∷ []) ≡ None)
+four : (run race check audit : Bool) (root script trace : List ℕ)
+    → (run ≡ true → audit ≡ false) → (race ≡ true → audit ≡ false) → (check ≡ true → audit ≡ false)
+    → (behind run race check audit (root ∷ script ∷ trace ∷ []) ≡ None)
     ↔ IsSome (if audit && is_path_word root && is_path_word script && is_path_word trace then Some Audit else None)
 unfolding behind tested
-four true check true root script trace run_differs check_differs = let bad : false ≡ true = sym (run_differs refl) in (λ h. cc, λ h. cc)
-four true check false root script trace run_differs check_differs = (λ h. cc, λ h. cc)
-four false true true root script trace run_differs check_differs = let bad : false ≡ true = sym (check_differs refl) in (λ h. cc, λ h. cc)
-four false true false root script trace run_differs check_differs = (λ h. cc, λ h. cc)
-four false false true root script trace run_differs check_differs = (
+four true race check true root script trace run_differs race_differs check_differs =
+    let bad : false ≡ true = sym (run_differs refl) in (λ h. cc, λ h. cc)
+four true race check false root script trace run_differs race_differs check_differs = (λ h. cc, λ h. cc)
+four false true check true root script trace run_differs race_differs check_differs =
+    let bad : false ≡ true = sym (race_differs refl) in (λ h. cc, λ h. cc)
+four false true check false root script trace run_differs race_differs check_differs = (λ h. cc, λ h. cc)
+four false false true true root script trace run_differs race_differs check_differs =
+    let bad : false ≡ true = sym (check_differs refl) in (λ h. cc, λ h. cc)
+four false false true false root script trace run_differs race_differs check_differs = (λ h. cc, λ h. cc)
+four false false false true root script trace run_differs race_differs check_differs = (
   λ h. some_if (is_path_word root && is_path_word script && is_path_word trace) Audit ((three_paths root script trace).0 h),
   λ h. (three_paths root script trace).1 (some_where (is_path_word root && is_path_word script && is_path_word trace) Audit h),
 )
-four false false false root script trace run_differs check_differs = (λ h. cc, λ h. cc)
+four false false false false root script trace run_differs race_differs check_differs = (λ h. cc, λ h. cc)
 
-other_count : (run check audit : Bool) (words : List (List ℕ)) (a b c : Misuse)
-    → misuse_behind words Run ≡ Some a → misuse_behind words Check ≡ Some b → misuse_behind words Audit ≡ Some c
-    → behind run check audit words ≡ None → true ≡ false
+other_count : (run race check audit : Bool) (words : List (List ℕ)) (a b c d : Misuse)
+    → misuse_behind words Run ≡ Some a → misuse_behind words Race ≡ Some b → misuse_behind words Check ≡ Some c → misuse_behind words Audit ≡ Some d
+    → behind run race check audit words ≡ None → true ≡ false
 unfolding behind tested
-other_count true check audit words a b c e f g h = cc
-other_count false true audit words a b c e f g h = cc
-other_count false false true words a b c e f g h = cc
-other_count false false false words a b c e f g h = cc
+other_count true race check audit words a b c d e f g h i = cc
+other_count false true check audit words a b c d e f g h i = cc
+other_count false false true audit words a b c d e f g h i = cc
+other_count false false false true words a b c d e f g h i = cc
+other_count false false false false words a b c d e f g h i = cc
 
 pub misuse_law : (words : List (List ℕ)) → (misuse_of words ≡ None) ↔ IsSome (form_of words)
 unfolding behind tested
 misuse_law [] = (λ h. cc, λ h. cc)
 misuse_law (word ∷ []) = (
-  λ h. sym (other_count (bytes_eq word (codes "run")) (bytes_eq word (codes "check")) (bytes_eq word (codes "audit")) [] _ _ _ refl refl refl h),
+  λ h. sym (other_count (bytes_eq word (codes "run")) (bytes_eq word (codes "race")) (bytes_eq word (codes "check")) (bytes_eq word (codes "audit"))
+      [] _ _ _ _ refl refl refl refl h),
   λ h. cc,
 )
 misuse_law (word ∷ root ∷ []) =
-    two (bytes_eq word (codes "run")) (bytes_eq word (codes "check")) (bytes_eq word (codes "audit")) root (apart_check word)
+    two (bytes_eq word (codes "run")) (bytes_eq word (codes "race")) (bytes_eq word (codes "check")) (bytes_eq word (codes "audit")) root
+    (no_other word (codes "run") (codes "check") refl) (no_other word (codes "race") (codes "check") refl)
 misuse_law (word ∷ root ∷ script ∷ []) =
-    three (bytes_eq word (codes "run")) (bytes_eq word (codes "check")) (bytes_eq word (codes "audit")) root script
+    three (bytes_eq word (codes "run")) (bytes_eq word (codes "race")) (bytes_eq word (codes "check")) (bytes_eq word (codes "audit")) root script
 misuse_law (word ∷ root ∷ script ∷ trace ∷ []) =
-    four (bytes_eq word (codes "run")) (bytes_eq word (codes "check")) (bytes_eq word (codes "audit")) root script trace
-    (run_or_audit word) (check_or_audit word)
+    four (bytes_eq word (codes "run")) (bytes_eq word (codes "race")) (bytes_eq word (codes "check")) (bytes_eq word (codes "audit")) root script trace
+    (no_other word (codes "run") (codes "audit") refl) (no_other word (codes "race") (codes "audit") refl) (no_other word (codes "check") (codes "audit") refl)
 misuse_law (word ∷ root ∷ script ∷ trace ∷ more ∷ rest) = (
-  λ h. sym (other_count (bytes_eq word (codes "run")) (bytes_eq word (codes "check")) (bytes_eq word (codes "audit")) (root ∷ script ∷ trace ∷ more ∷ rest) _ _ _ refl refl refl h),
+  λ h. sym (other_count (bytes_eq word (codes "run")) (bytes_eq word (codes "race")) (bytes_eq word (codes "check")) (bytes_eq word (codes "audit"))
+      (root ∷ script ∷ trace ∷ more ∷ rest) _ _ _ _ refl refl refl refl h),
   λ h. cc,
 )

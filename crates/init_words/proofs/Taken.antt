@@ -1,5 +1,5 @@
 -- The command takes words of a form, and they are UTF-8.
-use Rattle.std.proofs.Common.{◌≡◌, ℕ, Bool, true, false, List, [], ◌∷◌, ◌&&◌, codes, Some, None, refl, sym, subst}
+use Rattle.std.proofs.Common.{◌≡◌, ℕ, Bool, true, false, List, [], ◌∷◌, ◌&&◌, codes, Some, None, ◌⊎◌, inl, inr, refl, sym, subst}
 use Rattle.std.specs.Prelude.{IsSome, ◌==◌, not, if◌then◌else◌}
 use Rattle.std.specs.List.{list_all}
 use Rattle.std.specs.Str.{bytes_eq, is_utf8}
@@ -9,6 +9,7 @@ use Rattle.clap.specs.Words.{takes}
 use Rattle.clap.proofs.OnLiterals.{clap_on_literals}
 use Rattle.init_words.specs.Command.{app}
 use Rattle.init_words.specs.Form.{form_of, is_path_word}
+use Rattle.init_words.specs.declared.form.Form.TheVariants.{Run, Race}
 
 some_where : {T : Type 0} (b : Bool) (x : T) → IsSome (if b then Some x else None) → b ≡ true
 some_where true x h = refl
@@ -38,6 +39,22 @@ run_taken (byte ∷ rest) (other ∷ more) h k =
     let plain2 = not_dash other more k in
     simp (plain, plain2) refl
 
+race_taken : (root script : List ℕ) → is_path_word root ≡ true → is_path_word script ≡ true
+    → takes app (codes "race" ∷ root ∷ script ∷ []) ≡ true
+unfolding clap_on_literals
+race_taken [] script h k = cc
+race_taken (byte ∷ rest) [] h k = cc
+race_taken (byte ∷ rest) (other ∷ more) h k =
+    let plain = not_dash byte rest h in
+    let plain2 = not_dash other more k in
+    simp (plain, plain2) refl
+
+-- words of three that have a form are those of `run` or of `race`
+one_of_two : (run race : Bool) → IsSome (if run then Some Run else (if race then Some Race else None)) → (run ≡ true) ⊎ (race ≡ true)
+one_of_two true race some = inl refl
+one_of_two false true some = inr refl
+one_of_two false false some = inl some
+
 audit_taken : (root script trace : List ℕ) → is_path_word root ≡ true → is_path_word script ≡ true → is_path_word trace ≡ true
     → takes app (codes "audit" ∷ root ∷ script ∷ trace ∷ []) ≡ true
 unfolding clap_on_literals
@@ -58,11 +75,18 @@ form_taken (word ∷ root ∷ []) h =
     let both = and_parts (bytes_eq word (codes "check")) (is_path_word root) (some_where _ _ h) in
     let named : word ≡ codes "check" = (bytes_eq-Decides word (codes "check")).0 both.0 in
     subst (λ w. takes app (w ∷ root ∷ []) ≡ true) (sym named) (check_taken root both.1)
-form_taken (word ∷ root ∷ script ∷ []) h =
-    let all = and_parts (bytes_eq word (codes "run") && is_path_word root) (is_path_word script) (some_where _ _ h) in
-    let both = and_parts (bytes_eq word (codes "run")) (is_path_word root) all.0 in
-    let named : word ≡ codes "run" = (bytes_eq-Decides word (codes "run")).0 both.0 in
-    subst (λ w. takes app (w ∷ root ∷ script ∷ []) ≡ true) (sym named) (run_taken root script both.1 all.1)
+form_taken (word ∷ root ∷ script ∷ []) h = elim (one_of_two _ _ h) [
+  | inl is ↦
+      let all = and_parts (bytes_eq word (codes "run") && is_path_word root) (is_path_word script) is in
+      let both = and_parts (bytes_eq word (codes "run")) (is_path_word root) all.0 in
+      let named : word ≡ codes "run" = (bytes_eq-Decides word (codes "run")).0 both.0 in
+      subst (λ w. takes app (w ∷ root ∷ script ∷ []) ≡ true) (sym named) (run_taken root script both.1 all.1)
+  | inr is ↦
+      let all = and_parts (bytes_eq word (codes "race") && is_path_word root) (is_path_word script) is in
+      let both = and_parts (bytes_eq word (codes "race")) (is_path_word root) all.0 in
+      let named : word ≡ codes "race" = (bytes_eq-Decides word (codes "race")).0 both.0 in
+      subst (λ w. takes app (w ∷ root ∷ script ∷ []) ≡ true) (sym named) (race_taken root script both.1 all.1)
+]
 form_taken (word ∷ root ∷ script ∷ trace ∷ []) h =
     let all = and_parts (bytes_eq word (codes "audit") && is_path_word root && is_path_word script) (is_path_word trace) (some_where _ _ h) in
     let both = and_parts (bytes_eq word (codes "audit") && is_path_word root) (is_path_word script) all.0 in
@@ -78,6 +102,10 @@ path_utf8 (byte ∷ rest) h = (and_parts (not (byte == 45)) (is_utf8 (byte ∷ r
 run_utf8 : is_utf8 (codes "run") ≡ true
 unfolding clap_on_literals is_utf8
 run_utf8 = refl
+
+race_utf8 : is_utf8 (codes "race") ≡ true
+unfolding clap_on_literals is_utf8
+race_utf8 = refl
 
 check_utf8 : is_utf8 (codes "check") ≡ true
 unfolding clap_on_literals is_utf8
@@ -97,14 +125,24 @@ form_utf8 (word ∷ root ∷ []) h =
     let first : is_utf8 word ≡ true = subst (λ w. is_utf8 w ≡ true) (sym named) check_utf8 in
     let second : is_utf8 root ≡ true = path_utf8 root both.1 in
     rw (first, second) refl
-form_utf8 (word ∷ root ∷ script ∷ []) h =
-    let all = and_parts (bytes_eq word (codes "run") && is_path_word root) (is_path_word script) (some_where _ _ h) in
-    let both = and_parts (bytes_eq word (codes "run")) (is_path_word root) all.0 in
-    let named : word ≡ codes "run" = (bytes_eq-Decides word (codes "run")).0 both.0 in
-    let first : is_utf8 word ≡ true = subst (λ w. is_utf8 w ≡ true) (sym named) run_utf8 in
-    let second : is_utf8 root ≡ true = path_utf8 root both.1 in
-    let third : is_utf8 script ≡ true = path_utf8 script all.1 in
-    rw (first, second, third) refl
+form_utf8 (word ∷ root ∷ script ∷ []) h = elim (one_of_two _ _ h) [
+  | inl is ↦
+      let all = and_parts (bytes_eq word (codes "run") && is_path_word root) (is_path_word script) is in
+      let both = and_parts (bytes_eq word (codes "run")) (is_path_word root) all.0 in
+      let named : word ≡ codes "run" = (bytes_eq-Decides word (codes "run")).0 both.0 in
+      let first : is_utf8 word ≡ true = subst (λ w. is_utf8 w ≡ true) (sym named) run_utf8 in
+      let second : is_utf8 root ≡ true = path_utf8 root both.1 in
+      let third : is_utf8 script ≡ true = path_utf8 script all.1 in
+      rw (first, second, third) refl
+  | inr is ↦
+      let all = and_parts (bytes_eq word (codes "race") && is_path_word root) (is_path_word script) is in
+      let both = and_parts (bytes_eq word (codes "race")) (is_path_word root) all.0 in
+      let named : word ≡ codes "race" = (bytes_eq-Decides word (codes "race")).0 both.0 in
+      let first : is_utf8 word ≡ true = subst (λ w. is_utf8 w ≡ true) (sym named) race_utf8 in
+      let second : is_utf8 root ≡ true = path_utf8 root both.1 in
+      let third : is_utf8 script ≡ true = path_utf8 script all.1 in
+      rw (first, second, third) refl
+]
 form_utf8 (word ∷ root ∷ script ∷ trace ∷ []) h =
     let all = and_parts (bytes_eq word (codes "audit") && is_path_word root && is_path_word script) (is_path_word trace) (some_where _ _ h) in
     let both = and_parts (bytes_eq word (codes "audit") && is_path_word root) (is_path_word script) all.0 in

@@ -11,6 +11,10 @@ path_rule id = record (new_rule id) { required = true; action = Some Set }
 abbrev pub run_app : App
 run_app = with_rule (with_rule (new_app (codes "run")) (path_rule (codes "ROOT"))) (path_rule (codes "SCRIPT"))
 
+-- `race ROOT SCRIPT`
+abbrev pub race_app : App
+race_app = with_rule (with_rule (new_app (codes "race")) (path_rule (codes "ROOT"))) (path_rule (codes "SCRIPT"))
+
 -- `check ROOT`
 abbrev pub check_app : App
 check_app = with_rule (new_app (codes "check")) (path_rule (codes "ROOT"))
@@ -33,4 +37,6 @@ bare_of a = record a {
 }
 
 abbrev pub app : App
-app = with_subcommand (with_subcommand (with_subcommand (bare_of (new_app (codes "initsim"))) run_app.top) check_app.top) audit_app.top
+app =
+    with_subcommand (with_subcommand (with_subcommand (with_subcommand (bare_of (new_app (codes "initsim"))) run_app.top) race_app.top) check_app.top)
+    audit_app.top

@@ -9,11 +9,12 @@ abbrev pub is_path_word : List ℕ → Bool
 is_path_word [] = false
 is_path_word (byte ∷ rest) = not (byte == 45) && is_utf8 (byte ∷ rest)
 
--- `run ROOT SCRIPT`, `check ROOT` and `audit ROOT SCRIPT TRACE`
+-- `run ROOT SCRIPT`, `race ROOT SCRIPT`, `check ROOT` and `audit ROOT SCRIPT TRACE`
 abbrev pub form_of : List (List ℕ) → Option Form
 form_of (word ∷ root ∷ []) = if bytes_eq word (codes "check") && is_path_word root then Some form.Check else None
 form_of (word ∷ root ∷ script ∷ []) =
-    if bytes_eq word (codes "run") && is_path_word root && is_path_word script then Some form.Run else None
+    if bytes_eq word (codes "run") && is_path_word root && is_path_word script then Some form.Run
+    else (if bytes_eq word (codes "race") && is_path_word root && is_path_word script then Some form.Race else None)
 form_of (word ∷ root ∷ script ∷ trace ∷ []) =
     if bytes_eq word (codes "audit") && is_path_word root && is_path_word script && is_path_word trace then Some form.Audit else None
 form_of _ = None

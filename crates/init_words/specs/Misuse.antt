@@ -3,7 +3,7 @@ use Rattle.std.specs.Prelude.{ℕ, ◌==◌, if◌then◌else◌, List, [], ◌�
 use Rattle.std.specs.Option.{option_map_or, option_or}
 use Rattle.std.specs.Str.{bytes_eq, is_utf8}
 use Rattle.init_words.specs.declared.form.Form.{Form}
-use Rattle.init_words.specs.declared.form.Form.TheVariants.{Run, Check, Audit}
+use Rattle.init_words.specs.declared.form.Form.TheVariants.{Run, Race, Check, Audit}
 use Rattle.init_words.specs.declared.misuse.Misuse.{Misuse}
 use Rattle.init_words.specs.declared.misuse.Misuse.TheVariants as misuse
 use Rattle.init_words.specs.declared.misuse.Place.{Place}
@@ -15,7 +15,8 @@ use Rattle.init_words.specs.declared.misuse.WordFault.TheVariants as fault
 abbrev pub form_named : List ℕ → Option Form
 form_named word =
     if bytes_eq word (codes "run") then Some Run
-    else (if bytes_eq word (codes "check") then Some Check else (if bytes_eq word (codes "audit") then Some Audit else None))
+    else (if bytes_eq word (codes "race") then Some Race
+    else (if bytes_eq word (codes "check") then Some Check else (if bytes_eq word (codes "audit") then Some Audit else None)))
 
 -- why a word names no path: it is empty, or begins with `-` (45), or isn't UTF-8
 abbrev pub word_fault : List ℕ → Option WordFault
@@ -26,11 +27,12 @@ word_fault (byte ∷ rest) =
 abbrev pub misuse_at : Place → List ℕ → Option Misuse
 misuse_at place word = option_map (misuse.BadWord place) (word_fault word)
 
--- what is wrong with the words behind the form's name: `run` takes the root and the script, `check` the root, and `audit` the
+-- what is wrong with the words behind the form's name: `run` and `race` take the root and the script, `check` the root, and `audit` the
 -- root, the script and the trace
 abbrev pub misuse_behind : List (List ℕ) → Form → Option Misuse
 misuse_behind (root ∷ []) Check = misuse_at Root root
 misuse_behind (root ∷ script ∷ []) Run = option_or (misuse_at Root root) (misuse_at Script script)
+misuse_behind (root ∷ script ∷ []) Race = option_or (misuse_at Root root) (misuse_at Script script)
 misuse_behind (root ∷ script ∷ trace ∷ []) Audit = option_or (misuse_at Root root) (option_or (misuse_at Script script) (misuse_at Trace trace))
 misuse_behind words form = Some (misuse.WrongCount form (length words))
 

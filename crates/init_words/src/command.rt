@@ -18,12 +18,15 @@ pub fn parse<'a>(alloc: Global, words: &'a [&'a str]) -> Result<ArgMatches<'a>, 
     command.try_get_matches_from(words)
 }
 
-/// `run ROOT SCRIPT`, `check ROOT` and `audit ROOT SCRIPT TRACE`, without help and version.
+/// `run ROOT SCRIPT`, `race ROOT SCRIPT`, `check ROOT` and `audit ROOT SCRIPT TRACE`, without help and version.
 fn command<'a>(alloc: Global) -> Result<Command<'a>, Error>
     ensures ok { IfOk result (λ command. app_of command ≡ app) }
     ensures err { IfErr result (λ e. kind_of e ≡ ErrorKind.OutOfMemory) }
 {
     let run = Command::new(alloc, "run")
+        .arg(path(alloc, "ROOT"))?
+        .arg(path(alloc, "SCRIPT"))?;
+    let race = Command::new(alloc, "race")
         .arg(path(alloc, "ROOT"))?
         .arg(path(alloc, "SCRIPT"))?;
     let check = Command::new(alloc, "check").arg(path(alloc, "ROOT"))?;
@@ -37,7 +40,11 @@ fn command<'a>(alloc: Global) -> Result<Command<'a>, Error>
         .disable_help_subcommand(true)
         .disable_version_flag(true)
         .subcommand_required(true);
-    let whole = bare.subcommand(run)?.subcommand(check)?.subcommand(audit)?;
+    let whole = bare
+        .subcommand(run)?
+        .subcommand(race)?
+        .subcommand(check)?
+        .subcommand(audit)?;
     Ok(whole)
 }
 

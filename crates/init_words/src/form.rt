@@ -10,6 +10,8 @@ use init_base::{List, Text};
 pub enum Form {
     /// `run ROOT SCRIPT`: the machine runs, and its report is written.
     Run,
+    /// `race ROOT SCRIPT`: the machine runs with each client on a thread, and its report is written.
+    Race,
     /// `check ROOT`: what is wrong in the build files and the rc files is written.
     Check,
     /// `audit ROOT SCRIPT TRACE`: whether the machine can have written a trace is written.
@@ -24,6 +26,9 @@ pub fn form_of(words: &List<Text>) -> Option<Form>
         [word, root] if word.is(b"check") && is_path_word(root) => Some(Form::Check),
         [word, root, script] if word.is(b"run") && is_path_word(root) && is_path_word(script) => {
             Some(Form::Run)
+        }
+        [word, root, script] if word.is(b"race") && is_path_word(root) && is_path_word(script) => {
+            Some(Form::Race)
         }
         [word, root, script, trace]
             if word.is(b"audit")

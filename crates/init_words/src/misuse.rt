@@ -55,7 +55,7 @@ pub fn misuse_of(words: &List<Text>) -> Option<Misuse>
     };
     match (form, paths) {
         (Form::Check, [root]) => misuse_at(Place::Root, root),
-        (Form::Run, [root, script]) => {
+        (Form::Run | Form::Race, [root, script]) => {
             misuse_at(Place::Root, root).or(misuse_at(Place::Script, script))
         }
         (Form::Audit, [root, script, trace]) => misuse_at(Place::Root, root).or(misuse_at(
@@ -75,6 +75,8 @@ fn form_named(word: &Text) -> Option<Form>
 {
     if word.is(b"run") {
         Some(Form::Run)
+    } else if word.is(b"race") {
+        Some(Form::Race)
     } else if word.is(b"check") {
         Some(Form::Check)
     } else if word.is(b"audit") {

@@ -31,7 +31,7 @@ use Rattle.initsim.specs.Tree.{HasNoRoot, IsBadPolicyFor, IsFitFor, IsPolicyTooL
 use Rattle.initsim.specs.declared.status.Status.{Status}
 use Rattle.initsim.specs.declared.status.Status.TheVariants as status
 use Rattle.init_words.specs.declared.form.Form.{Form}
-use Rattle.init_words.specs.declared.form.Form.TheVariants.{Run, Check, Audit}
+use Rattle.init_words.specs.declared.form.Form.TheVariants.{Run, Race, Check, Audit}
 
 -- ---- the tree
 
@@ -45,6 +45,8 @@ none_long one other short (inr long) = not_long (length other) short.1 long
 no_policy_limit : (form : Form) (world : World) (limit : Limit) (number : ℕ)
     → IsFitFor form world → IsPolicyTooLargeFor form world.tree limit number → ⊥
 no_policy_limit Run world limit number fit large =
+    none_long (contexts_text world.tree) (allow_text world.tree) fit.0.1.short large.0
+no_policy_limit Race world limit number fit large =
     none_long (contexts_text world.tree) (allow_text world.tree) fit.0.1.short large.0
 no_policy_limit Check world limit number fit large = large
 no_policy_limit Audit world limit number fit large =
@@ -82,6 +84,8 @@ no_bad_line contexts allow lines false line is (inr (inr bad)) =
 no_bad_policy : (form : Form) (world : World) (in_allow : Bool) (line : ℕ)
     → IsFitFor form world → IsBadPolicyFor form world.tree in_allow line → ⊥
 no_bad_policy Run world in_allow line fit bad =
+    no_bad_line (contexts_text world.tree) (allow_text world.tree) fit.0.0 in_allow line fit.0.1.policy_is bad.bad
+no_bad_policy Race world in_allow line fit bad =
     no_bad_line (contexts_text world.tree) (allow_text world.tree) fit.0.0 in_allow line fit.0.1.policy_is bad.bad
 no_bad_policy Check world in_allow line fit bad = bad
 no_bad_policy Audit world in_allow line fit bad =

@@ -65,22 +65,27 @@ refused : (form : Form) (told : Told) (why : Status) (old : Option (List ℕ)) (
     → (outcome : Outcome) × ComesTo (Some form) told outcome × (why ≡ status_of_outcome outcome) × Shows outcome (shown_as old old a b)
 refused form told why old a b comes held crash = (Refused why, comes, refl, untouched old a b held crash)
 
--- a run that isn't begun
-pub stop_ends : (why : Stop) (told : Told) (left old : Option (List ℕ)) (a b : KeeperView) → IsRunStatus (status_of why) → ScriptSays told.script left (status_of why)
+-- a run that isn't begun, or a race
+pub stop_ends : (why : Stop) (form : Form) (told : Told) (left old : Option (List ℕ)) (a b : KeeperView)
+    → ((how : Status) → RunRefused told how → ComesTo (Some form) told (Refused how))
+    → IsRunStatus (status_of why) → ScriptSays told.script left (status_of why)
     → TreeSays Run told.world (status_of why) → StoreSays told.held (status_of why) → b.held ≡ a.held → (a.TellsCrash → Risks a b [] [])
-    → Ends (Some Run) told (status_of why) (shown_as old old a b)
-stop_ends stop.ReadFault told left old a b is script tree store held crash = inl (untouched old a b held crash)
-stop_ends stop.NoMemory told left old a b is script tree store held crash = inl (untouched old a b held crash)
-stop_ends (stop.BadScript line) told left old a b is script tree store held crash = refused Run told (status.BadScript line) old a b (inl script) held crash
-stop_ends stop.NoInit told left old a b is script tree store held crash =
-    refused Run told status.NoInit old a b (inr (script.0, inr (tree.policy, inl (tree.build_files, tree.absent)))) held crash
-stop_ends (stop.TooLarge limit number) told left old a b is script tree store held crash =
-    refused Run told (status.TooLarge limit number) old a b (limit_refused told left limit number is script tree store) held crash
-stop_ends (stop.BadPolicy allow line) told left old a b is script tree store held crash =
-    refused Run told (status.BadPolicy allow line) old a b (inr (script.0, inl tree)) held crash
-stop_ends (stop.BadStore line why) told left old a b is script tree store held crash =
-    refused Run told (status.BadStore line why) old a b (inr (script.0, inr (tree.0, inr (tree.1, store)))) held crash
-stop_ends stop.BadTrace told left old a b is script tree store held crash = absurd is
+    → Ends (Some form) told (status_of why) (shown_as old old a b)
+stop_ends stop.ReadFault form told left old a b comes is script tree store held crash = inl (untouched old a b held crash)
+stop_ends stop.NoMemory form told left old a b comes is script tree store held crash = inl (untouched old a b held crash)
+stop_ends (stop.BadScript line) form told left old a b comes is script tree store held crash =
+    refused form told (status.BadScript line) old a b (comes (status.BadScript line) (inl script)) held crash
+stop_ends stop.NoInit form told left old a b comes is script tree store held crash =
+    refused form told status.NoInit old a b (comes status.NoInit (inr (script.0, inr (tree.policy, inl (tree.build_files, tree.absent))))) held crash
+stop_ends (stop.TooLarge limit number) form told left old a b comes is script tree store held crash =
+    refused form told (status.TooLarge limit number) old a b
+    (comes (status.TooLarge limit number) (limit_refused told left limit number is script tree store)) held crash
+stop_ends (stop.BadPolicy allow line) form told left old a b comes is script tree store held crash =
+    refused form told (status.BadPolicy allow line) old a b (comes (status.BadPolicy allow line) (inr (script.0, inl tree))) held crash
+stop_ends (stop.BadStore line why) form told left old a b comes is script tree store held crash =
+    refused form told (status.BadStore line why) old a b
+    (comes (status.BadStore line why) (inr (script.0, inr (tree.0, inr (tree.1, store))))) held crash
+stop_ends stop.BadTrace form told left old a b comes is script tree store held crash = absurd is
 
 -- ---- why nothing is judged
 

@@ -7,5 +7,7 @@ pub mod Prepared
 pub mod Performed
 pub mod Judged
 pub mod Ends
+pub mod Raced
 pub mod Complete
 pub mod Stores
+pub mod TextJudged

@@ -6,6 +6,7 @@ pub mod Policy
 pub mod Tree
 pub mod Store
 pub mod Run
+pub mod Racing
 pub mod Trace
 pub mod Verdict
 pub mod Endings

@@ -10,6 +10,7 @@ use Rattle.init_machine.specs.declared.config.Config.{Config}
 use Rattle.init_machine.specs.declared.diagnostic.Diagnostic.{Diagnostic}
 use Rattle.init_machine.specs.declared.limit.Limit.{Limit}
 use Rattle.init_machine.specs.declared.limit.Limit.TheVariants as limits
+use Rattle.init_machine.specs.declared.report.Report.{Report}
 use Rattle.init_trace.specs.Report.{DiagnosticsText}
 use Rattle.init_trace.specs.Written.{TakesFront}
 use Rattle.init_words.specs.declared.form.Form.{Form}
@@ -21,6 +22,7 @@ use Rattle.rc_import.specs.World.{World}
 use Rattle.rc_import.specs.declared.loaded.LoadRefusal.{LoadRefusal}
 use Rattle.script_lang.specs.Refusal.{IsBadAt, IsTooLarge}
 use Rattle.initsim.specs.Policy.{HasPolicy, IsBadPolicyAt, IsPolicyTooLarge}
+use Rattle.initsim.specs.Racing.{CutsRace, IsAudited, WritesRace}
 use Rattle.initsim.specs.Run.{Course, IsCourseOf, due_of_course, run_text}
 use Rattle.initsim.specs.Script.{HasScript}
 use Rattle.initsim.specs.Store.{HasStore}
@@ -56,10 +58,12 @@ pub record TellRun (sources : Sources) (told : Told) : Type 0 where
   pub world_is : IsWorldOf sources.tree told.world
   pub held_is : sources.held ≡ Some told.held
 
--- They tell what a form reads: a check the tree alone, an audit what a run does and the trace, and words of no form nothing.
+-- They tell what a form reads: a race what a run does, a check the tree alone, an audit what a run does and the trace, and words
+-- of no form nothing.
 abbrev pub Tell : Option Form → Sources → Told → Type 0
 Tell None sources told = ⊤
 Tell (Some form.Run) sources told = TellRun sources told
+Tell (Some form.Race) sources told = TellRun sources told
 Tell (Some form.Check) sources told = IsWorldOf sources.tree told.world
 Tell (Some form.Audit) sources told = TellRun sources told × (sources.trace ≡ Some told.trace)
 
@@ -123,22 +127,30 @@ pub record IsJudged (told : Told) (verdict : Verdict) : Type 0 where
   pub course_is : IsCourseOf told.script told.world told.held course
   pub said : IsVerdictOn course told.trace verdict
 
+-- the course that is told, and a report of it that the audit of traces answers Yes to
+pub record IsRaced (told : Told) (course : Course) (report : Report) : Type 0 where
+  pub course_is : IsCourseOf told.script told.world told.held course
+  pub audited : IsAudited course report
+
 -- ---- the outcome
 
--- The words have no form; or nothing is begun, with this status; or these diagnostics are told; or this course is run; or this
--- is the verdict on the trace.
+-- The words have no form; or nothing is begun, with this status; or these diagnostics are told; or this course is run; or it is
+-- raced, with this report; or this is the verdict on the trace.
 pub data Outcome : Type 0 where
   Unformed : Outcome
   Refused : Status → Outcome
   Checked : List Diagnostic → Outcome
   Ran : Course → Outcome
+  Raced : Course → Report → Outcome
   Judged : Verdict → Outcome
 
--- what the words of a form come to, or words of none
+-- What the words of a form come to, or words of none. A race comes to one of the reports that the order of its clients allows.
 abbrev pub ComesTo : Option Form → Told → Outcome → Type 0
 ComesTo None told Unformed = ⊤
 ComesTo (Some form.Run) told (Refused why) = RunRefused told why
 ComesTo (Some form.Run) told (Ran course) = IsCourseOf told.script told.world told.held course
+ComesTo (Some form.Race) told (Refused why) = RunRefused told why
+ComesTo (Some form.Race) told (Raced course report) = IsRaced told course report
 ComesTo (Some form.Check) told (Refused why) = FilesRefuse told.world why
 ComesTo (Some form.Check) told (Checked diagnostics) = (config : Config) × IsLoadOf told.world config diagnostics
 ComesTo (Some form.Audit) told (Refused why) = AuditRefused told why
@@ -150,6 +162,7 @@ status_of_outcome Unformed = status.Usage
 status_of_outcome (Refused why) = why
 status_of_outcome (Checked diagnostics) = status.Done
 status_of_outcome (Ran course) = status.Done
+status_of_outcome (Raced course report) = status.Done
 status_of_outcome (Judged verdict) = status.Done
 
 -- ---- how a call ends
@@ -170,24 +183,26 @@ pub record Untouched (shown : Shown) : Type 0 where
   pub held : shown.kept.held ≡ shown.keeper.held
   pub crash : shown.keeper.TellsCrash → Risks shown.keeper shown.kept [] []
 
--- the outcome's text is written whole, and the keeper took what a run gives it
+-- the outcome's text is written whole, and the keeper took what a run or a race gives it
 abbrev pub Shows : Outcome → Shown → Type 0
 Shows Unformed shown = Untouched shown
 Shows (Refused why) shown = Untouched shown
 Shows (Checked diagnostics) shown = (shown.new ≡ append_known shown.old (DiagnosticsText diagnostics)) × Took shown.keeper shown.kept []
 Shows (Ran course) shown = (shown.new ≡ append_known shown.old (run_text course)) × Took shown.keeper shown.kept (given_in course.opening course.script)
+Shows (Raced course report) shown = WritesRace course report shown.old shown.new shown.keeper shown.kept
 Shows (Judged verdict) shown = (shown.new ≡ append_known shown.old (verdict_text verdict)) × Took shown.keeper shown.kept []
 
 -- its text is cut short: by a fault of the sink or of the keeper, or for want of memory
 abbrev pub CutShort : DriveRefusal → Outcome → Shown → Type 0
 CutShort why (Ran course) shown = LeavesPart why shown.old shown.new shown.keeper shown.kept (due_of_course course)
+CutShort why (Raced course report) shown = CutsRace why course report shown.old shown.new shown.keeper shown.kept
 CutShort refusal.Keeper (Checked diagnostics) shown = ⊥
 CutShort why (Checked diagnostics) shown = TakesFront shown.old shown.new (DiagnosticsText diagnostics) × Took shown.keeper shown.kept []
 CutShort refusal.Keeper (Judged verdict) shown = ⊥
 CutShort why (Judged verdict) shown = TakesFront shown.old shown.new (verdict_text verdict) × Took shown.keeper shown.kept []
 CutShort why outcome shown = ⊥
 
--- How a call ends. A fault of what is read, and want of memory, come before anything is written, or in the run.
+-- How a call ends. A fault of what is read, and want of memory, come before anything is written, or in the run or the race.
 abbrev pub Ends : Option Form → Told → Status → Shown → Type 0
 Ends form told status.ReadFault shown = Untouched shown ⊎ ((outcome : Outcome) × ComesTo form told outcome × CutShort refusal.Keeper outcome shown)
 Ends form told status.WriteFault shown = (outcome : Outcome) × ComesTo form told outcome × CutShort refusal.Write outcome shown

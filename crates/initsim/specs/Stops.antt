@@ -5,7 +5,6 @@ use Rattle.init_base.specs.declared.outside.refusal.ReadRefusal.TheVariants as r
 use Rattle.init_machine.specs.Policy.{PolicyLines}
 use Rattle.init_machine.specs.declared.config.Pair.{Pair}
 use Rattle.init_machine.specs.declared.limit.Limit.{Limit}
-use Rattle.init_machine.specs.declared.report.Report.{Report}
 use Rattle.init_machine.specs.declared.limit.Limit.TheVariants as limits
 use Rattle.persist_file.specs.declared.refusal.StoreRefusal.{StoreRefusal}
 use Rattle.persist_file.specs.declared.refusal.StoreRefusal.TheVariants as store
@@ -25,7 +24,7 @@ use Rattle.initsim.specs.Policy.{IsPolicyOf}
 use Rattle.initsim.specs.Script.{ScriptSays}
 use Rattle.initsim.specs.Store.{IsStoreOf, StoreSays}
 use Rattle.initsim.specs.Texts.{Tree, faults_of, pairs_of}
-use Rattle.initsim.specs.Trace.{IsTraceOf, TraceSays}
+use Rattle.initsim.specs.Trace.{TraceSays}
 use Rattle.initsim.specs.Tree.{AreBuildFilesShort, AreBuildFilesTooLarge, IsLoadOf, TreeSays, limit_of}
 use Rattle.rc_import.specs.declared.loaded.Loaded.{Loaded}
 use Rattle.initsim.specs.declared.status.Status.{Status}
@@ -33,6 +32,8 @@ use Rattle.initsim.specs.declared.status.Status.TheVariants as status
 use Rattle.initsim.specs.declared.stop.Stop.{Stop}
 use Rattle.initsim.specs.declared.stop.Stop.TheVariants as stop
 use Rattle.init_words.specs.declared.form.Form.TheVariants.{Run, Check}
+use Rattle.trace_reader.specs.declared.fault.Fault.{Fault}
+use Rattle.trace_reader.specs.declared.fault.Fault.TheVariants as fault
 
 abbrev pub status_of : Stop → Status
 status_of stop.ReadFault = status.ReadFault
@@ -69,6 +70,10 @@ load_stop load.ReadFault = stop.ReadFault
 load_stop (load.TooLarge path limit number) = stop.TooLarge (limit_of limit) number
 load_stop (load.TooMany path number) = stop.TooLarge limits.Files number
 load_stop load.NoMemory = stop.NoMemory
+
+abbrev pub trace_stop : Fault → Stop
+trace_stop fault.Bad = stop.BadTrace
+trace_stop fault.NoMemory = stop.NoMemory
 
 abbrev pub store_stop : StoreRefusal → Stop
 store_stop (store.BadLine line why) = stop.BadStore line why
@@ -140,8 +145,8 @@ abbrev pub GivesStore : List ℕ → Result (List Pair) Stop → Type 0
 GivesStore held (Ok saved) = IsStoreOf held saved
 GivesStore held (Err why) = StoreSays held (status_of why)
 
-abbrev pub GivesTrace : List ℕ → Option (List ℕ) → Result Report Stop → Type 0
-GivesTrace bytes left (Ok report) = IsTraceOf bytes report × (left ≡ Some [])
+abbrev pub GivesTrace : List ℕ → Option (List ℕ) → Result (List ℕ) Stop → Type 0
+GivesTrace bytes left (Ok text) = (text ≡ bytes) × (length bytes ≤ 67108864) × (left ≡ Some [])
 GivesTrace bytes left (Err why) = TraceSays bytes left (status_of why)
 
 -- ---- which reader stops so: each stops by a fault and for want of memory, and else in its own ways

@@ -32,10 +32,11 @@ pub record CanRun (sources : Sources) (world : World) : Type 0 where
   pub world_is_fit : IsFitFor form.Run world
   pub store : IsSomeAnd sources.held HasStore
 
--- What is told can be done. A check asks for the world alone, and an audit for what a run does and for a trace.
+-- What is told can be done. A check asks for the world alone, a race for what a run does, and an audit for that and for a trace.
 abbrev pub CanBeDone : Option Form → Sources → World → Type 0
 CanBeDone None sources world = ⊥
 CanBeDone (Some form.Run) sources world = CanRun sources world
+CanBeDone (Some form.Race) sources world = CanRun sources world
 CanBeDone (Some form.Check) sources world = IsFitFor form.Check world
 CanBeDone (Some form.Audit) sources world = CanRun sources world × IsSomeAnd sources.trace HasTrace
 
@@ -43,5 +44,6 @@ CanBeDone (Some form.Audit) sources world = CanRun sources world × IsSomeAnd so
 abbrev pub ReadsScript : Option Form → Type 0
 ReadsScript None = ⊥
 ReadsScript (Some form.Run) = ⊤
+ReadsScript (Some form.Race) = ⊤
 ReadsScript (Some form.Check) = ⊥
 ReadsScript (Some form.Audit) = ⊤

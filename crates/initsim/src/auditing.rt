@@ -1,12 +1,12 @@
 //! `audit`: whether the documented machine can have written a trace.
 
-ghost use Rattle.std.specs.Prelude.{◌≡◌, ◌↔◌, ℕ, IfErr, IfOk, IfSome, List as Items, Some};
+ghost use Rattle.std.specs.Prelude.{◌≡◌, ℕ, IfErr, IfOk, IfSome, List as Items, Some};
 ghost use Rattle.init_base.specs.Faults.{Counted};
 ghost use Rattle.init_driver.specs.Keeper.{seen_by};
 ghost use Rattle.init_words.specs.declared.form.Form.TheVariants as Form;
 ghost use Rattle.initsim.specs.Counts.{AreCounted, counts_of};
 ghost use Rattle.initsim.specs.Endings.{IsAuditStatus};
-ghost use Rattle.initsim.specs.Judging.{ending_of};
+ghost use Rattle.initsim.specs.Judging.{JudgesText, ending_of};
 ghost use Rattle.initsim.specs.Outcome.{Ends, IsJudged, TellRun, Told, shown_as, sources_of};
 ghost use Rattle.initsim.specs.Prepared.{IsAsked, IsFit, course_of};
 ghost use Rattle.initsim.specs.Script.{ScriptSays};
@@ -17,27 +17,21 @@ ghost use Rattle.initsim.specs.Trace.{TraceSays};
 ghost use Rattle.initsim.specs.Tree.{IsWorldOf, TreeSays};
 ghost use Rattle.initsim.specs.Verdict.{IsVerdictOn};
 ghost use Rattle.rc_import.specs.World.{World};
-ghost use Rattle.trace_audit.specs.Audited.{Audited, Says};
-ghost use Rattle.trace_audit.specs.declared.verdict.Verdict.TheVariants as Verdict;
 
 use crate::prepare::{Job, prepare};
 use crate::reading::read_trace;
 use crate::status::Status;
 use crate::stop::Stop;
 use crate::verdict::write_verdict;
-use init_base::{Files, Keeper, NoMemory, Sink, Source};
+use init_base::{Files, Keeper, Sink, Source};
 use init_driver::Setup;
-use init_machine::Report;
 use std::alloc::Global;
-use trace_audit::{Verdict, audit};
+use trace_audit::{Verdict, audit_text};
 
-/// The verdict on a report, by what a run would go by.
-fn verdict_on(alloc: Global, job: Job, report: &Report) -> Result<Verdict, NoMemory>
+/// The verdict on a trace's text, by what a run would go by.
+fn judge_text(alloc: Global, job: Job, text: &[u8]) -> Result<Verdict, Stop>
     requires { IsFit job }
-    ensures says { let course = course_of job in
-        IfOk result (Says course.opening course.diagnostics course.script report.now) }
-    ensures yes { let course = course_of job in
-        IfOk result (λ verdict. (verdict ≡ Verdict.Yes) ↔ Audited course.opening course.diagnostics course.script report.now) }
+    ensures { JudgesText (course_of job) text.now result }
 {
     let Job { setup, script } = job;
     let Setup {
@@ -45,7 +39,7 @@ fn verdict_on(alloc: Global, job: Job, report: &Report) -> Result<Verdict, NoMem
         policy,
         diagnostics,
     } = setup;
-    audit(alloc, config, policy, &diagnostics, &script, report)
+    Ok(audit_text(alloc, config, policy, &diagnostics, &script, text)?)
 }
 
 /// Reads the trace, and judges it by what a run would go by.
@@ -57,7 +51,7 @@ fn judge_trace<T: Source>(alloc: Global, job: Job, trace: &mut T) -> Result<Verd
     ensures cause { Counted (has_read_fault result) (T.fault_count trace.old) (T.fault_count trace.new) }
 {
     match read_trace(alloc, trace) {
-        Ok(report) => Ok(verdict_on(alloc, job, &report)?),
+        Ok(text) => judge_text(alloc, job, text.bytes()),
         Err(stop) => Err(stop),
     }
 }

@@ -12,6 +12,11 @@ Runs Android's init over a modelled kernel, and writes command by command what i
     writes          the trace to standard output, and data/property/persist.txt where a property is saved
     for example     initsim run examples/device/tree examples/device/script
 
+  race ROOT SCRIPT  the same, with init and each client of SCRIPT on a thread of its own, beside each other
+    reads           what run reads
+    writes          what run writes, but data/property/persist.txt once, at the end
+    for example     initsim race examples/race/tree examples/race/script
+
   check ROOT        writes the mistakes in the rc files and the build files, one a line
     reads           the rc files of ROOT and the build files
     writes          the mistakes to standard output

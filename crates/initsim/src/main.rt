@@ -12,6 +12,7 @@ mod help;
 mod loading;
 mod noting;
 mod prepare;
+mod racing;
 mod reading;
 mod status;
 mod stop;
@@ -26,9 +27,12 @@ use help::{is_help, tell_help};
 use init_base::{
     Fault, Keeper, List, NoMemory, Source, StdFiles, StdKeeper, StdSink, StdSource, Text,
 };
+use init_race::OpenGate;
 use noting::Noting;
 use status::Status;
 use std::process::ExitCode;
+use std::sync::Wait;
+use std::thread::Threads;
 use telling::{tell, tell_misuse};
 use top::initsim;
 
@@ -43,7 +47,8 @@ fn word_at(words: &List<Text>, at: usize) -> Result<Text, NoMemory> {
     }
 }
 
-fn run(rt: &HostRuntime) -> Result<Status, NoMemory> {
+/// Makes the real objects, and the call. `threads` is the runtime once more: `main` alone may start threads by it.
+fn run<R: Threads + Wait + Sync>(rt: &HostRuntime, threads: &R) -> Result<Status, NoMemory> {
     let alloc = rt.alloc();
     let words = words_of(rt, alloc)?;
     let root = word_at(&words, 1)?;
@@ -54,6 +59,7 @@ fn run(rt: &HostRuntime) -> Result<Status, NoMemory> {
     let mut keeper = StdKeeper::below(rt, &root, &Text::of(alloc, STORE_PATH)?)?;
     let mut out = Noting::new(alloc, StdSink::stdout(rt));
     let status = initsim(
+        threads,
         alloc,
         &words,
         &mut files,
@@ -61,6 +67,7 @@ fn run(rt: &HostRuntime) -> Result<Status, NoMemory> {
         &mut trace,
         &mut keeper,
         &mut out,
+        &OpenGate,
     );
     let fault = fault_behind(status, &script, &trace, &files, &keeper, &out.sink);
     let _ = tell(rt, status, fault);
@@ -106,7 +113,7 @@ fn fault_behind<'a>(
 }
 
 fn main(rt: HostRuntime) -> ExitCode {
-    let status = match run(&rt) {
+    let status = match run(&rt, &rt) {
         Ok(status) => status,
         Err(NoMemory) => {
             let _ = tell(&rt, Status::NoMemory, None);

@@ -1,4 +1,5 @@
-//! What is to be run, or is what a trace is held against: the script, the tree and the store are read, in this order, and the first refusal ends it.
+//! What is to be run or raced, or what a trace is held against: the script, the tree and the store are read, in this order, and the
+//! first refusal ends it.
 
 ghost use Rattle.std.specs.Prelude.{◌≡◌, ℕ, [], map, IfErr, IfOk, IfSome};
 ghost use Rattle.init_base.specs.Faults.{Counted};

@@ -9,8 +9,8 @@ ghost use Rattle.persist_file.specs.Store.{are_saved};
 ghost use Rattle.script_lang.specs.Laws.{MeetsConditions};
 
 use crate::stop::Stop;
-use init_base::{Keeper, List, Source, read_all};
-use init_machine::{Limit, Pair, Report};
+use init_base::{Keeper, List, Source, Text, read_all};
+use init_machine::{Limit, Pair};
 use script_lang::Script;
 use std::alloc::Global;
 
@@ -51,17 +51,14 @@ pub fn read_store<P: Keeper>(alloc: Global, keeper: &mut P) -> Result<List<Pair>
     }
 }
 
-/// Reads the source to its end: the report that its bytes are the text of.
-pub fn read_trace<T: Source>(alloc: Global, source: &mut T) -> Result<Report, Stop>
+/// Reads the source to its end: the text of a trace.
+pub fn read_trace<T: Source>(alloc: Global, source: &mut T) -> Result<Text, Stop>
     ensures trace { IfSome (T.left source.old) (λ bytes. GivesTrace bytes (T.left source.new) result) }
     ensures last { IfErr result IsOfTrace }
     ensures cause { Counted (has_read_fault result) (T.fault_count source.old) (T.fault_count source.new) }
 {
     match read_all(alloc, source, MOST_TRACE_BYTES) {
-        Ok(text) => match trace_reader::read(alloc, text.bytes())? {
-            Some(report) => Ok(report),
-            None => Err(Stop::BadTrace),
-        },
+        Ok(text) => Ok(text),
         Err(refusal) => Err(Stop::of_reading(refusal, Limit::TraceBytes, MOST_TRACE_BYTES)),
     }
 }

@@ -11,6 +11,7 @@ use persist_file::{StoreCause, StoreRefusal};
 use prop_contexts::PolicyRefusal;
 use rc_import::{LoadLimit, LoadRefusal};
 use script_lang::ScriptRefusal;
+use trace_reader::Fault;
 
 /// The limit on what is read of a tree, among all limits.
 fn limit_of(limit: LoadLimit) -> Limit
@@ -150,6 +151,20 @@ impl From<StoreRefusal> for Stop {
         match refusal {
             StoreRefusal::BadLine { line, cause } => Stop::BadStore { line, cause },
             StoreRefusal::NoMemory => Stop::NoMemory,
+        }
+    }
+}
+
+impl From<Fault> for Stop {
+    ghost use Rattle.std.specs.Prelude.{◌≡◌, ◌<◌, ◌^◌};
+    ghost use Rattle.initsim.specs.Stops.{trace_stop};
+
+    ghost from_gives = { λ fault stop. stop ≡ trace_stop fault };
+
+    fn from(fault: Fault) -> Self {
+        match fault {
+            Fault::Bad => Stop::BadTrace,
+            Fault::NoMemory => Stop::NoMemory,
         }
     }
 }

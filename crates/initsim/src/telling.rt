@@ -21,7 +21,7 @@ fn tell_status(rt: &HostRuntime, status: Status) -> std::io::Result<()> {
     match status {
         Status::Done => Ok(()),
         Status::Usage => eprintln!(rt;
-            "initsim: usage: run ROOT SCRIPT | check ROOT | audit ROOT SCRIPT TRACE"
+            "initsim: usage: run ROOT SCRIPT | race ROOT SCRIPT | check ROOT | audit ROOT SCRIPT TRACE"
         ),
         Status::ReadFault => eprintln!(rt; "initsim: read fault"),
         Status::WriteFault => eprintln!(rt; "initsim: write fault"),
@@ -93,6 +93,7 @@ fn tell_unknown(rt: &HostRuntime, words: &List<Text>) -> std::io::Result<()> {
 fn tell_count(rt: &HostRuntime, form: Form, given: usize) -> std::io::Result<()> {
     let taken = match form {
         Form::Run => "run takes 2 words",
+        Form::Race => "race takes 2 words",
         Form::Check => "check takes 1 word",
         Form::Audit => "audit takes 3 words",
     };

@@ -20,13 +20,17 @@ ghost use Rattle.rc_import.specs.World.{World};
 use crate::auditing::audit_trace;
 use crate::loading::load;
 use crate::prepare::{Job, prepare};
+use crate::racing::race_script;
 use crate::status::Status;
 use init_base::{Files, IoRefusal, Keeper, List, Sink, Source, Text};
 use init_driver::{DriveRefusal, run};
 use init_machine::Diagnostic;
+use init_race::Gate;
 use init_trace::print_diagnostics;
 use init_words::{Form, WordsRefusal, read_words};
 use std::alloc::Global;
+use std::sync::Wait;
+use std::thread::Threads;
 
 /// Runs a job: the machine takes the script's inputs, and the text of the report is written.
 fn perform<P: Keeper, K: Sink>(alloc: Global, job: Job, keeper: &mut P, out: &mut K) -> Status
@@ -108,15 +112,30 @@ fn check<F: Files, K: Sink>(alloc: Global, files: &mut F, out: &mut K) -> Status
 ///
 /// `run ROOT SCRIPT` reads the script, the tree's policy, build files and rc files, and the persistent store, in this order;
 /// the first refusal ends it. Then it runs the documented machine, and writes the text of the report entry by entry: the
-/// diagnostics of the tree, the one legal history of the script's inputs, and what the clients read. `check ROOT` reads the
-/// build files and the rc files alone, and writes their diagnostics. `audit ROOT SCRIPT TRACE` reads what a run reads, and then
-/// the trace, and writes whether the machine can have written it, or what is wrong in it first.
+/// diagnostics of the tree, the one legal history of the script's inputs, and what the clients read. `race ROOT SCRIPT` reads
+/// the same, and runs the machine with the main actor and each client on a thread of its own. Then it writes the text of a
+/// report that the audit answers Yes to: some order of all requests, which keeps each actor's own, is its history. `check ROOT`
+/// reads the build files and the rc files alone, and writes their diagnostics. `audit ROOT SCRIPT TRACE` reads what a run
+/// reads, and then the trace, and writes whether the machine can have written it, or what is wrong in it first.
 ///
 /// How the call ends is said of what is told: the status, what the sink took, and what the keeper holds, or may leave after a
-/// crash, are those of the one outcome that words, script, tree, store and trace come to; unless a count of faults rose, or
-/// memory ran out: then nothing is written, or a prefix of the outcome's text, and the keeper stands as at the last entry that
-/// is written whole, or at the next one. A refusal is that of a reader which refuses what is told, where those before it don't.
-pub fn initsim<F: Files, S: Source, T: Source, P: Keeper, K: Sink>(
+/// crash, are those of an outcome that words, script, tree, store and trace come to, the only one but with `race`; unless a
+/// count of faults rose, or memory ran out: then nothing is written, or a prefix of the outcome's text, and the keeper stands
+/// as at the last entry that is written whole, or at the next one. In a race the keeper is given its text before anything is
+/// written, so nothing is where it fails. A refusal is that of a reader which refuses what is told, where those before it don't.
+///
+/// With `race` alone the call may wait, and the clauses hold if it returns. `rt` makes its threads, and each actor passes `gate`
+/// before and after each of its inputs and requests.
+pub fn initsim<
+    R: Threads + Wait + Sync,
+    F: Files,
+    S: Source,
+    T: Source,
+    P: Keeper,
+    K: Sink,
+    G: Gate,
+>(
+    rt: &R,
     alloc: Global,
     words: &List<Text>,
     files: &mut F,
@@ -124,6 +143,7 @@ pub fn initsim<F: Files, S: Source, T: Source, P: Keeper, K: Sink>(
     trace: &mut T,
     keeper: &mut P,
     out: &mut K,
+    gate: &G,
 ) -> Status
     ensures usage { (result ≡ Status.Usage) ↔ (form_of_lem words.now ≡ None) }
 
@@ -153,10 +173,12 @@ pub fn initsim<F: Files, S: Source, T: Source, P: Keeper, K: Sink>(
     ensures unloaded { form_of_lem words.now ≡ Some Form.Check → keeper.new ≡ keeper.old }
     ensures of_check { form_of_lem words.now ≡ Some Form.Check → IsCheckStatus result }
 
-    // An audit leaves what the keeper holds, at every ending. Other forms leave the trace alone, and a run isn't refused by it.
+    // An audit leaves what the keeper holds, at every ending. Other forms leave the trace alone, and neither a run nor a race is
+    // refused by it.
     ensures audited { form_of_lem words.now ≡ Some Form.Audit → P.held keeper.new ≡ P.held keeper.old }
     ensures untraced { ¬ (form_of_lem words.now ≡ Some Form.Audit) → trace.new ≡ trace.old }
     ensures of_run { form_of_lem words.now ≡ Some Form.Run → IsRunStatus result }
+    ensures of_race { form_of_lem words.now ≡ Some Form.Race → IsRunStatus result }
 
     // What is told and can be done is done, or memory runs out, unless a count rose.
     ensures complete { (world : World) → IsWorldOf (F.tree files.old) world →
@@ -170,6 +192,7 @@ pub fn initsim<F: Files, S: Source, T: Source, P: Keeper, K: Sink>(
 {
     match read_words(alloc, words) {
         Ok(Form::Run) => run_script(alloc, files, script, keeper, out),
+        Ok(Form::Race) => race_script(rt, alloc, files, script, keeper, out, gate),
         Ok(Form::Check) => check(alloc, files, out),
         Ok(Form::Audit) => audit_trace(alloc, files, script, trace, keeper, out),
         Err(WordsRefusal::Usage) => Status::Usage,

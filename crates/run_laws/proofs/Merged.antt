@@ -28,7 +28,7 @@ not_asked who clients other false request outside first last is = refl
 not_asked who clients other true request outside first last is =
     let same : other ≡ who = eqb-true other who is in absurd (outside (omega arith) (omega arith))
 
-no_part : (who clients : ℕ) (acts : List Act) → (1 ≤ who → who ≤ clients → ⊥) → All (IsAskAmong clients) acts → filter_map (ask_by who) acts ≡ []
+pub no_part : (who clients : ℕ) (acts : List Act) → (1 ≤ who → who ≤ clients → ⊥) → All (IsAskAmong clients) acts → filter_map (ask_by who) acts ≡ []
 no_part who clients [] outside asks = refl
 no_part who clients (act.Step count ∷ acts) outside asks = no_part who clients acts outside (All-tail (IsAskAmong clients) (act.Step count) acts asks)
 no_part who clients (act.Tick ms ∷ acts) outside asks = no_part who clients acts outside (All-tail (IsAskAmong clients) (act.Tick ms) acts asks)
@@ -56,7 +56,7 @@ part_past f n (x ∷ xs) zero past = absurd (omega arith)
 part_past f n (x ∷ xs) (suc k) past = part_past f (n + 1) xs k (omega arith)
 
 -- each number has the requests of its part
-part_is : (script : Script) → AsksAreMet script → (who : ℕ) → part_of who script ≡ requests_of (Parts script) who
+pub part_is : (script : Script) → AsksAreMet script → (who : ℕ) → part_of who script ≡ requests_of (Parts script) who
 part_is script asks zero = no_part zero (length script.clients) script.acts (λ first last. absurd (omega arith)) asks
 part_is script asks (suc place) =
     elim (leb_tells (length script.clients) place) [

@@ -1,10 +1,9 @@
 -- In a merging of parts each set is of a client that has a part.
-use Rattle.std.proofs.Common.{◌≡◌, ◌<◌, ◌≤◌, ℕ, zero, suc, Bool, ◌⊎◌, List, [], ◌∷◌, length, Option, Some, None, refl, ap, ◌∙◌, arith, inl, inr, eq-eqb, if◌then◌else◌}
-use Rattle.std.specs.Prelude.{All}
+use Rattle.std.proofs.Common.{◌≡◌, ◌<◌, ◌≤◌, ℕ, zero, suc, Bool, ◌⊎◌, List, [], ◌∷◌, ◌++◌, length, Option, Some, None, refl, sym, ap, ◌∙◌, arith, inl, inr, eq-eqb, if◌then◌else◌}
 use Rattle.std.specs.List.{cons_option, enumerate_from, filter_map}
 use Rattle.std.proofs.lemmas.Bool.{cases_lt}
 use Rattle.std.proofs.lemmas.List.{length-map}
-use Rattle.std.proofs.lemmas.List.Elements.{All-cons, All-nil}
+use Rattle.std.proofs.lemmas.List.Elements.{filter_map-append}
 use Rattle.std.proofs.lemmas.List.FromFn.{length-enumerate_from}
 use Rattle.std.proofs.lemmas.Option.{slice_get_past}
 use Rattle.init_base.specs.declared.units.ClientId.{ClientId}
@@ -17,7 +16,7 @@ use Rattle.init_machine.specs.declared.input.Input.TheVariants as input
 use Rattle.init_machine.specs.declared.report.Entry.{Entry}
 use Rattle.script_lang.specs.Inputs.{ActorParts, Parts, part_of}
 use Rattle.script_lang.specs.Laws.{set_by, set_in}
-use Rattle.script_lang.specs.Merges.{Merges, or_none, requests_of}
+use Rattle.script_lang.specs.Merges.{BeginsMerging, or_none, requests_of}
 use Rattle.script_lang.specs.declared.script.Ask.{Ask}
 use Rattle.script_lang.specs.declared.script.Script.{Script}
 
@@ -25,7 +24,7 @@ use Rattle.script_lang.specs.declared.script.Script.{Script}
 abbrev IsOut : ℕ → ℕ → Type 0
 IsOut clients who = (who ≡ 0) ⊎ (clients < who)
 
-pub parts_long : (script : Script) → length (Parts script).clients ≡ length script.clients
+parts_long : (script : Script) → length (Parts script).clients ≡ length script.clients
 parts_long script = length-map (enumerate_from 1 script.clients) (λ numbered. part_of numbered.0 script) ∙ length-enumerate_from 1 script.clients
 
 no_requests : (parts : ActorParts) (clients who : ℕ) → length parts.clients ≤ clients → IsOut clients who → requests_of parts who ≡ []
@@ -65,15 +64,26 @@ head_declared config (input.Set who name value) rest none = (from, to)
       | inr within ↦ within
     ]
 
-all_declared : (config : Config) (history : List Entry) → ((who : ℕ) → IsOut (length config.domains) who → filter_map (set_by who) (inputs_of history) ≡ [])
-    → All (λ (e : Entry). IsDeclared config e.input) history
-all_declared config [] none = All-nil (λ (e : Entry). IsDeclared config e.input)
-all_declared config (e ∷ history) none =
-    All-cons (λ (e : Entry). IsDeclared config e.input) e history (head_declared config e.input (inputs_of history) none)
-    (all_declared config history (λ who out. rest_none (set_by who e.input) (filter_map (set_by who) (inputs_of history)) (none who out)))
+last_declared : (config : Config) (history : List Entry) (e : Entry)
+    → ((who : ℕ) → IsOut (length config.domains) who → filter_map (set_by who) (inputs_of (history ++ e ∷ [])) ≡ []) → IsDeclared config e.input
+last_declared config [] e none = head_declared config e.input [] none
+last_declared config (x ∷ history) e none =
+    last_declared config history e (λ who out. rest_none (set_by who x.input) (filter_map (set_by who) (inputs_of (history ++ e ∷ []))) (none who out))
 
-pub merging_declared : (parts : ActorParts) (config : Config) (history : List Entry) → length parts.clients ≤ length config.domains → Merges history parts
-    → All (λ (e : Entry). IsDeclared config e.input) history
-merging_declared parts config history few merges =
-    all_declared config history
-    (λ who out. ap (filter_map (set_by who)) merges.begins ∙ merges.sets who ∙ ap (filter_map set_in) (no_requests parts (length config.domains) who few out))
+front_none : {A : Type 0} (xs ys : List A) → xs ++ ys ≡ [] → xs ≡ []
+front_none [] ys none = refl
+front_none (x ∷ xs) ys none = cc
+
+-- the last of entries with which a merging begins
+pub begins_declared : (script : Script) (config : Config) (history : List Entry) (e : Entry) → length script.clients ≤ length config.domains
+    → BeginsMerging (history ++ e ∷ []) (Parts script) → IsDeclared config e.input
+begins_declared script config history e few begins =
+    let long = parts_long script in
+    let inputs = inputs_of (history ++ e ∷ []) in
+    last_declared config history e
+    (λ who out.
+    front_none (filter_map (set_by who) inputs) (filter_map (set_by who) begins.0)
+    (sym (filter_map-append (set_by who) inputs begins.0)
+    ∙ ap (filter_map (set_by who)) begins.1.begins
+    ∙ begins.1.sets who
+    ∙ ap (filter_map set_in) (no_requests (Parts script) (length config.domains) who (omega (arith, long, few)) out)))

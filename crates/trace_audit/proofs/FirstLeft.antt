@@ -18,7 +18,7 @@ use Rattle.script_lang.proofs.InputParts.{client_part, main_part}
 use Rattle.trace_audit.specs.declared.progress.MainPlace.{MainPlace}
 use Rattle.trace_audit.specs.declared.progress.Progress.{Progress}
 use Rattle.trace_audit.specs.Progress.{Takes, first_left, left_of, main_left, set_among, set_of, sets_behind, sets_left}
-use Rattle.trace_audit.proofs.Merging.{Fills}
+use Rattle.trace_audit.specs.Taken.{Fills}
 
 -- ---- the part of each client
 

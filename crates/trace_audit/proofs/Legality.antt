@@ -1,20 +1,19 @@
 -- Legal entries, one by one.
 use Rattle.std.specs.Result.{OnOk, is_err}
-use Rattle.std.proofs.Common.{Result, Ok, Err, false, ◌≡◌, ◌+◌, ◌<◌, ℕ, suc, List, [], ◌∷◌, ◌++◌, length, take, drop, get_or, refl, sym, ap, ◌∙◌, subst, arith}
-use Rattle.std.proofs.lemmas.List.{length-take-le, take-append-drop}
-use Rattle.std.proofs.Math.Numerals.{add-one}
-use Rattle.std.proofs.Math.Seq.{drop-cons, take-suc}
-use Rattle.init_machine.specs.History.{Legal, LegalFrom, after_from, inputs_of}
+use Rattle.std.proofs.Common.{Result, Ok, Err, false, ◌≡◌, ◌+◌, ℕ, List, [], ◌∷◌, ◌++◌, length, refl, sym, ap, ◌∙◌, append_assoc}
+use Rattle.init_core.specs.Core.{CoreView, step_of}
+use Rattle.init_machine.specs.Changes.{Change}
+use Rattle.init_machine.specs.History.{LegalFrom, after, after_from, inputs_of}
 use Rattle.init_machine.specs.Policy.{PolicyLines}
 use Rattle.init_machine.specs.State.{Opening, State, first_state}
 use Rattle.init_machine.specs.Step.{step}
 use Rattle.init_machine.specs.declared.config.Config.{Config}
-use Rattle.init_machine.specs.declared.config.Pair.{Pair}
 use Rattle.init_machine.specs.declared.input.Input.{Input}
 use Rattle.init_machine.specs.declared.report.Entry.{Entry}
-use Rattle.machine_laws.proofs.Legal.{same_after, same_step}
+use Rattle.machine_laws.specs.Histories.{HasStepOutputs}
+use Rattle.machine_laws.proofs.Legal.{same_step}
 use Rattle.trace_audit.specs.Audited.{IllegalAt}
-use Rattle.trace_audit.specs.Legality.{IllegalFrom}
+use Rattle.trace_audit.specs.Taken.{IsBehind}
 
 after_one : (config : Config) (policy : PolicyLines) (s : State) (entries : List Entry) (e : Entry)
     → after_from config policy s (inputs_of (entries ++ e ∷ [])) ≡ (step config policy (after_from config policy s (inputs_of entries)) e.input).state
@@ -26,89 +25,54 @@ legal_one : (config : Config) (policy : PolicyLines) (s : State) (entries : List
 legal_one config policy s [] e legal same = (same, tt)
 legal_one config policy s (x ∷ entries) e legal same = (legal.0, legal_one config policy (step config policy s x.input).state entries e legal.1 same)
 
-next_is : (history : List Entry) (k : ℕ) (e : Entry) → k < length history → e ≡ get_or history k e → take (k + 1) history ≡ take k history ++ e ∷ []
-next_is history k e within is = rw add-one (take-suc history k e within ∙ ap (λ (x : Entry). take k history ++ x ∷ []) (sym is))
+-- ---- a machine behind the entries
 
--- the state behind an entry
-pub after_next : (config : Config) (policy : PolicyLines) (s : State) (history : List Entry) (k : ℕ) (e : Entry) → k < length history → e ≡ get_or history k e
-    → after_from config policy s (inputs_of (take (k + 1) history)) ≡ (step config policy (after_from config policy s (inputs_of (take k history))) e.input).state
-after_next config policy s history k e within is =
-    ap (λ (es : List Entry). after_from config policy s (inputs_of es)) (next_is history k e within is) ∙ after_one config policy s (take k history) e
-
-pub legal_next : (config : Config) (policy : PolicyLines) (s : State) (history : List Entry) (k : ℕ) (e : Entry) → k < length history → e ≡ get_or history k e
-    → LegalFrom config policy s (take k history)
-    → e.outputs ≡ (step config policy (after_from config policy s (inputs_of (take k history))) e.input).lines
-    → LegalFrom config policy s (take (k + 1) history)
-legal_next config policy s history k e within is legal same =
-    subst (λ (es : List Entry). LegalFrom config policy s es) (sym (next_is history k e within is)) (legal_one config policy s (take k history) e legal same)
-
-pub illegal_at : (config : Config) (policy : PolicyLines) (s : State) (history : List Entry) (k : ℕ) (e : Entry) → k < length history → e ≡ get_or history k e
-    → LegalFrom config policy s (take k history)
-    → ¬ (e.outputs ≡ (step config policy (after_from config policy s (inputs_of (take k history))) e.input).lines)
-    → IllegalFrom config policy s history (k + 1)
-illegal_at config policy s history k e within is legal other = record {
-  before = take k history;
-  entry = e;
-  behind = drop (suc k) history;
-  history_is =
-      sym (take-append-drop k history)
-      ∙ ap (λ (es : List Entry). take k history ++ es) (drop-cons history k e within ∙ ap (λ (x : Entry). x ∷ drop (suc k) history) (sym is));
-  number_is = let long : length (take k history) ≡ k = length-take-le k history (omega arith) in omega arith;
-  legal = legal;
-  differ = other;
-}
-
--- ---- no step reads the saved pairs of the configuration
-
-legal_same : (config : Config) (policy : PolicyLines) (saved : List Pair) (s : State) (history : List Entry)
-    → LegalFrom (record config { saved = saved }) policy s history → LegalFrom config policy s history
-legal_same config policy saved s [] legal = tt
-legal_same config policy saved s (e ∷ history) legal =
-    let same = same_step config policy saved s e.input in (
-      legal.0 ∙ ap (λ change. change.lines) same,
-      legal_same config policy saved (step config policy s e.input).state history
-          (subst (λ (t : State). LegalFrom (record config { saved = saved }) policy t history) (ap (λ change. change.state) same) legal.1),
-    )
-
--- an opening's legal histories are those of the machine without the saved pairs, from the first state
-pub legal_opened : (o : Opening) (config : Config) (policy : PolicyLines) (s : State) (history : List Entry)
-    → config ≡ record o.config { saved = [] } → policy ≡ o.policy → s ≡ first_state o → LegalFrom config policy s history → Legal o history
-legal_opened o config policy s history same_config same_policy same_state legal =
-    legal_same o.config o.policy [] (first_state o) history
-    (subst (λ (c : Config). LegalFrom c o.policy (first_state o) history) same_config
-    (subst (λ (p : PolicyLines). LegalFrom config p (first_state o) history) same_policy
-    (subst (λ (t : State). LegalFrom config policy t history) same_state legal)))
-
-illegal_same : (o : Opening) (history : List Entry) (number : ℕ)
-    → IllegalFrom (record o.config { saved = [] }) o.policy (first_state o) history number → IllegalAt o history number
-illegal_same o history number x = record {
-  before = x.before;
-  entry = x.entry;
-  behind = x.behind;
-  history_is = x.history_is;
-  number_is = x.number_is;
-  legal = legal_same o.config o.policy [] (first_state o) x.before x.legal;
-  differ = λ (same : x.entry.outputs ≡ (step o.config o.policy (after_from o.config o.policy (first_state o) (inputs_of x.before)) x.entry.input).lines).
-      let after = same_after o.config o.policy [] (first_state o) (inputs_of x.before) in
-      x.differ
-      (same
-      ∙ ap (λ (t : State). (step o.config o.policy t x.entry.input).lines) (sym after)
-      ∙ ap (λ change. change.lines)
-      (sym (same_step o.config o.policy [] (after_from (record o.config { saved = [] }) o.policy (first_state o) (inputs_of x.before)) x.entry.input)));
-}
-
-pub illegal_opened : (o : Opening) (config : Config) (policy : PolicyLines) (s : State) (history : List Entry) (number : ℕ)
-    → config ≡ record o.config { saved = [] } → policy ≡ o.policy → s ≡ first_state o → IllegalFrom config policy s history number → IllegalAt o history number
-illegal_opened o config policy s history number same_config same_policy same_state fault =
-    illegal_same o history number
-    (subst (λ (c : Config). IllegalFrom c o.policy (first_state o) history number) same_config
-    (subst (λ (p : PolicyLines). IllegalFrom config p (first_state o) history number) same_policy
-    (subst (λ (t : State). IllegalFrom config policy t history number) same_state fault)))
-
-pub step_here : (config c : Config) (policy p : PolicyLines) (s t : State) (i : Input) → config ≡ c → policy ≡ p → s ≡ t
+step_here : (config c : Config) (policy p : PolicyLines) (s t : State) (i : Input) → config ≡ c → policy ≡ p → s ≡ t
     → step config policy s i ≡ step c p t i
 step_here config c policy p s t i same_config same_policy same_state =
     ap (λ (x : Config). step x policy s i) same_config ∙ ap (λ (x : PolicyLines). step c x s i) same_policy ∙ ap (λ (x : State). step c p x i) same_state
+
+-- its step is that of the opening's machine: no step reads the saved pairs of the configuration
+step_there : {S : Type 0} (o : Opening) (history : List Entry) (core : CoreView S) (i : Input) → IsBehind o history core
+    → step_of core i ≡ step o.config o.policy (after o (inputs_of history)) i
+step_there o history core i behind =
+    step_here core.config (record o.config { saved = [] }) core.policy o.policy core.state (after o (inputs_of history)) i behind.config behind.policy behind.state
+    ∙ same_step o.config o.policy [] (after o (inputs_of history)) i
+
+pub behind_next : {S : Type 0} (o : Opening) (history : List Entry) (e : Entry) (old new : CoreView S) → new.config ≡ old.config → new.policy ≡ old.policy
+    → new.state ≡ (step_of old e.input).state → e.outputs ≡ (step_of old e.input).lines → IsBehind o history old → IsBehind o (history ++ e ∷ []) new
+behind_next o history e old new same_config same_policy state lines behind =
+    let there = step_there o history old e.input behind in
+    record {
+      legal = legal_one o.config o.policy (first_state o) history e behind.legal (lines ∙ ap (λ (x : Change). x.lines) there);
+      config = same_config ∙ behind.config;
+      policy = same_policy ∙ behind.policy;
+      state = state ∙ ap (λ (x : Change). x.state) there ∙ sym (after_one o.config o.policy (first_state o) history e);
+    }
+
+pub illegal_next : {S : Type 0} (o : Opening) (history : List Entry) (e : Entry) (old : CoreView S) (number : ℕ) → number ≡ length history + 1
+    → (e.outputs ≡ (step_of old e.input).lines → ⊥) → IsBehind o history old → IllegalAt o (history ++ e ∷ []) number
+illegal_next o history e old number counted other behind = record {
+  before = history;
+  entry = e;
+  behind = [];
+  history_is = refl;
+  number_is = counted;
+  legal = behind.legal;
+  differ = λ (same : HasStepOutputs o history e). other (same ∙ sym (ap (λ (x : Change). x.lines) (step_there o history old e.input behind)));
+}
+
+-- what isn't legal stays so, whatever comes
+pub illegal_more : (o : Opening) (history : List Entry) (e : Entry) (number : ℕ) → IllegalAt o history number → IllegalAt o (history ++ e ∷ []) number
+illegal_more o history e number at = record {
+  before = at.before;
+  entry = at.entry;
+  behind = at.behind ++ e ∷ [];
+  history_is = ap (λ (es : List Entry). es ++ e ∷ []) at.history_is ∙ append_assoc at.before (at.entry ∷ at.behind) (e ∷ []);
+  number_is = at.number_is;
+  legal = at.legal;
+  differ = at.differ;
+}
 
 pub ok_of : {T E : Type 0} (r : Result T E) (P : Type 0) → OnOk r P → is_err r ≡ false → P
 ok_of (Ok x) P on sure = on

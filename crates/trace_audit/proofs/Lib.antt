@@ -1,6 +1,8 @@
 pub mod Declared
+pub mod Gathering
 pub mod Lefts
 pub mod Merging
+pub mod Options
 pub mod FirstLeft
 pub mod MergeFaults
 pub mod Values
@@ -8,4 +10,6 @@ pub mod Listing
 pub mod Holding
 pub mod Legality
 pub mod Verdicts
+pub mod NextTaken
+pub mod Texts
 pub mod Indexing

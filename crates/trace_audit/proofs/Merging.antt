@@ -12,11 +12,7 @@ use Rattle.script_lang.specs.Inputs.{ActorParts}
 use Rattle.script_lang.specs.Laws.{set_by}
 use Rattle.script_lang.specs.Merges.{IsMerging, is_main}
 use Rattle.trace_audit.specs.Progress.{IsOver, Left, Takes, first_left}
-
--- the inputs are all that is left
-pub record Fills (inputs : List Input) (left : Left) : Type 0 where
-  pub main : filter is_main inputs ≡ left.main
-  pub sets : (who : ℕ) → filter_map (set_by who) inputs ≡ left.sets who
+use Rattle.trace_audit.specs.Taken.{Fills}
 
 pub takes_more : (xs ys : List Input) (a b c : Left) → Takes xs a b → Takes ys b c → Takes (xs ++ ys) a c
 takes_more xs ys a b c first then = record {

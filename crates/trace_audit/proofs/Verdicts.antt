@@ -1,5 +1,5 @@
 -- A report with a fault isn't audited.
-use Rattle.std.proofs.Common.{◌≡◌, ◌≢◌, ◌+◌, ℕ, suc, List, [], ◌∷◌, ◌++◌, length, slice_get, refl, sym, ap, ◌∙◌, subst, arith, ◌⊎◌, inl, inr, ◌↔◌, Result, Ok, Err, IfOk, MatchOption, Option, Some, None}
+use Rattle.std.proofs.Common.{◌≡◌, ◌≢◌, ◌+◌, ℕ, suc, List, [], ◌∷◌, ◌++◌, length, slice_get, refl, sym, ap, ◌∙◌, subst, arith, ◌⊎◌, inl, inr, ◌↔◌, Result, Ok, Err, IfOk}
 use Rattle.init_base.specs.declared.memory.NoMemory.{NoMemory}
 use Rattle.init_machine.specs.History.{Legal, LegalFrom, after_from, inputs_of}
 use Rattle.init_machine.specs.Policy.{PolicyLines}
@@ -87,12 +87,6 @@ pub yes_if_ok : (o : Opening) (found : List Diagnostic) (script : Script) (repor
     → IfOk r (Says o found script report) → IfOk r (λ v. (v ≡ verdict.Yes) ↔ Audited o found script report)
 yes_if_ok o found script report (Ok v) says = yes_exactly o found script report v says
 yes_if_ok o found script report (Err e) says = tt
-
-pub some_is : {X : Type 0} (o : Option X) (A : Type 0) (P : X → Type 0) (x : X) → MatchOption o A P → o ≡ Some x → P x
-some_is {X} o A P x met is = subst (λ (p : Option X). MatchOption p A P) is met
-
-pub none_is : {X : Type 0} (o : Option X) (A : Type 0) (P : X → Type 0) → MatchOption o A P → o ≡ None → A
-none_is {X} o A P met is = subst (λ (p : Option X). MatchOption p A P) is met
 
 pub says_merge : (o : Opening) (found : List Diagnostic) (script : Script) (report : Report) (v : Verdict) (number : ℕ) (history : List Entry)
     → v ≡ verdict.No why.Merge number → found ≡ report.diagnostics → script.clients ≡ clients_in report → history ≡ report.history

@@ -3,4 +3,5 @@ pub mod Progress
 pub mod Audited
 pub mod Indexed
 pub mod Lists
-pub mod Legality
+pub mod Taken
+pub mod Texts

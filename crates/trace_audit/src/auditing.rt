@@ -1,25 +1,24 @@
-//! `audit`: whether the documented machine can have written a trace.
+//! `audit` and `audit_text`: whether the documented machine can have written a trace.
 
-ghost use Rattle.std.specs.Prelude.{◌≡◌, ◌≤◌, ◌↔◌, ◌⊎◌, All, length, IfOk, MatchOption};
-ghost use Rattle.init_core.specs.Core.{opening_of, without_saved};
-ghost use Rattle.init_machine.specs.State.{Opening, first_state};
+ghost use Rattle.std.specs.Prelude.{◌≡◌, ◌≤◌, ◌<◌, ◌+◌, ◌↔◌, All, [], length, IfOk, List as Items};
+ghost use Rattle.init_core.specs.Core.{opening_of};
+ghost use Rattle.init_machine.specs.State.{Opening};
 ghost use Rattle.init_machine.specs.WellFormed.{IsWellFormed};
 ghost use Rattle.script_lang.specs.Laws.{IsAskAmong};
 ghost use Rattle.trace_audit.specs.Audited.{Audited, Says};
+ghost use Rattle.trace_audit.specs.Taken.{EndsWith, HasTaken, HasTakenNone};
+ghost use Rattle.trace_audit.specs.Texts.{SaysOf, SaysOfReport};
 ghost use Rattle.trace_audit.specs.declared.verdict.Verdict.TheVariants as Verdict;
+ghost use Rattle.trace_reader.specs.Pieces.{left_of, most_entries};
 
-use crate::clients::clients_of;
-use crate::legal::{open, outputs_fault};
-use crate::merge::merge_fault;
-use crate::readings::readings_fault;
-use crate::same::first_difference;
-use crate::verdict::{Verdict, Why};
+use crate::taking::Audit;
+use crate::verdict::Verdict;
 use init_base::{List, NoMemory};
-use init_core::Core;
-use init_machine::{Config, Diagnostic, ListStore, Report};
+use init_machine::{Config, Diagnostic, Report};
 use prop_contexts::Policy;
 use script_lang::Script;
 use std::alloc::Global;
+use trace_reader::{Fault, Piece, Pieces};
 
 /// Whether the documented machine can have written the report of a script.
 ///
@@ -44,50 +43,99 @@ pub fn audit(
     ensures yes { let opening = opening_of config policy script.now.words in
         IfOk result (λ verdict. (verdict ≡ Verdict.Yes) ↔ Audited opening diagnostics.now script.now report.now) }
 {
-    let mut core = open(alloc, config, policy, script.words)?;
-    judge(alloc, &mut core, diagnostics, script, report)
+    let mut audit = Audit::new(alloc, config, policy, script)?;
+    judge(alloc, &mut audit, diagnostics, script, report)
 }
 
-/// The verdict on a report, by a machine in its first state.
+/// The verdict on a report, by an audit that has taken no entry.
 fn judge(
     alloc: Global,
-    core: &mut Core<ListStore>,
+    audit: &mut Audit,
     diagnostics: &List<Diagnostic>,
     script: &Script,
     report: &Report,
 ) -> Result<Verdict, NoMemory>
-    requires domains { length script.now.clients ≤ length core.old.config.domains }
     requires asks { All (IsAskAmong (length script.now.clients)) script.now.acts }
-    ensures { (o : Opening) → core.old.config ≡ without_saved o.config → core.old.policy ≡ o.policy
-        → core.old.state ≡ first_state o → IfOk result (Says o diagnostics.now script.now report.now) }
+    requires begun { HasTakenNone script.now audit.old }
+    ensures { (o : Opening) → HasTaken o script.now [] audit.old → IfOk result (Says o diagnostics.now script.now report.now) }
 {
-    if let Some(number) = first_difference(diagnostics.items(), report.diagnostics.items()) {
-        return Ok(no(Why::Diagnostics, number));
+    for entry in report.history.items() {
+        audit.take(script, entry)?;
     }
-    let clients = clients_of(alloc, report.clients.items())?;
-    if let Some(number) = first_difference(script.clients.items(), clients.as_slice()) {
-        return Ok(no(Why::Clients, number));
-    }
-    if let Some(number) = merge_fault(alloc, script, report.history.items())? {
-        return Ok(no(Why::Merge, number));
-    }
-    if let Some(number) = outputs_fault(core, report.history.items())? {
-        return Ok(no(Why::Legal, number));
-    }
-    let fault = readings_fault(
-        alloc,
-        script,
-        report.history.items(),
-        report.clients.items(),
-    )?;
-    if let Some(number) = fault {
-        return Ok(no(Why::Readings, number));
-    }
-    Ok(Verdict::Yes)
+    audit.verdict(alloc, diagnostics, script, report)
 }
 
-fn no(why: Why, number: u64) -> Verdict
-    ensures { result ≡ Verdict.No why number }
+/// The same of the report that bytes are the text of. Bad exactly where they are the text of none. It reads the text entry by
+/// entry, and keeps none: of the history it holds the sets.
+pub fn audit_text(
+    alloc: Global,
+    config: Config,
+    policy: Policy,
+    diagnostics: &List<Diagnostic>,
+    script: &Script,
+    text: &[u8],
+) -> Result<Verdict, Fault>
+    requires config { IsWellFormed config }
+    requires domains { length script.now.clients ≤ length config.domains }
+    requires asks { All (IsAskAmong (length script.now.clients)) script.now.acts }
+    ensures { SaysOf (opening_of config policy script.now.words) diagnostics.now script.now text.now result }
 {
-    Verdict::No { why, number }
+    let mut audit = Audit::new(alloc, config, policy, script)?;
+    judge_text(alloc, &mut audit, diagnostics, script, text)
+}
+
+/// The verdict on a text, by an audit that has taken no entry.
+fn judge_text(
+    alloc: Global,
+    audit: &mut Audit,
+    diagnostics: &List<Diagnostic>,
+    script: &Script,
+    text: &[u8],
+) -> Result<Verdict, Fault>
+    requires asks { All (IsAskAmong (length script.now.clients)) script.now.acts }
+    requires begun { HasTakenNone script.now audit.old }
+    ensures { (o : Opening) → HasTaken o script.now [] audit.old → SaysOf o diagnostics.now script.now text.now result }
+{
+    let Some(mut pieces) = Pieces::of(alloc, text) else {
+        return Err(Fault::Bad);
+    };
+    judge_pieces(alloc, audit, diagnostics, script, &mut pieces)
+}
+
+/// The verdict on the pieces of a text.
+fn judge_pieces(
+    alloc: Global,
+    audit: &mut Audit,
+    diagnostics: &List<Diagnostic>,
+    script: &Script,
+    pieces: &mut Pieces<'_>,
+) -> Result<Verdict, Fault>
+    requires asks { All (IsAskAmong (length script.now.clients)) script.now.acts }
+    requires begun { HasTakenNone script.now audit.old }
+    requires few { most_entries pieces.old < 18446744073709551615 }
+    ensures { (o : Opening) → HasTaken o script.now [] audit.old → SaysOfReport o diagnostics.now script.now (left_of pieces.old) result }
+{
+    let rest = take_all(alloc, audit, script, pieces)?;
+    Ok(audit.verdict(alloc, diagnostics, script, &rest)?)
+}
+
+/// Takes all entries, and answers the rest of the report. Bad where the text is that of no report.
+fn take_all(
+    alloc: Global,
+    audit: &mut Audit,
+    script: &Script,
+    pieces: &mut Pieces<'_>,
+) -> Result<Report, Fault>
+    requires asks { All (IsAskAmong (length script.now.clients)) script.now.acts }
+    requires begun { HasTakenNone script.now audit.old }
+    requires few { most_entries pieces.old < 18446744073709551615 }
+    ensures ends { (o : Opening) → HasTaken o script.now [] audit.old → EndsWith o script.now (left_of pieces.old) audit.new result }
+    ensures few { IfOk result (λ _. audit.new.merge.taken < 18446744073709551615) }
+{
+    loop {
+        match pieces.next(alloc)? {
+            Piece::Entry(entry) => audit.take(script, &entry)?,
+            Piece::Rest(rest) => return Ok(rest),
+        }
+    }
 }

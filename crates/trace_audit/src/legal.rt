@@ -1,11 +1,9 @@
 //! What the machine did, against what it does.
 
-ghost use Rattle.std.specs.Prelude.{◌≡◌, All, IfOk, MatchOption};
-ghost use Rattle.init_core.specs.Core.{IsDeclared, opening_of, without_saved};
-ghost use Rattle.init_machine.specs.History.{LegalFrom};
+ghost use Rattle.std.specs.Prelude.{◌≡◌, ◌↔◌, IsTrue, IfOk, OnOk};
+ghost use Rattle.init_core.specs.Core.{IsDeclared, opening_of, step_of, without_saved};
 ghost use Rattle.init_machine.specs.State.{first_state};
 ghost use Rattle.init_machine.specs.WellFormed.{IsWellFormed};
-ghost use Rattle.trace_audit.specs.Legality.{IllegalFrom};
 
 use crate::same::first_difference;
 use init_base::NoMemory;
@@ -30,20 +28,16 @@ pub fn open(
     Core::new(alloc, config, policy, store)
 }
 
-/// The number of the first entry whose outputs aren't those of the machine, which takes the inputs one after another. None
-/// exactly where each entry has the machine's outputs.
-pub fn outputs_fault(core: &mut Core<ListStore>, history: &[Entry]) -> Result<Option<u64>, NoMemory>
-    requires { All (λ e. IsDeclared core.old.config e.input) history.now }
-    ensures { IfOk result (λ fault. MatchOption fault (LegalFrom core.old.config core.old.policy core.old.state history.now)
-        (IllegalFrom core.old.config core.old.policy core.old.state history.now)) }
+/// Whether an entry has the outputs of the machine, which takes its input.
+pub fn has_outputs(core: &mut Core<ListStore>, entry: &Entry) -> Result<bool, NoMemory>
+    requires { IsDeclared core.old.config entry.now.input }
+    ensures config { OnOk result (core.new.config ≡ core.old.config) }
+    ensures policy { OnOk result (core.new.policy ≡ core.old.policy) }
+    ensures state { OnOk result (core.new.state ≡ (step_of core.old entry.now.input).state) }
+    ensures same { IfOk result (λ same. IsTrue same ↔ (entry.now.outputs ≡ (step_of core.old entry.now.input).lines)) }
 {
-    for (place, entry) in history.iter().enumerate() {
-        if core.take(&entry.input).is_err() {
-            return Err(NoMemory);
-        }
-        if first_difference(core.outputs().items(), entry.outputs.items()).is_some() {
-            return Ok(Some(place as u64 + 1));
-        }
+    if core.take(&entry.input).is_err() {
+        return Err(NoMemory);
     }
-    Ok(None)
+    Ok(first_difference(core.outputs().items(), entry.outputs.items()).is_none())
 }

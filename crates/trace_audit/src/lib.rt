@@ -17,10 +17,9 @@ mod readings;
 mod same;
 mod serials;
 mod sets;
-#[cfg(test)]
-mod tests;
+mod taking;
 mod told;
 mod verdict;
 
-pub use auditing::audit;
+pub use auditing::{audit, audit_text};
 pub use verdict::{Verdict, Why};

@@ -12,7 +12,7 @@ use crate::order::{are_answers, is_in_order, seconds_rise};
 use crate::sets::Sets;
 use crate::told::Told;
 use init_base::NoMemory;
-use init_machine::{ClientPart, Entry, Reading};
+use init_machine::{ClientPart, Reading};
 use script_lang::Script;
 use std::alloc::Global;
 
@@ -62,15 +62,14 @@ fn do_hold(
 pub fn readings_fault(
     alloc: Global,
     script: &Script,
-    history: &[Entry],
+    told: &Told,
     parts: &[ClientPart],
 ) -> Result<Option<u64>, NoMemory>
-    ensures { IfOk result (λ fault. MatchOption fault (EachHolds script.now history.now 1 parts.now)
-        (FailsAt script.now history.now parts.now)) }
+    ensures { (history : Items Happened) → told.now.sets.pairs.items ≡ sets_of history → told.now.requests.items ≡ all_requests 0 history
+        → IfOk result (λ fault. MatchOption fault (EachHolds script.now history 1 parts.now) (FailsAt script.now history parts.now)) }
 {
-    let told = Told::of(alloc, history)?;
     for (index, part) in parts.iter().enumerate() {
-        if !do_hold(alloc, script, &told, index + 1, part.readings.items())? {
+        if !do_hold(alloc, script, told, index + 1, part.readings.items())? {
             return Ok(Some(index as u64 + 1));
         }
     }

@@ -1,8 +1,8 @@
 //! What a history tells of its sets: the sets in order, and between which of them each set request stands.
 
-ghost use Rattle.std.specs.Prelude.{◌≡◌, ◌+◌, ◌++◌, OnOk, IfOk, length};
-ghost use Rattle.init_machine.specs.History.{sets_in, sets_of};
-ghost use Rattle.trace_audit.specs.Lists.{all_requests, bounds_by, request_in};
+ghost use Rattle.std.specs.Prelude.{◌≡◌, ◌+◌, ◌++◌, [], OnOk, IfOk, length};
+ghost use Rattle.init_machine.specs.History.{sets_in};
+ghost use Rattle.trace_audit.specs.Lists.{bounds_by, request_in};
 
 use crate::sets::Sets;
 use init_base::{ClientId, NoMemory, Text};
@@ -25,9 +25,9 @@ pub struct Request {
 
 /// The sets of a history in order, and its set requests.
 #[derive(Drop)]
-struct Gathered {
-    sets: Vec<(Text, Text)>,
-    requests: Vec<Request>,
+pub struct Gathered {
+    pub sets: Vec<(Text, Text)>,
+    pub requests: Vec<Request>,
 }
 
 /// What a history tells: its sets, each found by its name, and its set requests.
@@ -38,12 +38,12 @@ pub struct Told {
 }
 
 impl Told {
-    /// What a history tells.
-    pub fn of(alloc: Global, history: &[Entry]) -> Result<Told, NoMemory>
-        ensures sets { IfOk result (λ told. told.sets.pairs.items ≡ sets_of history.now) }
-        ensures requests { IfOk result (λ told. told.requests.items ≡ all_requests 0 history.now) }
+    /// What a history tells, by what was gathered of it.
+    pub fn of(alloc: Global, gathered: Gathered) -> Result<Told, NoMemory>
+        ensures sets { IfOk result (λ told. told.sets.pairs.items ≡ gathered.sets.items) }
+        ensures requests { IfOk result (λ told. told.requests.items ≡ gathered.requests.items) }
     {
-        let Gathered { sets, requests } = Gathered::of(alloc, history)?;
+        let Gathered { sets, requests } = gathered;
         Ok(Told {
             sets: Sets::of(alloc, sets)?,
             requests,
@@ -65,23 +65,19 @@ impl Told {
 }
 
 impl Gathered {
-    /// The sets and the set requests of a history.
-    fn of(alloc: Global, history: &[Entry]) -> Result<Gathered, NoMemory>
-        ensures sets { IfOk result (λ gathered. gathered.sets.items ≡ sets_of history.now) }
-        ensures requests { IfOk result (λ gathered. gathered.requests.items ≡ all_requests 0 history.now) }
+    /// No set.
+    pub fn new(alloc: Global) -> Gathered
+        ensures sets { result.sets.items ≡ [] }
+        ensures requests { result.requests.items ≡ [] }
     {
-        let mut gathered = Gathered {
+        Gathered {
             sets: Vec::new(alloc),
             requests: Vec::new(alloc),
-        };
-        for entry in history {
-            gathered.add(entry)?;
         }
-        Ok(gathered)
     }
 
     /// Adds what an entry tells.
-    fn add(&mut self, entry: &Entry) -> Result<(), NoMemory>
+    pub fn add(&mut self, entry: &Entry) -> Result<(), NoMemory>
         ensures sets { OnOk result (self.new.sets.items ≡ self.old.sets.items ++ sets_in entry.now.outputs) }
         ensures requests { OnOk result (self.new.requests.items ≡ self.old.requests.items
             ++ request_in entry.now.input (length self.old.sets.items) (length self.old.sets.items + length (sets_in entry.now.outputs))) }

@@ -1,11 +1,10 @@
 -- An entry that was read stands before all that is read behind it, so it can be taken away.
-use Rattle.std.proofs.Common.{◌≡◌, ℕ, ◌+◌, ◌==◌, Bool, true, false, cond, List, [], ◌∷◌, ◌++◌, length, Option, Some, None, refl, sym, ap, ◌∙◌}
+use Rattle.std.proofs.Common.{◌≡◌, ℕ, ◌+◌, ◌==◌, Bool, true, false, cond, List, [], ◌∷◌, ◌++◌, length, Option, Some, None, refl, ap, ◌∙◌}
 use Rattle.std.specs.Prelude.{slice_get, remove}
 use Rattle.std.specs.List.{slice_split}
 use Rattle.init_machine.specs.declared.diagnostic.Diagnostic.{Diagnostic}
 use Rattle.init_machine.specs.declared.report.ClientPart.{ClientPart}
 use Rattle.init_machine.specs.declared.report.Entry.{Entry}
-use Rattle.init_machine.specs.declared.report.Report.{Report}
 use Rattle.trace_reader.specs.Drafts.{begun, draft, ended, finished, line_added, report_from, step}
 use Rattle.trace_reader.specs.Lines.{line_of}
 use Rattle.trace_reader.specs.Pieces.{in_front, with_front}

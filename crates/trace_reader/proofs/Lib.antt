@@ -1,4 +1,5 @@
 pub mod Choices
+pub mod Counts
 pub mod Cuts
 pub mod Drafts
 pub mod Frames

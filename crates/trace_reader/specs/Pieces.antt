@@ -1,9 +1,9 @@
 -- A report that is read entry by entry.
-use Rattle.std.specs.Prelude.{◌≡◌, ◌∷◌, [], Option, Some, None, Result, Ok, Err}
+use Rattle.std.specs.Prelude.{◌≡◌, ℕ, ◌+◌, ◌<◌, ⊤, ◌∷◌, [], length, Option, Some, None, Result, Ok, Err}
 use Rattle.std.specs.List.{slice_split}
 use Rattle.init_machine.specs.declared.report.Entry.{Entry}
 use Rattle.init_machine.specs.declared.report.Report.{Report}
-use Rattle.trace_reader.specs.Drafts.{draft, report_from}
+use Rattle.trace_reader.specs.Drafts.{draft, finished, report_from}
 use Rattle.trace_reader.specs.Reading.{IsUnread}
 use Rattle.trace_reader.specs.Split.{is_line_feed}
 use Rattle.trace_reader.specs.declared.draft.Draft.{Draft}
@@ -30,3 +30,13 @@ abbrev pub IsNext : Option Report → Option Report → Result Piece Fault → T
 IsNext old new (Ok (piece.Entry e)) = old ≡ with_front e new
 IsNext old new (Ok (piece.Rest report)) = (old ≡ Some report) × (report.history ≡ [])
 IsNext old new (Err why) = IsUnread old why
+
+-- No more entries than this come: those that stand in the draft already, and at most one for each byte that is left.
+abbrev pub most_entries : Pieces → ℕ
+most_entries pieces = length pieces.rest.now + length (finished pieces.draft).history
+
+-- where an entry comes, fewer do afterwards
+abbrev pub LeavesFewer : ℕ → ℕ → Result Piece Fault → Type 0
+LeavesFewer old new (Ok (piece.Entry e)) = new < old
+LeavesFewer old new (Ok (piece.Rest report)) = ⊤
+LeavesFewer old new (Err why) = ⊤

@@ -1,9 +1,9 @@
 //! Reading a report's text entry by entry.
 
-ghost use Rattle.std.specs.Prelude.{◌≡◌, ◌<◌, ℕ, List as Bytes, IfOk, MatchOption, Option as Found, length};
+ghost use Rattle.std.specs.Prelude.{◌≡◌, ◌≤◌, ◌<◌, ℕ, List as Bytes, IfOk, IfSome, MatchOption, Option as Found, length};
 ghost use Rattle.init_machine.specs.declared.report.Report.{Report as Whole};
 ghost use Rattle.trace_reader.specs.Drafts.{finished, framed};
-ghost use Rattle.trace_reader.specs.Pieces.{IsNext, left_of};
+ghost use Rattle.trace_reader.specs.Pieces.{IsNext, LeavesFewer, left_of, most_entries};
 ghost use Rattle.trace_reader.specs.Reports.{IsReportOf};
 
 use crate::draft::Draft;
@@ -37,7 +37,8 @@ pub fn pieces_are_of_one_report()
 impl<'a> Pieces<'a> {
     /// The pieces of a text. None where its first line or its last one isn't that of a report.
     pub fn of(alloc: Global, text: &'a [u8]) -> Option<Pieces<'a>>
-        ensures { MatchOption result (framed text.entry.now ≡ None) (λ pieces. framed text.entry.now ≡ left_of pieces) }
+        ensures all { MatchOption result (framed text.entry.now ≡ None) (λ pieces. framed text.entry.now ≡ left_of pieces) }
+        ensures few { IfSome result (λ pieces. most_entries pieces ≤ length text.entry.now) }
     {
         let rest = within_frame(text)?;
         Some(Pieces {
@@ -48,7 +49,8 @@ impl<'a> Pieces<'a> {
 
     /// The next entry, or else the rest of the report. Bad where the text is that of no report.
     pub fn next(&mut self, alloc: Global) -> Result<Piece, Fault>
-        ensures { IsNext (left_of self.old) (left_of self.new) result }
+        ensures next { IsNext (left_of self.old) (left_of self.new) result }
+        ensures fewer { LeavesFewer (most_entries self.old) (most_entries self.new) result }
     {
         while !self.rest.is_empty() {
             if let Some(entry) = self.draft.take_entry() {

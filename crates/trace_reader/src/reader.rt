@@ -1,8 +1,8 @@
 //! Reading a report's text.
 
-ghost use Rattle.std.specs.Prelude.{◌≡◌, ◌<◌, IfOk, MatchOption, MatchResult, length};
+ghost use Rattle.std.specs.Prelude.{◌≡◌, ◌+◌, ◌≤◌, ◌<◌, IfOk, MatchOption, MatchResult, length};
 ghost use Rattle.std.specs.List.{slice_split};
-ghost use Rattle.trace_reader.specs.Drafts.{IsStep, body_of, body_report, framed, line_added, report_from};
+ghost use Rattle.trace_reader.specs.Drafts.{IsStep, body_of, body_report, finished, framed, line_added, report_from};
 ghost use Rattle.trace_reader.specs.Reading.{IsReading, IsUnread};
 ghost use Rattle.trace_reader.specs.Reports.{IsReportOf};
 ghost use Rattle.trace_reader.specs.Split.{is_line_feed};
@@ -67,6 +67,7 @@ pub fn take_line<'a>(alloc: Global, draft: &mut Draft, text: &'a [u8]) -> Result
         (λ behind. report_from draft.old (slice_split is_line_feed text.entry.now) ≡ report_from draft.new (slice_split is_line_feed behind.now))
         (IsUnread (report_from draft.old (slice_split is_line_feed text.entry.now))) }
     ensures shorter { IfOk result (λ behind. length behind.now < length text.entry.now) }
+    ensures entries { IfOk result (λ _. length (finished draft.new).history ≤ length (finished draft.old).history + 1) }
 {
     let Some((bytes, behind)) = cut(text, b'\n') else {
         return Err(Fault::Bad);

@@ -8,7 +8,7 @@ use Rattle.initsim.specs.Top.{CanBeDone, ReadsScript}
 use Rattle.initsim.specs.Trace.{TraceSays}
 use Rattle.initsim.specs.Outcome.{Ends, Tell, shown_as, sources_of}
 use Rattle.initsim.specs.declared.status.Status.TheVariants as status
-use Rattle.init_words.specs.declared.form.Form.TheVariants.{Run, Check, Audit}
+use Rattle.init_words.specs.declared.form.Form.TheVariants.{Run, Race, Check, Audit}
 use Rattle.init_words.specs.declared.reading.WordsRefusal.TheVariants as why
 use Rattle.initsim.proofs.Complete.{complete_audit, complete_check, complete_run}
 use Rattle.initsim.proofs.Ends.{check_ends, left_alone, usage_ends}
@@ -61,6 +61,14 @@ returns-in-Ok-Run-clause-ends g c = λ told tells.
     subst (λ (f : Option Form). Ends f told c.run_script.result (shown_as (g.K.Sink.taken c.args.out.now) (g.K.Sink.taken c.run_script.new.out) (seen c.args.keeper.now) (seen c.run_script.new.keeper)))
     (sym form) (c.run_script.ensures.ends (g.T.Source.left c.args.trace.now) told (subst (λ (f : Option Form). Tell f sources told) form tells))
 
+pub returns-in-Ok-Race-clause-ends : goal.returns-in-Ok-Race-clause-ends
+returns-in-Ok-Race-clause-ends g c = λ told tells.
+    let form : form_of c.args.words.now ≡ Some Race = cc c.in-Ok-Race.ensures.ok in
+    let seen = seen_by g.P.Keeper.held g.P.Keeper.TellsCrash g.P.Keeper.moment g.P.Keeper.MayLeave in
+    let sources = sources_of (g.S.Source.left c.args.script.now) (g.F.Files.tree c.args.files.now) (g.P.Keeper.held c.args.keeper.now) (g.T.Source.left c.args.trace.now) in
+    subst (λ (f : Option Form). Ends f told c.race_script.result (shown_as (g.K.Sink.taken c.args.out.now) (g.K.Sink.taken c.race_script.new.out) (seen c.args.keeper.now) (seen c.race_script.new.keeper)))
+    (sym form) (c.race_script.ensures.ends (g.T.Source.left c.args.trace.now) told (subst (λ (f : Option Form). Tell f sources told) form tells))
+
 pub returns-in-Ok-Check-clause-ends : goal.returns-in-Ok-Check-clause-ends
 returns-in-Ok-Check-clause-ends g c = λ told tells.
     let form : form_of c.args.words.now ≡ Some Check = cc c.in-Ok-Check.ensures.ok in
@@ -92,6 +100,14 @@ returns-in-Ok-Run-clause-complete g c = λ world is can.
     let sources = sources_of (g.S.Source.left c.args.script.now) (g.F.Files.tree c.args.files.now) (g.P.Keeper.held c.args.keeper.now) (g.T.Source.left c.args.trace.now) in
     complete_run c.run_script.result sources _ world _ _ c.run_script.ensures.formed c.run_script.ensures.script
     (c.run_script.ensures.tree world is) c.run_script.ensures.store (c.run_script.ensures.counts (g.T.Source.fault_count c.args.trace.now))
+    (subst (λ (f : Option Form). CanBeDone f sources world) form can)
+
+pub returns-in-Ok-Race-clause-complete : goal.returns-in-Ok-Race-clause-complete
+returns-in-Ok-Race-clause-complete g c = λ world is can.
+    let form : form_of c.args.words.now ≡ Some Race = cc c.in-Ok-Race.ensures.ok in
+    let sources = sources_of (g.S.Source.left c.args.script.now) (g.F.Files.tree c.args.files.now) (g.P.Keeper.held c.args.keeper.now) (g.T.Source.left c.args.trace.now) in
+    complete_run c.race_script.result sources _ world _ _ c.race_script.ensures.formed c.race_script.ensures.script
+    (c.race_script.ensures.tree world is) c.race_script.ensures.store (c.race_script.ensures.counts (g.T.Source.fault_count c.args.trace.now))
     (subst (λ (f : Option Form). CanBeDone f sources world) form can)
 
 pub returns-in-Ok-Check-clause-complete : goal.returns-in-Ok-Check-clause-complete

@@ -1,6 +1,7 @@
 use Rattle.std.proofs.Common.{Ok, ap}
 use Rattle.init_driver.specs.Keeper.{seen_by}
 use Rattle.initsim.specs.Counts.{Counts}
+use Rattle.init_words.specs.declared.form.Form.TheVariants.{Run}
 use Rattle.initsim.specs.Prepared.{GivesSaved, ScriptOfJob, course_of}
 use Rattle.initsim.proofs.Ends.{performed_ends, stop_ends}
 use Rattle.initsim.proofs.Performed.{counts_after, course_is, performed_as_before, performed_status, performed_tree}
@@ -41,8 +42,8 @@ pub returns-in-Err-clause-ends : goal.returns-in-Err-clause-ends
 returns-in-Err-clause-ends g c = λ trace told tells.
     let seen = seen_by g.P.Keeper.held g.P.Keeper.TellsCrash g.P.Keeper.moment g.P.Keeper.MayLeave in
     rw c.status.ensures
-    (stop_ends c.in-Err.stop told (g.S.Source.left c.prepare.new.source) (g.K.Sink.taken c.args.out.now) (seen c.args.keeper.now) (seen c.prepare.new.keeper)
-    c.in-Err.ensures.kind (told_of _ _ told.script tells.script_is c.in-Err.ensures.script) (c.in-Err.ensures.tree told.world tells.world_is) (told_of _ _ told.held tells.held_is c.in-Err.ensures.store)
+    (stop_ends c.in-Err.stop Run told (g.S.Source.left c.prepare.new.source) (g.K.Sink.taken c.args.out.now) (seen c.args.keeper.now) (seen c.prepare.new.keeper)
+    (λ how is. is) c.in-Err.ensures.kind (told_of _ _ told.script tells.script_is c.in-Err.ensures.script) (c.in-Err.ensures.tree told.world tells.world_is) (told_of _ _ told.held tells.held_is c.in-Err.ensures.store)
     c.in-Err.ensures.asked.0 c.in-Err.ensures.asked.1)
 
 pub returns-in-Ok-clause-formed : goal.returns-in-Ok-clause-formed

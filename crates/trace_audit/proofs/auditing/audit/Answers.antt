@@ -1,19 +1,11 @@
-use Rattle.std.proofs.Common.{◌≤◌, length, sym, subst}
 use Rattle.init_core.specs.Core.{opening_of}
-use Rattle.init_machine.specs.declared.config.Config.{Config}
 use Rattle.trace_audit.proofs.Verdicts.{yes_if_ok}
 use Rattle.trace_audit.proofs.auditing.audit.Goals as goal
 
-pub judge-requires-clause-domains : goal.judge-requires-clause-domains
-judge-requires-clause-domains c =
-    subst (λ (config : Config). length c.args.script.now.clients ≤ length config.domains) (sym c.in_ok-core.ensures.config) c.requires.domains
-
 pub returns-clause-says : goal.returns-clause-says
-returns-clause-says c =
-    c.judge.ensures (opening_of c.args.config c.args.policy c.args.script.now.words) c.in_ok-core.ensures.config c.in_ok-core.ensures.policy c.in_ok-core.ensures.state
+returns-clause-says c = c.judge.ensures (opening_of c.args.config c.args.policy c.args.script.now.words) c.in_ok-audit.ensures
 
 pub returns-clause-yes : goal.returns-clause-yes
 returns-clause-yes c =
     let opening = opening_of c.args.config c.args.policy c.args.script.now.words in
-    yes_if_ok opening c.args.diagnostics.now c.args.script.now c.args.report.now c.judge.result
-    (c.judge.ensures opening c.in_ok-core.ensures.config c.in_ok-core.ensures.policy c.in_ok-core.ensures.state)
+    yes_if_ok opening c.args.diagnostics.now c.args.script.now c.args.report.now c.judge.result (c.judge.ensures opening c.in_ok-audit.ensures)

@@ -1,0 +1,42 @@
+-- What stands with the keeper behind a race.
+use Rattle.std.proofs.Common.{◌≡◌, inl, inr, ℕ, List, [], ap, ◌∙◌, subst}
+use Rattle.init_driver.proofs.Keepers.{took_nothing}
+use Rattle.init_driver.specs.Keeper.{KeeperView, Risks}
+use Rattle.init_driver.specs.declared.refusal.DriveRefusal.{DriveRefusal}
+use Rattle.init_driver.specs.declared.refusal.DriveRefusal.TheVariants as refusal
+use Rattle.init_machine.specs.History.{after, inputs_of}
+use Rattle.init_machine.specs.Policy.{PolicyLines}
+use Rattle.init_machine.specs.State.{Opening}
+use Rattle.init_machine.specs.declared.config.Pair.{Pair}
+use Rattle.init_machine.specs.declared.diagnostic.Diagnostic.{Diagnostic}
+use Rattle.init_machine.specs.declared.report.ClientPart.{ClientPart}
+use Rattle.property_service.specs.declared.ending.Finished.{Finished}
+use Rattle.script_lang.specs.declared.script.Script.{Script}
+use Rattle.init_race.specs.Keeping.{GivesNot, given_behind}
+use Rattle.init_race.specs.Race.{AreRaced, KeepsNot, race_given}
+
+pub given_same : (o : Opening) (finished : Finished) (parts : List ClientPart) (script : Script) → AreRaced o script finished parts
+    → given_behind finished.history finished.policy finished.saved ≡ race_given o finished.history
+given_same o finished parts script raced =
+    ap (λ (pairs : List Pair). given_behind finished.history finished.policy pairs) raced.saved
+    ∙ ap (λ (policy : PolicyLines). given_behind finished.history policy (after o (inputs_of finished.history)).saved) raced.policy
+
+-- the keeper didn't take what it was given
+pub race_not_kept : (o : Opening) (found : List Diagnostic) (script : Script) (finished : Finished) (parts : List ClientPart) (old new : KeeperView) (e : DriveRefusal)
+    → AreRaced o script finished parts → GivesNot e (given_behind finished.history finished.policy finished.saved) old new
+    → KeepsNot e o found script old new
+race_not_kept o found script finished parts old new refusal.Keeper are risks = record {
+  report = record { diagnostics = found; history = finished.history; clients = parts };
+  audited = are.audited found;
+  kept = λ tells. subst (λ (texts : List (List ℕ)). Risks old new [] texts) (given_same o finished parts script are) (risks tells);
+}
+race_not_kept o found script finished parts old new refusal.Write are risks = absurd risks
+race_not_kept o found script finished parts old new refusal.NoMemory are risks = inr (record {
+  report = record { diagnostics = found; history = finished.history; clients = parts };
+  audited = are.audited found;
+  kept = λ tells. subst (λ (texts : List (List ℕ)). Risks old new [] texts) (given_same o finished parts script are) (risks tells);
+})
+
+-- the keeper was asked nothing
+pub nothing_kept : (o : Opening) (found : List Diagnostic) (script : Script) (keeper : KeeperView) → KeepsNot refusal.NoMemory o found script keeper keeper
+nothing_kept o found script keeper = inl (took_nothing keeper)

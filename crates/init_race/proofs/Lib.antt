@@ -1,0 +1,12 @@
+pub mod Steps
+pub mod ActingEnds
+pub mod Parts
+pub mod Records
+pub mod Merging
+pub mod Whole
+pub mod Gathered
+pub mod Seats
+pub mod Parting
+pub mod Through
+pub mod Storing
+pub mod Kept

@@ -1,0 +1,8 @@
+pub mod Acting
+pub mod Asks
+pub mod Ended
+pub mod Keeping
+pub mod Race
+pub mod Seating
+pub mod Threads
+pub mod Told

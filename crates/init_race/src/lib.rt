@@ -1,0 +1,16 @@
+//! `race`: a script's clients on threads of their own, beside the main actor, over one service and its shared area.
+//!
+//! What a race writes is a report that the audit of traces answers Yes to (`Audited` of `trace_audit`): the history merges the
+//! script's parts and is legal, and each client's readings answer its requests, stand, and are in order.
+#![tactic(auto)]
+
+mod actors;
+mod gate;
+mod racing;
+mod reading;
+mod seating;
+mod threads;
+
+pub use actors::{Acted, Stage};
+pub use gate::{Gate, OpenGate, Point};
+pub use racing::{Raced, race};

@@ -1,0 +1,305 @@
+//! `race`: a script's clients and its main actor beside each other.
+
+ghost use Rattle.std.specs.Prelude.{◌≡◌, ◌≤◌, ◌∷◌, ◌++◌, ℕ, [], All, IfOk, IsOkAnd, IsTrue, OnOk, length, slice_get};
+ghost use Rattle.init_base.specs.Faults.{Counted};
+ghost use Rattle.init_core.specs.Core.{opening_of};
+ghost use Rattle.init_driver.specs.Keeper.{seen_by};
+ghost use Rattle.init_driver.specs.Run.{AsksAreMet, keeper_failed};
+ghost use Rattle.init_machine.specs.WellFormed.{IsWellFormed};
+ghost use Rattle.init_race.specs.Ended.{ComeBack, next_part, readers_of, told_to};
+ghost use Rattle.init_race.specs.Keeping.{Gives, given_behind, stored_in};
+ghost use Rattle.init_race.specs.Race.{AreRaced, HasEnded, HasRecorded, KeepsRace};
+ghost use Rattle.init_race.specs.Threads.{MayAct};
+ghost use Rattle.machine_laws.specs.Saved.{has_stored, is_stored as is_stored_lem};
+ghost use Rattle.persist_file.specs.Store.{are_saved, are_typed, store_text};
+ghost use Rattle.property_area.specs.Area.{begins};
+ghost use Rattle.property_area.specs.Seats.{Seated};
+ghost use Rattle.trace_audit.specs.Audited.{Audited};
+
+use crate::actors::{Acted, Stage};
+use crate::gate::Gate;
+use crate::seating::seat_all;
+use crate::threads::act_all;
+use init_base::{IoRefusal, Keeper, List, NoMemory};
+use init_driver::{DriveRefusal, Setup};
+use init_machine::{ClientPart, Config, Entry, Output, Pair, Report};
+use prop_contexts::Policy;
+use property_area::{Area, AreaRefusal, AreaWriter, Reader, WriterSeat};
+use property_service::{AreaName, FinishRefusal, Finished, Service, Shared};
+use script_lang::{Client, Script};
+use std::alloc::Global;
+use std::marker::Brand;
+use std::sync::Wait;
+use std::thread::Threads;
+
+/// What a race leaves: its report, and the seat of the area's writer, whose record is that of the report's history and whose
+/// clients' lists have the report's readings.
+#[derive(Drop)]
+pub struct Raced {
+    pub report: Report,
+    pub seat: WriterSeat,
+}
+
+/// What the actors leave.
+#[derive(Drop)]
+struct Ended {
+    finished: Finished,
+    parts: List<ClientPart>,
+}
+
+/// An area of the script's words, and its writer's seat.
+fn open_area(alloc: Global, words: u64) -> Result<(Area, WriterSeat), NoMemory>
+    requires { (64 ≤ words) × (words ≤ 1048576) }
+    ensures { IfOk result (λ made. (made.0.words ≡ words) × (made.1.table ≡ made.0) × (made.1.view ≡ begins words)) }
+{
+    match Area::new(alloc, words) {
+        Ok(made) => Ok(made),
+        Err(AreaRefusal::NoMemory) => Err(NoMemory),
+        Err(_) => unreachable!(),
+    }
+}
+
+/// Takes the actors apart: the readers of all, and what each client was told.
+fn parted(
+    alloc: Global,
+    clients: &List<Client>,
+    acted: Vec<Acted>,
+) -> Result<(Vec<Reader>, List<ClientPart>), NoMemory>
+    ensures readers { IfOk result (λ parts. parts.0.items ≡ readers_of acted.items) }
+    ensures parts { IfOk result (λ parts. parts.1 ≡ told_to clients.now acted.items) }
+{
+    let mut readers = Vec::new(alloc);
+    let mut parts = List::new(alloc);
+    for one in acted {
+        part_off(clients, one, &mut readers, &mut parts)?;
+    }
+    Ok((readers, parts))
+}
+
+/// Takes an actor apart. One behind the clients has no part.
+fn part_off(
+    clients: &List<Client>,
+    acted: Acted,
+    readers: &mut Vec<Reader>,
+    parts: &mut List<ClientPart>,
+) -> Result<(), NoMemory>
+    ensures readers { OnOk result (readers.new.items ≡ readers.old.items ++ acted.reader ∷ []) }
+    ensures parts { OnOk result (parts.new ≡ parts.old ++ next_part (slice_get clients.now (length parts.old)) acted) }
+{
+    let Acted { reader, readings } = acted;
+    readers.push(reader)?;
+    match clients.at(parts.len()) {
+        Some(client) => parts.push(ClientPart {
+            name: client.name.share()?,
+            domain: client.domain.share()?,
+            readings,
+        }),
+        None => Ok(()),
+    }
+}
+
+/// The service ends, with the readers of all actors given back. That none is missing is known of the area alone.
+fn end<N: AreaName>(service: Service<'_, N>, readers: List<Reader>) -> Result<Finished, NoMemory>
+    requires { All (λ (reader : Seated). reader.table ≡ N.area) readers }
+    ensures { IfOk result (HasEnded readers) }
+{
+    match service.finish(readers) {
+        Ok(finished) => Ok(finished),
+        Err(FinishRefusal::Spent | FinishRefusal::Missing { .. }) => Err(NoMemory),
+    }
+}
+
+/// The actors do their parts beside each other, and give their readers back with what each client was told.
+fn act_at<'x, N: AreaName + Send + Sync, R: Threads + Wait + Sync, G: Gate>(
+    rt: &'x R,
+    area: &'x Area,
+    shared: &'x Shared<'_, N>,
+    script: &'x Script,
+    gate: &'x G,
+    alloc: Global,
+    readers: Vec<Reader>,
+) -> Result<(List<Reader>, List<ClientPart>), NoMemory>
+    requires area { area.now ≡ N.area }
+    requires asks { AsksAreMet script.now }
+    requires readers { All (MayAct N.area) readers.items }
+    ensures { IfOk result (λ back. ComeBack script.now readers.items back.0 back.1) }
+{
+    let stage = Stage {
+        rt,
+        alloc,
+        area,
+        shared,
+        script,
+        gate,
+    };
+    let acted = act_all(&stage, readers)?;
+    let (back, parts) = parted(alloc, &script.clients, acted)?;
+    Ok((List::from_vec(back), parts))
+}
+
+/// The actors get their readers, do their parts, and the service ends.
+fn run_actors<N: AreaName + Send + Sync, R: Threads + Wait + Sync, G: Gate>(
+    rt: &R,
+    alloc: Global,
+    area: &Area,
+    mut service: Service<'_, N>,
+    script: &Script,
+    gate: &G,
+) -> Result<Ended, NoMemory>
+    requires area { area.now ≡ N.area }
+    requires begun { (service.history ≡ []) × (service.seat.out ≡ []) }
+    requires domains { length script.now.clients ≡ length service.opening.config.domains }
+    requires few { length script.now.clients ≤ 64 }
+    requires asks { AsksAreMet script.now }
+    ensures { IfOk result (λ ended. AreRaced service.entry.opening script.now ended.finished ended.parts) }
+{
+    let Ok(readers) = seat_all(alloc, &mut service, script.clients.items()) else {
+        drop(service);
+        return Err(NoMemory);
+    };
+    let shared = Shared::new(service);
+    let came = act_at(rt, area, &shared, script, gate, alloc, readers);
+    end_with(shared.into_inner(), came)
+}
+
+/// The service ends, once the actors came back.
+fn end_with<N: AreaName>(
+    service: Service<'_, N>,
+    came: Result<(List<Reader>, List<ClientPart>), NoMemory>,
+) -> Result<Ended, NoMemory>
+    requires { IfOk came (λ back. All (λ (reader : Seated). reader.table ≡ N.area) back.0) }
+    ensures { IfOk result (λ ended. IsOkAnd came (λ back. HasEnded back.0 ended.finished × (ended.parts ≡ back.1))) }
+{
+    match came {
+        Ok((readers, parts)) => {
+            let finished = end(service, readers)?;
+            Ok(Ended { finished, parts })
+        }
+        Err(NoMemory) => {
+            drop(service);
+            Err(NoMemory)
+        }
+    }
+}
+
+/// The actors' run over an area that is new.
+fn run_over<N: AreaName + Send + Sync, R: Threads + Wait + Sync, G: Gate>(
+    rt: &R,
+    alloc: Global,
+    area: &Area,
+    seat: WriterSeat,
+    machine: (Config, Policy),
+    script: &Script,
+    gate: &G,
+) -> Result<Ended, NoMemory>
+    requires config { IsWellFormed machine.0 }
+    requires area { (area.now ≡ N.area) × (seat.table ≡ area.now) × (seat.view ≡ begins script.now.words) }
+    requires domains { length script.now.clients ≡ length machine.0.domains }
+    requires few { length script.now.clients ≤ 64 }
+    requires asks { AsksAreMet script.now }
+    ensures { IfOk result (λ ended. AreRaced (opening_of machine.0 machine.1 script.now.words) script.now ended.finished ended.parts) }
+{
+    let (config, policy) = machine;
+    let writer = AreaWriter::new(area, seat);
+    let service = Service::<N>::new(alloc, config, policy, writer)?;
+    run_actors(rt, alloc, area, service, script, gate)
+}
+
+/// Replaces what the keeper holds, where a property was stored.
+fn keep<P: Keeper>(alloc: Global, finished: &Finished, keeper: &mut P) -> Result<(), DriveRefusal>
+    requires saved { IsTrue (stored_in finished.now.history) → IsTrue (are_saved finished.now.saved) }
+    requires typed { IsTrue (stored_in finished.now.history) → IsTrue (are_typed finished.now.policy finished.now.saved) }
+    ensures keeps { let seen = seen_by P.held P.TellsCrash P.moment P.MayLeave in
+        Gives (given_behind finished.now.history finished.now.policy finished.now.saved) (seen keeper.old) (seen keeper.new) result }
+    ensures cause { Counted (keeper_failed result) (P.fault_count keeper.old) (P.fault_count keeper.new) }
+{
+    if !stored(finished.history.items()) {
+        return Ok(());
+    }
+    put(alloc, &finished.saved, &finished.policy, keeper)
+}
+
+/// Gives the keeper the text of pairs under a policy.
+fn put<P: Keeper>(
+    alloc: Global,
+    pairs: &List<Pair>,
+    policy: &Policy,
+    keeper: &mut P,
+) -> Result<(), DriveRefusal>
+    requires saved { IsTrue (are_saved pairs.now) }
+    requires typed { IsTrue (are_typed policy.now pairs.now) }
+    ensures keeps { let seen = seen_by P.held P.TellsCrash P.moment P.MayLeave in
+        Gives (store_text policy.now pairs.now ∷ []) (seen keeper.old) (seen keeper.new) result }
+    ensures cause { Counted (keeper_failed result) (P.fault_count keeper.old) (P.fault_count keeper.new) }
+{
+    let text = persist_file::print(alloc, pairs, policy)?;
+    match keeper.replace(alloc, text.bytes()) {
+        Ok(()) => Ok(()),
+        Err(IoRefusal::Failed) => Err(DriveRefusal::Keeper),
+        Err(IoRefusal::NoMemory) => Err(DriveRefusal::NoMemory),
+    }
+}
+
+/// Whether some entry stores a property.
+fn stored(history: &[Entry]) -> bool
+    ensures { result ≡ stored_in history.now }
+{
+    history.iter().any(|entry| stores(entry))
+}
+
+/// Whether an entry stores a property.
+fn stores(entry: &Entry) -> bool
+    ensures { result ≡ has_stored entry.now.outputs }
+{
+    entry.outputs.items().iter().any(|output| is_stored(output))
+}
+
+fn is_stored(output: &Output) -> bool
+    ensures { result ≡ is_stored_lem output.now }
+{
+    matches!(output, Output::Stored { .. })
+}
+
+/// Runs a script with its main actor and each client on a thread of its own, beside each other: takes the boot, and then
+/// whatever comes first of what the actors ask, each actor's inputs and requests in its own order.
+///
+/// The report is one that the audit of traces answers Yes to. Behind all actors the keeper is given the text of the saved pairs
+/// once, where a property was stored. `Keeper` comes only where the keeper's count of faults rose.
+pub fn race<R: Threads + Wait + Sync, P: Keeper, G: Gate>(
+    rt: &R,
+    alloc: Global,
+    setup: Setup,
+    script: &Script,
+    keeper: &mut P,
+    gate: &G,
+) -> Result<Raced, DriveRefusal>
+    requires config { IsWellFormed setup.config }
+    requires domains { length script.now.clients ≡ length setup.config.domains }
+    requires words { (64 ≤ script.now.words) × (script.now.words ≤ 1048576) }
+    requires few { length script.now.clients ≤ 64 }
+    requires asks { AsksAreMet script.now }
+    ensures raced { IfOk result (λ raced. Audited (opening_of setup.config setup.policy script.now.words) setup.diagnostics script.now raced.report) }
+    ensures seat { IfOk result (λ raced. HasRecorded (opening_of setup.config setup.policy script.now.words) raced.report.history raced.report.clients raced.seat.view) }
+    ensures kept { let seen = seen_by P.held P.TellsCrash P.moment P.MayLeave in
+        KeepsRace (opening_of setup.config setup.policy script.now.words) setup.diagnostics script.now result (seen keeper.old) (seen keeper.new) }
+    ensures cause { Counted (keeper_failed result) (P.fault_count keeper.old) (P.fault_count keeper.new) }
+{
+    let Setup {
+        config,
+        policy,
+        diagnostics,
+    } = setup;
+    let (area, seat) = open_area(alloc, script.words)?;
+    let machine = (config, policy);
+    let ended = run_over::<Brand, R, G>(rt, alloc, &area, seat, machine, script, gate)?;
+    keep(alloc, &ended.finished, keeper)?;
+    let Ended { finished, parts } = ended;
+    Ok(Raced {
+        report: Report {
+            diagnostics,
+            history: finished.history,
+            clients: parts,
+        },
+        seat: finished.seat,
+    })
+}

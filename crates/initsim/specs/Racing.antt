@@ -1,0 +1,53 @@
+-- What the race of a course writes, and what it leaves with the keeper.
+use Rattle.std.specs.Prelude.{◌≡◌, ℕ, ◌⊎◌, List, [], Option}
+use Rattle.std.specs.Io.KnownBytes.{append_known}
+use Rattle.init_driver.specs.Keeper.{KeeperView, Risks, Took}
+use Rattle.init_driver.specs.declared.refusal.DriveRefusal.{DriveRefusal}
+use Rattle.init_driver.specs.declared.refusal.DriveRefusal.TheVariants as refusal
+use Rattle.init_machine.specs.declared.report.Report.{Report}
+use Rattle.init_race.specs.Race.{race_given}
+use Rattle.init_trace.specs.Report.{TextOf}
+use Rattle.init_trace.specs.Written.{TakesFront}
+use Rattle.trace_audit.specs.Audited.{Audited}
+use Rattle.initsim.specs.Run.{Course}
+use Rattle.initsim.specs.declared.status.Status.{Status}
+use Rattle.initsim.specs.declared.status.Status.TheVariants as status
+
+-- a report that the audit of traces answers Yes to
+abbrev pub IsAudited : Course → Report → Type 0
+IsAudited course report = Audited course.opening course.diagnostics course.script report
+
+-- the report's text is written whole, and the keeper took what the race gives it
+abbrev pub WritesRace : Course → Report → Option (List ℕ) → Option (List ℕ) → KeeperView → KeeperView → Type 0
+WritesRace course report old new keeper kept =
+    (new ≡ append_known old (TextOf report)) × Took keeper kept (race_given course.opening report.history)
+
+-- a front of the text is written, and the keeper took what the race gives it
+abbrev pub WritesFront : Course → Report → Option (List ℕ) → Option (List ℕ) → KeeperView → KeeperView → Type 0
+WritesFront course report old new keeper kept =
+    TakesFront old new (TextOf report) × Took keeper kept (race_given course.opening report.history)
+
+-- nothing is written, and the keeper may or may not have taken what the race gives it
+abbrev pub WritesNothing : Course → Report → Option (List ℕ) → Option (List ℕ) → KeeperView → KeeperView → Type 0
+WritesNothing course report old new keeper kept =
+    (new ≡ old) × (keeper.TellsCrash → Risks keeper kept [] (race_given course.opening report.history))
+
+-- The text of a race is cut short. The keeper is asked before anything is written.
+abbrev pub CutsRace : DriveRefusal → Course → Report → Option (List ℕ) → Option (List ℕ) → KeeperView → KeeperView → Type 0
+CutsRace refusal.Keeper course report old new keeper kept = WritesNothing course report old new keeper kept
+CutsRace refusal.Write course report old new keeper kept = WritesFront course report old new keeper kept
+CutsRace refusal.NoMemory course report old new keeper kept =
+    WritesFront course report old new keeper kept ⊎ WritesNothing course report old new keeper kept
+
+-- What the race of a course leaves: in the sink, and with the keeper. Memory may run out before there is a report.
+abbrev pub PerformsRace : Course → Option (List ℕ) → Option (List ℕ) → KeeperView → KeeperView → Status → Type 0
+PerformsRace course old new keeper kept status.Done =
+    (report : Report) × IsAudited course report × WritesRace course report old new keeper kept
+PerformsRace course old new keeper kept status.WriteFault =
+    (report : Report) × IsAudited course report × CutsRace refusal.Write course report old new keeper kept
+PerformsRace course old new keeper kept status.ReadFault =
+    (report : Report) × IsAudited course report × CutsRace refusal.Keeper course report old new keeper kept
+PerformsRace course old new keeper kept status.NoMemory =
+    ((new ≡ old) × Took keeper kept [])
+    ⊎ ((report : Report) × IsAudited course report × CutsRace refusal.NoMemory course report old new keeper kept)
+PerformsRace course old new keeper kept _ = ⊥

@@ -1,0 +1,95 @@
+//! `race`: the machine with each client on a thread of its own.
+
+ghost use Rattle.std.specs.Prelude.{◌≡◌, ℕ, IfSome, List as Items, Option, Some};
+ghost use Rattle.init_driver.specs.Keeper.{seen_by};
+ghost use Rattle.init_trace.specs.Report.{TextOf};
+ghost use Rattle.init_words.specs.declared.form.Form.TheVariants as Form;
+ghost use Rattle.initsim.specs.Counts.{AreCounted, counts_of};
+ghost use Rattle.initsim.specs.Endings.{IsRunStatus};
+ghost use Rattle.initsim.specs.Outcome.{Ends, TellRun, Told, shown_as, sources_of};
+ghost use Rattle.initsim.specs.Prepared.{IsFit, WritesText, course_of};
+ghost use Rattle.initsim.specs.Racing.{PerformsRace};
+ghost use Rattle.initsim.specs.Script.{ScriptSays};
+ghost use Rattle.initsim.specs.Store.{StoreSays};
+ghost use Rattle.initsim.specs.Top.{IsAsBefore};
+ghost use Rattle.initsim.specs.Tree.{IsWorldOf, TreeSays};
+ghost use Rattle.rc_import.specs.World.{World};
+
+use crate::prepare::{Job, prepare};
+use crate::status::Status;
+use init_base::{Files, IoRefusal, Keeper, Sink, Source};
+use init_driver::DriveRefusal;
+use init_machine::Report;
+use init_race::{Gate, race};
+use init_trace::print;
+use std::alloc::Global;
+use std::sync::Wait;
+use std::thread::Threads;
+
+/// Writes the text of a report.
+fn write_report<K: Sink>(alloc: Global, report: &Report, out: &mut K) -> Status
+    ensures writes { WritesText (TextOf report.now) (K.taken out.old) (K.taken out.new) result }
+    ensures counts { (files script trace keeper : ℕ) → AreCounted result
+        (counts_of files script trace keeper (K.fault_count out.old))
+        (counts_of files script trace keeper (K.fault_count out.new)) }
+{
+    match print(alloc, report, out) {
+        Ok(()) => Status::Done,
+        Err(IoRefusal::Failed) => Status::WriteFault,
+        Err(IoRefusal::NoMemory) => Status::NoMemory,
+    }
+}
+
+/// Races a job: its clients and the main actor act beside each other, and then the text of the report is written.
+fn perform_race<R: Threads + Wait + Sync, P: Keeper, K: Sink, G: Gate>(
+    rt: &R,
+    alloc: Global,
+    job: Job,
+    keeper: &mut P,
+    out: &mut K,
+    gate: &G,
+) -> Status
+    requires { IsFit job }
+    ensures leaves { let seen = seen_by P.held P.TellsCrash P.moment P.MayLeave in
+        PerformsRace (course_of job) (K.taken out.old) (K.taken out.new) (seen keeper.old) (seen keeper.new) result }
+    ensures counts { (files script trace : ℕ) → AreCounted result
+        (counts_of files script trace (P.fault_count keeper.old) (K.fault_count out.old))
+        (counts_of files script trace (P.fault_count keeper.new) (K.fault_count out.new)) }
+{
+    match race(rt, alloc, job.setup, &job.script, keeper, gate) {
+        Ok(raced) => write_report(alloc, &raced.report, out),
+        Err(DriveRefusal::Keeper) => Status::ReadFault,
+        Err(DriveRefusal::Write) => unreachable!(),
+        Err(DriveRefusal::NoMemory) => Status::NoMemory,
+    }
+}
+
+/// `race`: reads the script, the tree and the store, runs the machine with each client on a thread, and writes the report.
+pub fn race_script<R: Threads + Wait + Sync, F: Files, S: Source, P: Keeper, K: Sink, G: Gate>(
+    rt: &R,
+    alloc: Global,
+    files: &mut F,
+    script: &mut S,
+    keeper: &mut P,
+    out: &mut K,
+    gate: &G,
+) -> Status
+    ensures script { IfSome (S.left script.old) (λ bytes. ScriptSays bytes (S.left script.new) result) }
+    ensures tree { (world : World) → IsWorldOf (F.tree files.old) world → TreeSays Form.Run world result }
+    ensures store { IfSome (P.held keeper.old) (λ held. StoreSays held result) }
+    ensures ends { let seen = seen_by P.held P.TellsCrash P.moment P.MayLeave in
+        (trace : Option (Items ℕ)) (told : Told) →
+        TellRun (sources_of (S.left script.old) (F.tree files.old) (P.held keeper.old) trace) told →
+        Ends (Some Form.Race) told result (shown_as (K.taken out.old) (K.taken out.new) (seen keeper.old) (seen keeper.new)) }
+    ensures counts { (trace : ℕ) → AreCounted result
+        (counts_of (F.fault_count files.old) (S.fault_count script.old) trace (P.fault_count keeper.old) (K.fault_count out.old))
+        (counts_of (F.fault_count files.new) (S.fault_count script.new) trace (P.fault_count keeper.new) (K.fault_count out.new)) }
+    ensures unwritten { IsAsBefore (K.taken out.old) (K.taken out.new) result (P.fault_count keeper.old) (P.fault_count keeper.new) }
+    ensures unkept { IsAsBefore (P.held keeper.old) (P.held keeper.new) result (P.fault_count keeper.old) (P.fault_count keeper.new) }
+    ensures formed { IsRunStatus result }
+{
+    match prepare(alloc, files, script, keeper) {
+        Ok(job) => perform_race(rt, alloc, job, keeper, out, gate),
+        Err(stop) => stop.status(),
+    }
+}
