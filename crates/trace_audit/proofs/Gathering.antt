@@ -1,11 +1,13 @@
 -- What entries tell, one after another.
-use Rattle.std.proofs.Common.{◌≡◌, ◌+◌, ℕ, List, [], ◌∷◌, ◌++◌, length, sym, ap, ◌∙◌, append_assoc, append-nil, arith}
+use Rattle.std.specs.Result.{OnOk}
+use Rattle.std.proofs.Common.{◌≡◌, ◌+◌, ◌<◌, ℕ, Result, Ok, Err, List, [], ◌∷◌, ◌++◌, length, sym, ap, ◌∙◌, append_assoc, append-nil, arith}
 use Rattle.std.proofs.lemmas.List.{length-append}
 use Rattle.std.proofs.lemmas.List.Concat.{flat_map-append}
 use Rattle.init_machine.specs.History.{sets_in, sets_of}
 use Rattle.init_machine.specs.Sets.{Set}
 use Rattle.init_machine.specs.declared.report.Entry.{Entry}
 use Rattle.trace_audit.specs.Lists.{all_requests, request_in}
+use Rattle.trace_audit.specs.Taken.{HasGathered}
 use Rattle.trace_audit.specs.declared.told.Gathered.{Gathered}
 use Rattle.trace_audit.specs.declared.told.Request.{Request}
 
@@ -25,11 +27,11 @@ requests_next before (x ∷ history) e count counted =
     ap (λ (rs : List Request). request_in x.input before behind ++ rs) rest
     ∙ sym (append_assoc (request_in x.input before behind) (all_requests behind history) (request_in e.input count (count + length (sets_in e.outputs))))
 
-pub told_sets : (history : List Entry) (e : Entry) (old new : Gathered) → new.sets.items ≡ old.sets.items ++ sets_in e.outputs
+told_sets : (history : List Entry) (e : Entry) (old new : Gathered) → new.sets.items ≡ old.sets.items ++ sets_in e.outputs
     → old.sets.items ≡ sets_of history → new.sets.items ≡ sets_of (history ++ e ∷ [])
 told_sets history e old new added sets = added ∙ ap (λ (ss : List Set). ss ++ sets_in e.outputs) sets ∙ sym (sets_next history e)
 
-pub told_requests : (history : List Entry) (e : Entry) (old new : Gathered)
+told_requests : (history : List Entry) (e : Entry) (old new : Gathered)
     → new.requests.items ≡ old.requests.items ++ request_in e.input (length old.sets.items) (length old.sets.items + length (sets_in e.outputs))
     → old.sets.items ≡ sets_of history → old.requests.items ≡ all_requests 0 history → new.requests.items ≡ all_requests 0 (history ++ e ∷ [])
 told_requests history e old new added sets requests =
@@ -38,3 +40,17 @@ told_requests history e old new added sets requests =
     added
     ∙ ap (λ (rs : List Request). rs ++ request_in e.input (length old.sets.items) (length old.sets.items + length (sets_in e.outputs))) requests
     ∙ sym (requests_next 0 history e (length old.sets.items) counted)
+
+gathered_next : (history : List Entry) (e : Entry) (old new : Gathered) → new.sets.items ≡ old.sets.items ++ sets_in e.outputs
+    → new.requests.items ≡ old.requests.items ++ request_in e.input (length old.sets.items) (length old.sets.items + length (sets_in e.outputs))
+    → HasGathered history old → HasGathered (history ++ e ∷ []) new
+gathered_next history e old new sets requests told = record {
+  sets = told_sets history e old new sets told.sets;
+  requests = told_requests history e old new requests told.sets told.requests;
+}
+
+pub gathered_on : {T E : Type 0} (r : Result T E) (clients : ℕ) (e : Entry) (old new : Gathered) → OnOk r (new.sets.items ≡ old.sets.items ++ sets_in e.outputs)
+    → OnOk r (new.requests.items ≡ old.requests.items ++ request_in e.input (length old.sets.items) (length old.sets.items + length (sets_in e.outputs)))
+    → OnOk r ((history : List Entry) → 0 < clients → HasGathered history old → HasGathered (history ++ e ∷ []) new)
+gathered_on (Ok x) clients e old new sets requests = λ history some told. gathered_next history e old new sets requests told
+gathered_on (Err why) clients e old new sets requests = tt

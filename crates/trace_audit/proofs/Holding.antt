@@ -12,7 +12,8 @@ use Rattle.init_machine.specs.declared.report.Entry.{Entry}
 use Rattle.init_machine.specs.declared.report.Reading.{Reading}
 use Rattle.script_lang.specs.Inputs.{part_of}
 use Rattle.script_lang.specs.declared.script.Script.{Script}
-use Rattle.trace_audit.specs.Audited.{EachHolds, FailsAt, ReadingsHold, answer_all, list_of, requests_from}
+use Rattle.init_machine.specs.declared.report.Report.{Report}
+use Rattle.trace_audit.specs.Audited.{EachHolds, FailsAt, ReadingsHold, answer_all, client_of, clients_in, list_of, requests_from}
 use Rattle.trace_audit.specs.Lists.{all_requests, ascending, bounds_by, bounds_list, rises}
 use Rattle.trace_audit.specs.declared.told.Bounds.{Bounds}
 use Rattle.trace_audit.specs.declared.told.Request.{Request}
@@ -93,3 +94,12 @@ fails_at script history parts k part within is each fail = record {
   hold = each;
   fail = fail;
 }
+
+-- where there are no clients, nobody was told anything
+pub none_hold : (script : Script) (history : List Entry) (report : Report) → script.clients ≡ clients_in report → length script.clients ≡ 0
+    → EachHolds script history 1 report.clients
+none_hold script history report same none = none_of report.clients (ap length (sym same) ∙ none)
+  where
+    none_of : (parts : List ClientPart) → length (map (λ part. client_of part) parts) ≡ 0 → EachHolds script history 1 parts
+    none_of [] none = tt
+    none_of (part ∷ parts) none = cc

@@ -1,7 +1,6 @@
 -- What an audit knows behind one more entry.
-use Rattle.std.proofs.Common.{◌≡◌, ◌+◌, ◌≤◌, ◌++◌, ◌∷◌, ℕ, [], List, length, Option, Some, None, is_some, true, ap, arith}
+use Rattle.std.proofs.Common.{◌≡◌, ◌<◌, ◌≤◌, ◌++◌, ◌∷◌, ℕ, [], List, length, Option, Some, None, is_some, true, ap, arith}
 use Rattle.init_core.specs.Core.{CoreView, IsDeclared}
-use Rattle.init_machine.specs.History.{sets_in}
 use Rattle.init_machine.specs.State.{Opening}
 use Rattle.init_machine.specs.declared.config.Config.{Config}
 use Rattle.init_machine.specs.declared.report.Entry.{Entry}
@@ -9,28 +8,24 @@ use Rattle.script_lang.specs.Laws.{IsAskAmong}
 use Rattle.script_lang.specs.declared.script.Script.{Script}
 use Rattle.std.specs.Prelude.{All}
 use Rattle.trace_audit.specs.Audited.{IllegalAt, StraysAt}
-use Rattle.trace_audit.specs.Lists.{request_in}
 use Rattle.trace_audit.specs.Progress.{left_of}
-use Rattle.trace_audit.specs.Taken.{Goes, HasChecked, HasMerged, HasTaken, IsBehind}
+use Rattle.trace_audit.specs.Taken.{Goes, HasChecked, HasGathered, HasMerged, HasTaken, IsBehind}
 use Rattle.trace_audit.specs.declared.merge.Merge.{Merge}
 use Rattle.trace_audit.specs.declared.taking.Audit.{Audit}
 use Rattle.trace_audit.proofs.Declared.{begins_declared}
-use Rattle.trace_audit.proofs.Gathering.{told_requests, told_sets}
 use Rattle.trace_audit.proofs.Legality.{illegal_more}
 use Rattle.trace_audit.proofs.MergeFaults.{goes_begins}
 use Rattle.trace_audit.proofs.Options.{none_is}
 
 pub next_taken : (o : Opening) (script : Script) (history : List Entry) (e : Entry) (old new : Audit) → HasMerged script (history ++ e ∷ []) new.merge
     → (new.merge.strays ≡ None → HasChecked o (history ++ e ∷ []) new.illegal new.core)
-    → new.told.sets.items ≡ old.told.sets.items ++ sets_in e.outputs
-    → new.told.requests.items ≡ old.told.requests.items ++ request_in e.input (length old.told.sets.items) (length old.told.sets.items + length (sets_in e.outputs))
+    → (0 < length script.clients → HasGathered (history ++ e ∷ []) new.told)
     → HasTaken o script history old → HasTaken o script (history ++ e ∷ []) new
-next_taken o script history e old new merged checked sets requests taken = record {
+next_taken o script history e old new merged checked told taken = record {
   declared = taken.declared;
   merged = merged;
   checked = checked;
-  sets = told_sets history e old.told new.told sets taken.sets;
-  requests = told_requests history e old.told new.told requests taken.sets taken.requests;
+  told = told;
 }
 
 -- the machine is looked at no more

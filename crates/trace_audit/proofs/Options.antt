@@ -1,5 +1,5 @@
 -- What is said of a value that may be there.
-use Rattle.std.proofs.Common.{◌≡◌, Bool, true, false, not, Option, Some, None, MatchOption, is_some, refl, sym, subst}
+use Rattle.std.proofs.Common.{◌≡◌, ◌<◌, List, [], ◌∷◌, length, arith, Bool, true, false, not, Option, Some, None, MatchOption, is_some, refl, sym, subst}
 
 pub some_is : {X : Type 0} (o : Option X) (A : Type 0) (P : X → Type 0) (x : X) → MatchOption o A P → o ≡ Some x → P x
 some_is {X} o A P x met is = subst (λ (p : Option X). MatchOption p A P) is met
@@ -32,3 +32,7 @@ none_or_some (Some x) some none = cc
 pub true_or_false : (b : Bool) → b ≡ true → b ≡ false → ⊥
 true_or_false true h k = cc
 true_or_false false h k = cc
+
+pub some_items : {X : Type 0} (xs : List X) (b : Bool) → (xs ≡ [] → b ≡ true) → b ≡ false → 0 < length xs
+some_items [] b empty filled = absurd (true_or_false b (empty refl) filled)
+some_items (x ∷ xs) b empty filled = omega arith

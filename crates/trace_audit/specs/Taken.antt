@@ -1,5 +1,5 @@
 -- What is known of entries that were taken one after another. No promise of a public call cites these definitions.
-use Rattle.std.specs.Prelude.{◌≡◌, ℕ, ◌≤◌, ⊤, List, [], ◌∷◌, length, filter, Option, Some, None, MatchOption, Result, Ok, Err}
+use Rattle.std.specs.Prelude.{◌≡◌, ℕ, ◌<◌, ◌≤◌, ⊤, List, [], ◌∷◌, length, filter, Option, Some, None, MatchOption, Result, Ok, Err}
 use Rattle.std.specs.List.{filter_map}
 use Rattle.init_core.specs.Core.{CoreView, without_saved}
 use Rattle.init_machine.specs.History.{Legal, after, inputs_of, sets_of}
@@ -17,6 +17,7 @@ use Rattle.trace_audit.specs.Lists.{all_requests}
 use Rattle.trace_audit.specs.Progress.{Left, Takes, first_left, left_of}
 use Rattle.trace_audit.specs.declared.taking.Audit.{Audit}
 use Rattle.trace_audit.specs.declared.merge.Merge.{Merge}
+use Rattle.trace_audit.specs.declared.told.Gathered.{Gathered}
 use Rattle.trace_reader.specs.declared.fault.Fault.{Fault}
 use Rattle.trace_reader.specs.declared.fault.Fault.TheVariants as fault
 
@@ -56,15 +57,20 @@ pub record IsBehind {S : Type 0} (o : Opening) (history : List Entry) (core : Co
 abbrev pub HasChecked : {S : Type 0} → Opening → List Entry → Option ℕ → CoreView S → Type 0
 HasChecked o history illegal core = MatchOption illegal (IsBehind o history core) (IllegalAt o history)
 
+-- ---- what the entries tell
+
+pub record HasGathered (history : List Entry) (told : Gathered) : Type 0 where
+  pub sets : told.sets.items ≡ sets_of history
+  pub requests : told.requests.items ≡ all_requests 0 history
+
 -- ---- all of it
 
--- What the machine did is looked at as long as the entries begin a merging.
+-- What the machine did is looked at as long as the entries begin a merging, and what they tell where there are clients.
 pub record HasTaken (o : Opening) (script : Script) (history : List Entry) (audit : Audit) : Type 0 where
   pub declared : length script.clients ≤ length o.config.domains
   pub merged : HasMerged script history audit.merge
   pub checked : audit.merge.strays ≡ None → HasChecked o history audit.illegal audit.core
-  pub sets : audit.told.sets.items ≡ sets_of history
-  pub requests : audit.told.requests.items ≡ all_requests 0 history
+  pub told : 0 < length script.clients → HasGathered history audit.told
 
 -- it has taken some entries, from some opening
 abbrev pub HasTakenSome : Script → Audit → Type 0

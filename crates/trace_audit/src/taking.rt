@@ -7,7 +7,7 @@ ghost use Rattle.init_machine.specs.WellFormed.{IsWellFormed};
 ghost use Rattle.init_machine.specs.declared.report.Entry.{Entry as Happened};
 ghost use Rattle.script_lang.specs.Laws.{IsAskAmong};
 ghost use Rattle.trace_audit.specs.Audited.{Says};
-ghost use Rattle.trace_audit.specs.Taken.{HasTaken, HasTakenSome, with_history};
+ghost use Rattle.trace_audit.specs.Taken.{HasGathered, HasTaken, HasTakenSome, with_history};
 ghost use Rattle.trace_audit.specs.declared.verdict.Verdict.TheVariants as Verdict;
 
 use crate::clients::clients_of;
@@ -32,6 +32,7 @@ pub struct Audit {
     core: Core<ListStore>,
     /// The number of the first entry whose outputs aren't those of the machine.
     illegal: Option<u64>,
+    /// What the entries tell, where some client may have read it.
     told: Gathered,
 }
 
@@ -67,7 +68,7 @@ impl Audit {
             → OnOk result (HasTaken o script.now (history ++ entry.now ∷ []) self.new) }
     {
         self.merge.take(script, &entry.input);
-        self.told.add(entry)?;
+        gather(&mut self.told, script, entry)?;
         if self.merge.strays.is_some() || self.illegal.is_some() {
             return Ok(());
         }
@@ -103,12 +104,26 @@ impl Audit {
         if let Some(number) = self.illegal {
             return Ok(no(Why::Legal, number));
         }
+        if script.clients.is_empty() {
+            return Ok(Verdict::Yes);
+        }
         let told = Told::of(alloc, mem::replace(&mut self.told, Gathered::new(alloc)))?;
         match readings_fault(alloc, script, &told, report.clients.items())? {
             Some(number) => Ok(no(Why::Readings, number)),
             None => Ok(Verdict::Yes),
         }
     }
+}
+
+/// Adds what an entry tells, where some client may have read it.
+fn gather(told: &mut Gathered, script: &Script, entry: &Entry) -> Result<(), NoMemory>
+    ensures { OnOk result ((history : Items Happened) → 0 < length script.now.clients → HasGathered history told.old
+        → HasGathered (history ++ entry.now ∷ []) told.new) }
+{
+    if script.clients.is_empty() {
+        return Ok(());
+    }
+    told.add(entry)
 }
 
 fn no(why: Why, number: u64) -> Verdict

@@ -20,7 +20,7 @@ returns-then-is_some-clause-taken c =
       | then-is_some-via-else-is_some+then-is_some-2 w ↦
           stays_checked o history e old.illegal old.core (sym w.is_some-else-is_some.ensures ∙ w.if-is_some-2.true) (taken.checked (c.take.ensures.begun none))
     ])
-    c.in_ok-add.ensures.sets c.in_ok-add.ensures.requests taken
+    (λ some. c.in_ok-gather.ensures history some (taken.told some)) taken
 
 pub has_outputs-requires : goal.has_outputs-requires
 has_outputs-requires c =
@@ -48,7 +48,7 @@ returns-then-not-branch-clause-taken c =
     next_taken o c.args.script.now history e old _ merged
     (λ still. illegal_next o history e old.core c.take.new.self.taken number
     (λ same. true_or_false c.in_ok-has_outputs.field-0 (c.in_ok-has_outputs.ensures.same.1 same) c.if-not-branch.true) behind)
-    c.in_ok-add.ensures.sets c.in_ok-add.ensures.requests taken
+    (λ some. c.in_ok-gather.ensures history some (taken.told some)) taken
 
 pub returns-else-not-branch-clause-taken : goal.returns-else-not-branch-clause-taken
 returns-else-not-branch-clause-taken c =
@@ -62,4 +62,4 @@ returns-else-not-branch-clause-taken c =
     (λ still. match_none old.illegal _ _ legal
     (behind_next o history e old.core c.has_outputs.new.core c.in_ok-has_outputs.ensures.config c.in_ok-has_outputs.ensures.policy c.in_ok-has_outputs.ensures.state
     (c.in_ok-has_outputs.ensures.same.0 c.if-not-branch.false) behind))
-    c.in_ok-add.ensures.sets c.in_ok-add.ensures.requests taken
+    (λ some. c.in_ok-gather.ensures history some (taken.told some)) taken

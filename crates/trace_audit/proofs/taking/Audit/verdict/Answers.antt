@@ -1,4 +1,4 @@
-use Rattle.std.proofs.Common.{◌≡◌, List, map, sym, ap, subst, refl, ◌∙◌}
+use Rattle.std.proofs.Common.{◌≡◌, ◌<◌, List, length, map, sym, ap, subst, refl, ◌∙◌}
 use Rattle.init_machine.specs.History.{Legal, sets_of}
 use Rattle.init_machine.specs.State.{Opening}
 use Rattle.init_machine.specs.declared.report.ClientPart.{ClientPart}
@@ -9,8 +9,9 @@ use Rattle.trace_audit.specs.Audited.{EachHolds, FailsAt, IllegalAt, client_of, 
 use Rattle.trace_audit.specs.Lists.{all_requests}
 use Rattle.trace_audit.specs.Taken.{IsBehind, with_history}
 use Rattle.trace_audit.specs.declared.told.Gathered.{Gathered}
+use Rattle.trace_audit.proofs.Holding.{none_hold}
 use Rattle.trace_audit.proofs.NextTaken.{behind_of}
-use Rattle.trace_audit.proofs.Options.{none_is, some_is}
+use Rattle.trace_audit.proofs.Options.{none_is, some_is, some_items}
 use Rattle.trace_audit.proofs.Verdicts.{all_hold, says_legal, says_merge, says_readings}
 use Rattle.trace_audit.proofs.taking.Audit.verdict.Goals as goal
 
@@ -59,10 +60,11 @@ returns-in-Some-2 c =
     let checked = taken.checked (c.end.ensures.begun c.in_default-end.is) in
     let legal : Legal o history = (behind_of o history old.illegal old.core c.in_default-illegal.is checked).legal in
     let told = c.in_ok-told.told in
+    let some : 0 < length script.clients = some_items script.clients c.is_empty.result c.is_empty.ensures.1 c.if-is_empty.false in
     let sets : told.sets.pairs.items ≡ sets_of history =
-    c.in_ok-told.ensures.sets ∙ ap (λ (g : Gathered). g.sets.items) c.replace.ensures.value ∙ taken.sets in
+    c.in_ok-told.ensures.sets ∙ ap (λ (g : Gathered). g.sets.items) c.replace.ensures.value ∙ (taken.told some).sets in
     let requests : told.requests.items ≡ all_requests 0 history =
-    c.in_ok-told.ensures.requests ∙ ap (λ (g : Gathered). g.requests.items) c.replace.ensures.value ∙ taken.requests in
+    c.in_ok-told.ensures.requests ∙ ap (λ (g : Gathered). g.requests.items) c.replace.ensures.value ∙ (taken.told some).requests in
     let read = c.in_ok-number.ensures history sets requests in
     let met : FailsAt script history c.items-5.result.now c.in-Some-2.number =
     some_is _ (EachHolds script history 1 c.items-5.result.now) (FailsAt script history c.items-5.result.now) c.in-Some-2.number read c.in-Some-2.is in
@@ -84,11 +86,28 @@ returns c =
     let checked = taken.checked (c.end.ensures.begun c.in_default-end.is) in
     let legal : Legal o history = (behind_of o history old.illegal old.core c.in_default-illegal.is checked).legal in
     let told = c.in_ok-told.told in
+    let some : 0 < length script.clients = some_items script.clients c.is_empty.result c.is_empty.ensures.1 c.if-is_empty.false in
     let sets : told.sets.pairs.items ≡ sets_of history =
-    c.in_ok-told.ensures.sets ∙ ap (λ (g : Gathered). g.sets.items) c.replace.ensures.value ∙ taken.sets in
+    c.in_ok-told.ensures.sets ∙ ap (λ (g : Gathered). g.sets.items) c.replace.ensures.value ∙ (taken.told some).sets in
     let requests : told.requests.items ≡ all_requests 0 history =
-    c.in_ok-told.ensures.requests ∙ ap (λ (g : Gathered). g.requests.items) c.replace.ensures.value ∙ taken.requests in
+    c.in_ok-told.ensures.requests ∙ ap (λ (g : Gathered). g.requests.items) c.replace.ensures.value ∙ (taken.told some).requests in
     let read = c.in_ok-number.ensures history sets requests in
     let met : EachHolds script history 1 c.items-5.result.now =
     none_is _ (EachHolds script history 1 c.items-5.result.now) (FailsAt script history c.items-5.result.now) read c.in-None.is in
     all_hold o found script report same those merges legal (subst (λ (parts : List ClientPart). EachHolds script history 1 parts) c.items-5.ensures met)
+
+pub returns-then-is_empty : goal.returns-then-is_empty
+returns-then-is_empty c =
+    λ (o : Opening) (history : List Entry) taken.
+    let found = c.args.diagnostics.now in
+    let script = c.args.script.now in
+    let report = with_history history c.args.report.now in
+    let old = c.args.self.now in
+    let same : found ≡ report.diagnostics = sym c.items.ensures ∙ c.in_default.ensures ∙ c.items-2.ensures in
+    let those : script.clients ≡ clients_in report =
+    sym c.items-4.ensures ∙ c.in_default-first_difference.ensures ∙ c.as_slice.ensures.value ∙ c.in_ok-clients.ensures
+    ∙ ap (λ (parts : List ClientPart). map (λ part. client_of part) parts) c.items-3.ensures in
+    let merges : Merges history (Parts script) = none_is _ _ _ (c.end.ensures.end history taken.merged) c.in_default-end.is in
+    let checked = taken.checked (c.end.ensures.begun c.in_default-end.is) in
+    let legal : Legal o history = (behind_of o history old.illegal old.core c.in_default-illegal.is checked).legal in
+    all_hold o found script report same those merges legal (none_hold script history report those (ap length (c.is_empty.ensures.0 c.if-is_empty.true)))
