@@ -31,6 +31,16 @@ kind_of_dot byte = grind (arith, nat_tests)
 big : (n : ℕ) → 2 ≤ n → nat_lt n 2 ≡ false
 big n h = grind (arith, nat_tests)
 
+below : (n : ℕ) → nat_lt n 2 ≡ true → n < 2
+below n e = grind (arith, nat_tests)
+
+at_least : (n : ℕ) → nat_lt n 2 ≡ false → 2 ≤ n
+at_least n e = grind (arith, nat_tests)
+
+and_false : (b : Bool) → (b && false) ≡ false
+and_false true = refl
+and_false false = refl
+
 or_small : (a b : ℕ) → nat_lt (bit_or a b) 2 ≡ (nat_lt a 2 && nat_lt b 2)
 or_small zero b = refl
 or_small (suc zero) zero = refl
@@ -84,13 +94,37 @@ byte_met byte rest seen mark before kind is noted =
     ∙ shuffled (nat_lt seen 2) (is_name_byte byte) (list_all is_name_byte rest) (not (before == 1 && byte == 46)) (dots_are_followed (byte ∷ rest))
     ∙ ap (λ v. nat_lt seen 2 && ((is_name_byte byte && list_all is_name_byte rest) && (not (v && byte == 46) && dots_are_followed (byte ∷ rest)))) (sym (before_dot before))
 
+-- what is noted of a byte, where the one before it is one of names
+noted_small : (before kind : ℕ) → before < 2 → nat_lt (before + kind) 2 ≡ (nat_lt kind 2 && not (before == 1 && kind == 1))
+noted_small before kind h = grind (arith, nat_tests)
+
+-- the same where the one before it isn't
+byte_past : (seen before kind : ℕ) (rest more : Bool) → (nat_lt before 2 ≡ false → nat_lt seen 2 ≡ false) → nat_lt before 2 ≡ false
+    → (nat_lt (bit_or seen (before + kind)) 2 && more) ≡ (nat_lt seen 2 && rest)
+byte_past seen before kind rest more h e =
+    ap (λ v. v && more) (or_small seen (before + kind) ∙ ap (λ v. v && nat_lt (before + kind) 2) (h e))
+    ∙ sym (ap (λ v. v && rest) (h e))
+
+byte_either : (low : Bool) (byte : ℕ) (rest : List ℕ) (seen before kind : ℕ) → nat_lt before 2 ≡ low → kind ≡ kind_of_byte byte
+    → (nat_lt before 2 ≡ false → nat_lt seen 2 ≡ false)
+    → (nat_lt (bit_or seen (before + kind)) 2 && (list_all is_name_byte rest && dots_behind kind rest))
+    ≡ (nat_lt seen 2 && (list_all is_name_byte (byte ∷ rest) && dots_behind before (byte ∷ rest)))
+byte_either true byte rest seen before kind e is past =
+    byte_met byte rest seen (before + kind) before kind is (noted_small before kind (below before e))
+byte_either false byte rest seen before kind e is past = byte_past seen before kind _ _ past e
+
+-- a byte that no name has was noted
+pub past_more : (seen before kind : ℕ) → nat_lt kind 2 ≡ false → nat_lt (bit_or seen (before + kind)) 2 ≡ false
+past_more seen before kind e =
+    or_small seen (before + kind) ∙ ap (λ v. nat_lt seen 2 && v) (big (before + kind) (omega (arith, at_least kind e))) ∙ and_false (nat_lt seen 2)
+
 -- one turn of the loop over the bytes
-pub byte_more : (bytes : List ℕ) (i seen mark before kind : ℕ) (whole : Bool) → i < length bytes → kind ≡ kind_of_byte (get_or bytes i 0)
-    → nat_lt mark 2 ≡ (nat_lt kind 2 && not (before == 1 && kind == 1))
+pub byte_more : (bytes : List ℕ) (i seen before kind : ℕ) (whole : Bool) → i < length bytes → kind ≡ kind_of_byte (get_or bytes i 0)
+    → (nat_lt before 2 ≡ false → nat_lt seen 2 ≡ false)
     → (nat_lt seen 2 && (list_all is_name_byte (drop i bytes) && dots_behind before (drop i bytes))) ≡ whole
-    → (nat_lt (bit_or seen mark) 2 && (list_all is_name_byte (drop (i + 1) bytes) && dots_behind kind (drop (i + 1) bytes))) ≡ whole
-byte_more bytes i seen mark before kind whole below is noted h =
+    → (nat_lt (bit_or seen (before + kind)) 2 && (list_all is_name_byte (drop (i + 1) bytes) && dots_behind kind (drop (i + 1) bytes))) ≡ whole
+byte_more bytes i seen before kind whole below is past h =
     rw add-one (
-    byte_met (get_or bytes i 0) (drop (suc i) bytes) seen mark before kind is noted
+    byte_either (nat_lt before 2) (get_or bytes i 0) (drop (suc i) bytes) seen before kind refl is past
     ∙ ap (λ (rest : List ℕ). nat_lt seen 2 && (list_all is_name_byte rest && dots_behind before rest)) (sym (drop-cons bytes i 0 below)) ∙ h
     )

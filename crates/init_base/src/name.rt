@@ -1,6 +1,6 @@
 //! Property names, which are legal by their type. The rule is `LegalName` of `specs/Name.antt`.
 
-ghost use Rattle.std.specs.Prelude.{◌≡◌, ◌≤◌, ◌↔◌, ◌==◌, ◌&&◌, not, nat_lt, IfSome, IsSome};
+ghost use Rattle.std.specs.Prelude.{◌≡◌, ◌≤◌, ◌↔◌, ◌&&◌, IfSome, IsSome};
 ghost use Rattle.std.specs.List.{list_all};
 ghost use Rattle.init_base.specs.Name.{LegalName, has_only_lone_dots, is_legal_name, is_name_byte, is_read_only, kind_of_byte};
 ghost use Rattle.init_base.specs.Value.{max_value_len};
@@ -73,7 +73,7 @@ const KINDS: [u8; 256] = [
 ];
 
 /// Whether all bytes are those of names, and no dot stands first, last or beside another. It goes over them once, with no
-/// branch.
+/// branch: two kinds side by side sum up to `OTHER` or more where no name has one of the bytes, or both are dots.
 fn has_legal_bytes(bytes: &[u8]) -> bool
     ensures { result ≡ (list_all is_name_byte bytes.now && has_only_lone_dots bytes.now) }
 {
@@ -81,7 +81,7 @@ fn has_legal_bytes(bytes: &[u8]) -> bool
     let mut before = DOT;
     for byte in bytes {
         let kind = kind_of(*byte);
-        seen |= marks(before, kind);
+        seen |= before + kind;
         before = kind;
     }
     seen < OTHER && before != DOT
@@ -91,13 +91,4 @@ fn kind_of(byte: u8) -> u8
     ensures { result ≡ kind_of_byte byte }
 {
     KINDS[byte as usize]
-}
-
-/// What is noted of a byte behind another. It is `OTHER` or more where no name has the byte, or both are dots.
-fn marks(before: u8, kind: u8) -> u8
-    requires before { before ≤ 2 }
-    requires kind { kind ≤ 2 }
-    ensures { nat_lt result 2 ≡ (nat_lt kind 2 && not (before == 1 && kind == 1)) }
-{
-    kind | ((kind & before) << 1)
 }
