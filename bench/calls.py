@@ -32,6 +32,13 @@ def run(words):
     return usage.ru_utime + usage.ru_stime, wrote
 
 
+def run_elapsed(words):
+    """Seconds from the start to the end of one run, and what it wrote."""
+    began = time.monotonic()
+    _, wrote = run(words)
+    return time.monotonic() - began, wrote
+
+
 def run_beside(words):
     """Seconds of one run, but for those in which its main thread was ready and had no processor, and what it wrote."""
     began = time.monotonic()

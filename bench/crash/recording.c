@@ -3,8 +3,8 @@
  *
  *   RECORD_FILE  the end of the file's path
  *   RECORD_TO    the record. An item is a letter, two numbers of eight bytes each, lowest first, and bytes:
- *                `W` place, number of bytes, and the bytes, of a write; `S` 0 0, of a sync; `P` 0, number of bytes, and the bytes, of a
- *                write to standard output
+ *                `W` place, number of bytes, and the bytes, of a write; `S` 0 0, of a sync; `R` 0, number of bytes, and the bytes, of
+ *                a file that takes its place by a renaming; `P` 0, number of bytes, and the bytes, of a write to standard output
  */
 #define _GNU_SOURCE
 #include <fcntl.h>
@@ -32,11 +32,15 @@ static void note(char letter, uint64_t at, uint64_t size, const void *bytes) {
     syscall(SYS_write, record, bytes, size);
 }
 
-static int opened(long file, const char *path) {
+static int is_path(const char *path) {
     const char *end = getenv("RECORD_FILE");
     size_t have = strlen(path), want = strlen(end);
+    return have >= want && strcmp(path + have - want, end) == 0;
+}
+
+static int opened(long file, const char *path) {
     if (file >= 0 && file < MOST_FILES) {
-        is_watched[file] = have >= want && strcmp(path + have - want, end) == 0;
+        is_watched[file] = is_path(path);
     }
     return (int)file;
 }
@@ -87,6 +91,18 @@ ssize_t pwrite(int file, const void *from, size_t size, off_t at) {
 }
 
 ssize_t pwrite64(int file, const void *from, size_t size, off_t at) { return pwrite(file, from, size, at); }
+
+int rename(const char *from, const char *to) {
+    static char whole[1 << 20];
+    long answer = syscall(SYS_rename, from, to);
+    if (answer == 0 && is_path(to)) {
+        long file = syscall(SYS_openat, AT_FDCWD, to, O_RDONLY | O_CLOEXEC);
+        long size = syscall(SYS_read, file, whole, sizeof whole);
+        syscall(SYS_close, file);
+        note('R', 0, (uint64_t)size, whole);
+    }
+    return (int)answer;
+}
 
 static int synced(int file, long answer) {
     if (answer == 0 && is_one(file)) {

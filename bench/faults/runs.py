@@ -37,7 +37,8 @@ class Runs:
         name = os.path.basename(example)
         self.folder, self.count = os.path.join(room, name), os.path.join(room, f"{name}.count")
         self.program, self.library = program, library
-        shutil.copytree(example, self.folder, symlinks=True)
+        # (but for what somebody's run left there)
+        shutil.copytree(example, self.folder, symlinks=True, ignore=shutil.ignore_patterns("persist.img"))
         self.words, self.first = words_of(self.folder), self.files()
         with open(os.path.join(example, "stdout"), "rb") as file:
             self.whole = file.read()
@@ -59,11 +60,15 @@ class Runs:
                     return text_of(file.fileno())
                 except BadImage:
                     pass
-        return self.files().get("persist.txt", b"")
+        text = os.path.join(self.folder, STORE, "persist.txt")
+        if not os.path.isfile(text):
+            return b""
+        with open(text, "rb") as file:
+            return file.read()
 
     def put_back(self):
         folder = os.path.join(self.folder, STORE)
-        for name in self.files():
+        for name in os.listdir(folder) if os.path.isdir(folder) else ():
             os.remove(os.path.join(folder, name))
         for name, text in self.first.items():
             with open(os.path.join(folder, name), "wb") as file:

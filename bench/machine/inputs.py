@@ -279,6 +279,31 @@ def many_build_pairs(shape):
     shape.script(WIDE + "step 5\n")
 
 
+# -- a generated boot
+
+def soak(shape, services):
+    shape.words("soak", str(services))
+
+
+def boot_of(shape, names):
+    """The boot that a soak generates, with these numbers in its names."""
+    shape.root("on boot", "class_start default", "on late-init", "trigger boot",
+               *(line for k in names for line in (f"service s{k} /bin/s{k}", f"on property:p{k}=*", f"setprop q{k} ${{p{k}}}")))
+    shape.put("tree/property_contexts", "* default_prop\n")
+    shape.put("tree/property_allow", "allow d default_prop\n")
+    shape.script("client c d\nstep 3\n" + "".join(f"@c set p{k} {k}\n@c read p{k}\n" for k in names) + f"step {len(names) + 1}\n")
+
+
+def soaks():
+    for services in (250, 500, 1000):
+        yield f"soak_{services}", lambda shape, services=services: soak(shape, services)
+    for services in (250, 500, 1000):
+        # in an order that makes no chain in a search tree: each number times another without a common factor
+        mixed = [1 + 619 * k % services for k in range(services)]
+        yield f"soak_ascending_{services}", lambda shape, services=services: boot_of(shape, range(1, services + 1))
+        yield f"soak_mixed_{services}", lambda shape, mixed=mixed: boot_of(shape, mixed)
+
+
 SHAPES = dict([
     *read_trees(),
     *many_actions(),
@@ -296,6 +321,7 @@ SHAPES = dict([
     ("allow_mib_1", many_allow_lines),
     ("contexts_mib_1", many_contexts),
     ("build_mib_1", many_build_pairs),
+    *soaks(),
 ])
 
 

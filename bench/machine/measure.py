@@ -49,7 +49,8 @@ def is_whole(path):
     with open(path, "rb") as file:
         first = file.readline()
         file.seek(max(0, size - 5))
-        return first == b"initsim 1\n" and file.read() == b"\nend\n" or first + file.read() == b"initsim 1\nend\n"
+        begins = first == b"initsim 1\n" or first.startswith(b"soak ")
+        return begins and file.read() == b"\nend\n" or first + file.read() == b"initsim 1\nend\n"
 
 
 NO_ENTRY = (b" ", b"initsim 1\n", b"diag ", b"client ", b"end\n")
@@ -60,6 +61,8 @@ def entries_in(path):
     entries = diagnostics = 0
     with open(path, "rb") as file:
         for line in file:
+            if line.startswith(b"soak "):
+                return int(file.readline().split()[1]), 0
             diagnostics += line.startswith(b"diag ")
             entries += not line.startswith(NO_ENTRY)
     return entries, diagnostics

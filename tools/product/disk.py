@@ -1,9 +1,11 @@
 """The bytes of a crash-safe store: a gate byte at 0, seven zero bytes, and two slots. The even gate chooses slot 0, the odd one slot
 1. A slot is the length of its text in eight bytes, lowest first, and the text."""
 import os
+import shutil
 
 SLOT, LENGTH, FIRST = 33_554_440, 8, 8
 LEAST = 16
+IMAGE = "persist.img"
 MOST_TEXT = SLOT - LENGTH
 PIECE = 1 << 20
 
@@ -58,3 +60,24 @@ def text_of(file):
     if len(text) < length:
         raise BadImage("it was cut while it was read")
     return text
+
+
+def copy_file(source, target):
+    """Copies a file for `shutil.copytree`; of a store it leaves the holes."""
+    if os.path.basename(source) != IMAGE or not os.path.isfile(source):
+        shutil.copy2(source, target)
+        return
+    with open(source, "rb") as old, open(target, "xb") as new:
+        size = os.fstat(old.fileno()).st_size
+        at = 0
+        while at < size:
+            try:
+                at = os.lseek(old.fileno(), at, os.SEEK_DATA)
+            except OSError:
+                # (no data follows)
+                break
+            end = os.lseek(old.fileno(), at, os.SEEK_HOLE)
+            os.pwrite(new.fileno(), read_at(old.fileno(), at, min(end - at, PIECE)), at)
+            at = min(end, at + PIECE)
+        os.ftruncate(new.fileno(), size)
+    shutil.copymode(source, target)

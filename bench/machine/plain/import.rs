@@ -9,7 +9,7 @@ use std::io::{self, ErrorKind, Read};
 use std::os::unix::ffi::OsStrExt;
 use std::path::Path;
 
-const ROOT_FILE: &[u8] = b"/system/etc/init/hw/init.rc";
+pub const ROOT_FILE: &[u8] = b"/system/etc/init/hw/init.rc";
 const FOLDERS: [&[u8]; 5] =
     [b"/system/etc/init", b"/system_ext/etc/init", b"/vendor/etc/init", b"/odm/etc/init", b"/product/etc/init"];
 const BUILD_FILES: [&[u8]; 2] = [b"/system/build.prop", b"/vendor/build.prop"];
@@ -19,9 +19,11 @@ const MAX_NAMES: usize = 1024;
 const MAX_RC_BYTES: u64 = 32 << 20;
 const MAX_DEPTH: usize = 16;
 
+/// The files of a folder, or some that are given.
 pub struct Files {
     root: Vec<u8>,
     path: Vec<u8>,
+    given: Vec<(&'static [u8], Vec<u8>)>,
 }
 
 fn is_absent(error: &io::Error) -> bool {
@@ -46,7 +48,12 @@ fn read_front(file: &mut fs::File, limit: usize, data: &mut Vec<u8>) -> io::Resu
 
 impl Files {
     pub fn at(root: &[u8]) -> Files {
-        Files { root: root.to_vec(), path: Vec::new() }
+        Files { root: root.to_vec(), path: Vec::new(), given: Vec::new() }
+    }
+
+    /// These files, at these paths.
+    pub fn of(given: Vec<(&'static [u8], Vec<u8>)>) -> Files {
+        Files { root: Vec::new(), path: Vec::new(), given }
     }
 
     fn machine_path(&mut self, path: &[u8]) -> &Path {
@@ -61,6 +68,14 @@ impl Files {
         if std::str::from_utf8(path).is_err() {
             return Ok(false);
         }
+        if !self.given.is_empty() {
+            let Some((_, text)) = self.given.iter().find(|it| it.0 == path) else {
+                return Ok(false);
+            };
+            data.clear();
+            data.extend_from_slice(text);
+            return Ok(true);
+        }
         let Some(mut file) = absent_is_none(fs::File::open(self.machine_path(path)))? else {
             return Ok(false);
         };
@@ -74,6 +89,9 @@ impl Files {
     /// The names of a folder's plain files, ascending; none where it is no folder.
     fn list(&mut self, path: &[u8]) -> Result<Option<Vec<Vec<u8>>>, Stop> {
         if std::str::from_utf8(path).is_err() {
+            return Ok(None);
+        }
+        if !self.given.is_empty() {
             return Ok(None);
         }
         let Some(entries) = absent_is_none(fs::read_dir(self.machine_path(path)))? else {

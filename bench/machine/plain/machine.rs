@@ -6,7 +6,7 @@ use crate::policy::{Policy, Saved};
 use crate::rc::{Command, Config, Span, Word};
 use crate::stop::Stop;
 use crate::text::{
-    FastMap, FastSet, MAX_VALUE, Unexpanded, digits, expand, is_legal_name, push_number, split_at_byte,
+    FastMap, FastSet, MAX_VALUE, Unexpanded, digits, expand, is_legal_name, split_at_byte,
 };
 use crate::trace::Trace;
 use crate::tree::{Change, Tree};
@@ -397,6 +397,11 @@ impl<'a> Machine<'a> {
         self.names.get(name).map_or(&[], |at| &self.props[*at as usize].value)
     }
 
+    /// The words of the area that are in use.
+    pub fn used(&self) -> u64 {
+        self.area.used
+    }
+
     pub fn found(&self, name: &[u8]) -> Option<&[u8]> {
         let prop = &self.props[*self.names.get(name)? as usize];
         (prop.number > 0).then_some(&prop.value)
@@ -509,6 +514,7 @@ impl<'a> Machine<'a> {
             self.area.used += need;
         }
         self.count += 1;
+        self.trace.counts.puts += 1;
         let prop = &mut self.props[at as usize];
         prop.number = self.count;
         self.trace.raw(b" put ").number(self.count).raw(b" ").raw(&prop.name).raw(b" ").q(&value).end()?;
@@ -653,6 +659,7 @@ impl<'a> Machine<'a> {
         }
         let pid = self.next_pid;
         self.next_pid += 1;
+        self.trace.counts.spawns += 1;
         self.trace.raw(b" spawn ").number(u64::from(pid)).raw(b" ").raw(name).raw(b" ").q(path).end()?;
         Ok(Some(pid))
     }
@@ -836,6 +843,7 @@ impl<'a> Machine<'a> {
     fn take_event(&mut self, event: Event) -> Result<(), Stop> {
         let mut found = mem::take(&mut self.running);
         found.clear();
+        self.trace.counts.events += u64::from(!matches!(event, Event::Mark));
         match event {
             Event::Mark => self.events.push_back(Event::AllProperties),
             Event::Named(id) => {
@@ -1234,9 +1242,7 @@ impl<'a> Machine<'a> {
 }
 
 fn say_command(trace: &mut Trace, file: &[u8], line: u32, word: &[u8], args: Args<'_>) -> Result<(), Stop> {
-    trace.raw(b" command ").raw(file).raw(b" ");
-    push_number(&mut trace.buffer, u64::from(line));
-    trace.raw(b" ").raw(word);
+    trace.raw(b" command ").raw(file).raw(b" ").number(u64::from(line)).raw(b" ").raw(word);
     for text in args.iter() {
         trace.raw(b" ").q(text);
     }

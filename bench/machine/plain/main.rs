@@ -1,4 +1,4 @@
-//! `plain run ROOT SCRIPT` and `plain check ROOT`: what `initsim` writes, by a plain program that nothing is proved of. The benchmarks
+//! `plain run ROOT SCRIPT`, `plain check ROOT` and `plain soak N`: what `initsim` writes, by a plain program that nothing is proved of. The benchmarks
 //! run it beside the proved one.
 
 mod agenda;
@@ -12,7 +12,7 @@ mod text;
 mod trace;
 mod tree;
 
-use import::{Files, Loader, read_pairs, read_whole};
+use import::{Files, Loader, ROOT_FILE, read_pairs, read_whole};
 use machine::{Given, Machine};
 use policy::{Policy, Saved, print_store, read_store};
 use rc::Config;
@@ -49,6 +49,7 @@ fn called(words: &[Vec<u8>]) -> Result<(), Stop> {
     match words[..] {
         [b"run", root, script] if is_path(root) && is_path(script) => run(root, script),
         [b"check", root] if is_path(root) => check(root),
+        [b"soak", count] => soak(count_of(count)?),
         _ => Err(Stop::Usage),
     }
 }
@@ -61,6 +62,64 @@ fn check(root: &[u8]) -> Result<(), Stop> {
     let mut trace = Trace::new()?;
     trace.line(b"initsim 1")?;
     trace.raw(&config.diagnostics).line(b"end")?;
+    trace.flush()
+}
+
+/// The number of services: from 1 to 1000, without leading zeros.
+fn count_of(word: &[u8]) -> Result<u32, Stop> {
+    let text = std::str::from_utf8(word).map_err(|_| Stop::Usage)?;
+    match text.parse() {
+        Ok(count @ 1..=1000) if text.starts_with(|it: char| ('1'..='9').contains(&it)) => Ok(count),
+        _ => Err(Stop::Usage),
+    }
+}
+
+/// Boots a generated tree of so many services, and counts.
+fn soak(services: u32) -> Result<(), Stop> {
+    let mut root = b"on boot\nclass_start default\non late-init\ntrigger boot\n".to_vec();
+    let mut text = b"client c d\nstep 3\n".to_vec();
+    for i in 1..=services {
+        let _ = write!(root, "service s{i} /bin/s{i}\non property:p{i}=*\nsetprop q{i} ${{p{i}}}\n");
+        let _ = write!(text, "@c set p{i} {i}\n@c read p{i}\n");
+    }
+    let _ = writeln!(text, "step {}", services + 1);
+    let Script { area, plans, clients, acts } = script::read(&text)?;
+    let domains: Vec<_> = clients.iter().map(|it| text_of(it.domain.of(&text))).collect();
+    let policy = (b"/property_contexts".as_slice(), b"* default_prop\n".to_vec());
+    let allow = (b"/property_allow".as_slice(), b"allow d default_prop\n".to_vec());
+    let mut files = Files::of(vec![(ROOT_FILE, root), policy, allow]);
+    let policy = Policy::read(&mut files, &domains)?;
+    let mut config = Config::new(true);
+    let pairs = read_pairs(&mut files, &mut config)?;
+    Loader::new(&mut files, &pairs, &mut config).load()?;
+    let mut trace = Trace::new()?;
+    trace.quiet = true;
+    let machine = Machine::new(Given { config: &config, policy, saved: Saved::new(), area, plans }, trace);
+    let readings = clients.iter().map(|_| Vec::new()).collect();
+    let keeper = Keeper::at(b"");
+    let mut run = Run { machine, keeper, text: &text, readings, first: Vec::new(), second: Vec::new() };
+    run.machine.trace.counts.entries = 1;
+    run.machine.boot(pairs)?;
+    for act in &acts {
+        run.take(act)?;
+    }
+    let used = run.machine.used();
+    let trace = &mut run.machine.trace;
+    trace.quiet = false;
+    let counts = std::mem::take(&mut trace.counts);
+    let numbers = [
+        (b"soak ".as_slice(), u64::from(services)),
+        (b"entries ", counts.entries),
+        (b"puts ", counts.puts),
+        (b"spawns ", counts.spawns),
+        (b"events ", counts.events),
+        (b"found ", counts.found),
+        (b"used ", used),
+    ];
+    for (word, number) in numbers {
+        trace.raw(word).number(number).end()?;
+    }
+    trace.line(b"end")?;
     trace.flush()
 }
 
@@ -168,6 +227,10 @@ impl Run<'_> {
             Act::Read(who, name) => {
                 let name = name.of(text);
                 let value = self.machine.found(name);
+                if self.machine.trace.quiet {
+                    self.machine.trace.counts.found += u64::from(value.is_some());
+                    return Ok(());
+                }
                 let out = &mut self.readings[usize::from(who)];
                 out.extend_from_slice(if value.is_some() { b" found " } else { b" absent " });
                 out.extend_from_slice(name);
@@ -200,6 +263,7 @@ impl Run<'_> {
         F: FnOnce(&mut Machine<'_>, &mut Vec<u8>, &mut Vec<u8>) -> Result<(), Stop>,
     {
         let begin = self.machine.trace.buffer.len();
+        self.machine.trace.counts.entries += 1;
         self.machine.trace.hold = self.machine.is_saving();
         take(&mut self.machine, &mut self.first, &mut self.second)?;
         if self.machine.stored {

@@ -1,4 +1,4 @@
-//! Standard output: one reused buffer, written when it has 64 KiB.
+//! Standard output: one reused buffer, written when it has 64 KiB. A quiet one writes nothing; both count.
 
 use crate::stop::Stop;
 use crate::text::{push_number, push_q};
@@ -8,40 +8,61 @@ use std::os::fd::AsFd;
 
 const FULL: usize = 64 * 1024;
 
+/// How many lines of these kinds there are.
+#[derive(Default)]
+pub struct Counts {
+    pub entries: u64,
+    pub puts: u64,
+    pub spawns: u64,
+    pub events: u64,
+    pub found: u64,
+}
+
 pub struct Trace {
     pub buffer: Vec<u8>,
     sink: File,
     /// Whether the buffer has to wait for the end of the entry.
     pub hold: bool,
+    pub counts: Counts,
+    pub quiet: bool,
 }
 
 impl Trace {
     pub fn new() -> Result<Trace, Stop> {
         let sink = io::stdout().as_fd().try_clone_to_owned().map_err(|_| Stop::Write)?;
-        Ok(Trace { buffer: Vec::with_capacity(FULL + 8 * 1024), sink: sink.into(), hold: false })
+        Ok(Trace { buffer: Vec::with_capacity(FULL + 8 * 1024), sink: sink.into(), hold: false, counts: Counts::default(), quiet: false })
     }
 
     #[inline]
     pub fn raw(&mut self, text: &[u8]) -> &mut Trace {
-        self.buffer.extend_from_slice(text);
+        if !self.quiet {
+            self.buffer.extend_from_slice(text);
+        }
         self
     }
 
     #[inline]
     pub fn q(&mut self, text: &[u8]) -> &mut Trace {
-        push_q(&mut self.buffer, text);
+        if !self.quiet {
+            push_q(&mut self.buffer, text);
+        }
         self
     }
 
     #[inline]
     pub fn number(&mut self, number: u64) -> &mut Trace {
-        push_number(&mut self.buffer, number);
+        if !self.quiet {
+            push_number(&mut self.buffer, number);
+        }
         self
     }
 
     /// Ends a line.
     #[inline]
     pub fn end(&mut self) -> Result<(), Stop> {
+        if self.quiet {
+            return Ok(());
+        }
         self.buffer.push(b'\n');
         if self.buffer.len() >= FULL && !self.hold { self.flush() } else { Ok(()) }
     }

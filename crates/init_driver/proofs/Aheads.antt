@@ -1,5 +1,5 @@
 -- How much is written of the texts of entries.
-use Rattle.std.proofs.Common.{◌≡◌, ℕ, ◌+◌, ◌≤◌, IsTrue, List, [], ◌∷◌, ◌++◌, length, refl, sym, ap, ◌∙◌, subst, arith, length-append}
+use Rattle.std.proofs.Common.{◌≡◌, ℕ, ◌+◌, ◌≤◌, List, [], ◌∷◌, ◌++◌, length, subst, arith, length-append}
 use Rattle.init_machine.specs.declared.report.Entry.{Entry}
 use Rattle.init_trace.specs.Report.{EntriesText, EntryText}
 use Rattle.init_driver.specs.Course.{IsAhead}

@@ -1,5 +1,5 @@
 -- Inputs that are taken one after another.
-use Rattle.std.proofs.Common.{◌≡◌, ℕ, suc, ◌+◌, ◌-◌, ◌<◌, ◌≤◌, ◌⊎◌, inl, inr, IsTrue, List, [], ◌∷◌, ◌++◌, length, get_or, drop, replicate, Option, Some, None, Result, Ok, Err, append-nil, append_assoc, length-append, refl, sym, ap, ◌∙◌, subst, arith}
+use Rattle.std.proofs.Common.{◌≡◌, ℕ, suc, ◌+◌, ◌-◌, ◌<◌, ◌≤◌, inl, inr, IsTrue, List, [], ◌∷◌, ◌++◌, length, get_or, drop, replicate, Option, Some, None, Result, Ok, Err, append-nil, append_assoc, length-append, refl, sym, ap, ◌∙◌, subst, arith}
 use Rattle.std.specs.List.{flat_map}
 use Rattle.std.specs.Io.KnownBytes.{append_known}
 use Rattle.std.proofs.lemmas.List.{at_drop_more}
@@ -7,23 +7,26 @@ use Rattle.std.proofs.Math.ListN.{drop_of_length-le}
 use Rattle.std.proofs.lemmas.List.Concat.{flat_map-append}
 use Rattle.init_machine.specs.History.{after_from}
 use Rattle.init_machine.specs.Policy.{PolicyLines}
-use Rattle.init_machine.specs.State.{State}
+use Rattle.init_machine.specs.State.{Opening, State}
 use Rattle.init_machine.specs.Step.{step}
+use Rattle.init_base.specs.declared.units.ClientId.{ClientId}
 use Rattle.init_machine.specs.declared.config.Config.{Config}
+use Rattle.init_machine.specs.declared.config.Pair.{Pair}
 use Rattle.init_machine.specs.declared.input.Input.{Input}
 use Rattle.init_machine.specs.declared.report.Entry.{Entry}
 use Rattle.init_trace.specs.Report.{EntriesText, EntryText}
-use Rattle.init_trace.specs.Written.{Added}
 use Rattle.init_trace.proofs.Adding.{added_nothing, taken_then}
 use Rattle.machine_laws.specs.Histories.{history_from}
-use Rattle.script_lang.specs.Inputs.{act_inputs}
+use Rattle.script_lang.specs.Inputs.{act_inputs, ask_inputs}
 use Rattle.script_lang.specs.declared.script.Act.{Act}
-use Rattle.init_driver.specs.Course.{entries_at, texts_at, Breaks, IsAhead, Leads, Place, Stops, Takes, Untaken, place_of}
+use Rattle.script_lang.specs.declared.script.Ask.{Ask}
+use Rattle.script_lang.specs.declared.script.Ask.TheVariants as ask
+use Rattle.init_driver.specs.Course.{entries_at, texts_at, Breaks, IsAhead, Leads, Place, Stops, Takes, TracedView, Untaken, place_of}
 use Rattle.init_driver.specs.Keeper.{KeeperView, Risks, Took}
+use Rattle.init_driver.specs.Machine.{StaysSo}
 use Rattle.init_driver.specs.Stored.{given_at, given_from, has_stored}
 use Rattle.init_driver.specs.declared.refusal.DriveRefusal.{DriveRefusal}
 use Rattle.init_driver.specs.declared.refusal.DriveRefusal.TheVariants as refusal
-use Rattle.init_driver.specs.declared.traced.Traced.{Traced}
 use Rattle.init_driver.proofs.Aheads.{ahead_shift, ahead_then, ahead_up}
 use Rattle.init_driver.proofs.Keepers.{risks_then, took_nothing, took_then}
 use Rattle.init_driver.proofs.Sinks.{two_fronts}
@@ -72,11 +75,20 @@ texts_more first more a b h =
     given_more a.config a.policy a.state first more
     ∙ ap (λ g. texts_at a first ++ g) (sym (moved (λ c p s. given_from c p s more) first a b h))
 
+-- no request but a set has an input
+pub no_inputs : (who : ClientId) (one : Ask) → ((pair : Pair) → one ≡ ask.Set pair → ⊥) → ask_inputs who one ≡ []
+no_inputs who (ask.Set pair) none = absurd (none pair refl)
+no_inputs who (ask.Read name) none = refl
+no_inputs who ask.Sync none = refl
+no_inputs who ask.Catch none = refl
+
 pub leads_nothing : (a : Place) → Leads [] a a
 leads_nothing a = record {
   config = refl;
   policy = refl;
   state = refl;
+  opening = refl;
+  history = sym (append-nil a.history);
   added = added_nothing a.taken a.waits;
   ahead = tt;
   kept = took_nothing a.keeper;
@@ -105,6 +117,11 @@ leads_then first more a b d h k = record {
   state =
       k.state ∙ moved (λ c p s. after_from c p s more) first a b h
       ∙ sym (after_more a.config a.policy a.state first more);
+  opening = k.opening ∙ h.opening;
+  history =
+      k.history ∙ ap (λ (es : List Entry). es ++ entries_at b more) h.history
+      ∙ append_assoc a.history (entries_at a first) (entries_at b more)
+      ∙ ap (λ (es : List Entry). a.history ++ es) (sym (entries_more first more a b h));
   added =
       record {
         front = h.added.front ++ k.added.front;
@@ -231,8 +248,17 @@ takes_still inputs a b same kept = inl (record {
 pub takes_none : (inputs : List Input) (a : Place) → Untaken refusal.NoMemory inputs a a
 takes_none inputs a = takes_still inputs a a refl (took_nothing a.keeper)
 
-abbrev place_at : Config → PolicyLines → State → List ℕ → Option (List ℕ) → KeeperView → Place
-place_at config policy s waits taken keeper = record { config = config; policy = policy; state = s; waits = waits; taken = taken; keeper = keeper }
+abbrev place_at : Config → PolicyLines → State → Opening → List Entry → List ℕ → Option (List ℕ) → KeeperView → Place
+place_at config policy s opening history waits taken keeper = record {
+  config = config;
+  policy = policy;
+  state = s;
+  opening = opening;
+  history = history;
+  waits = waits;
+  taken = taken;
+  keeper = keeper;
+}
 
 -- ---- a loop over inputs
 
@@ -261,9 +287,9 @@ going_stops e all left part rest a b d is h k =
     (untaken_less e (h.done ++ part) rest a d (untaken_then e h.done part a b d h.leads k))
 
 -- memory ran out between two of them
-pub going_ends : (all left : List Input) (a b : Place) → Going all left a b → Untaken refusal.NoMemory all a b
-going_ends all left a b h =
-    going_stops refusal.NoMemory all left [] left a b b refl h (takes_none [] b)
+pub going_ends : (all left : List Input) (a b d : Place) → Going all left a b → d.taken ≡ b.taken → Took b.keeper d.keeper [] → Untaken refusal.NoMemory all a d
+going_ends all left a b d h same kept =
+    going_stops refusal.NoMemory all left [] left a b d refl h (takes_still [] b d same kept)
 
 -- nothing is left
 pub gone : (all left : List Input) (a b : Place) → left ≡ [] → Going all left a b → Leads all a b
@@ -290,14 +316,11 @@ act_left acts k act within at =
 pub acts_left : (acts : List Act) (k : ℕ) → length acts ≤ k → flat_map act_inputs (drop k acts) ≡ []
 acts_left acts k past = ap (flat_map act_inputs) (drop_of_length-le acts past)
 
--- a core that stands where it stood
-pub same_place : (t u : Traced) (taken : Option (List ℕ)) (keeper : KeeperView) → u.core.config ≡ t.core.config → u.core.policy ≡ t.core.policy → u.core.state ≡ t.core.state → u.printer ≡ t.printer
+-- a machine that stands where it stood
+pub same_place : (t u : TracedView) (taken : Option (List ℕ)) (keeper : KeeperView) → StaysSo t.core u.core → u.printer ≡ t.printer
     → place_of t taken keeper ≡ place_of u taken keeper
-same_place t u taken keeper config policy state printer =
-    ap (λ (c : Config). place_at c t.core.policy t.core.state t.printer taken keeper) (sym config)
-    ∙ ap (λ (p : PolicyLines). place_at u.core.config p t.core.state t.printer taken keeper) (sym policy)
-    ∙ ap (λ (s : State). place_at u.core.config u.core.policy s t.printer taken keeper) (sym state)
-    ∙ ap (λ (w : List ℕ). place_at u.core.config u.core.policy u.core.state w taken keeper) (sym printer)
+same_place t u taken keeper same printer = sym (λ j.
+    place_at (same.config j) (same.policy j) (same.state j) (same.opening j) (same.history j) (printer j) taken keeper)
 
 pub after_same : (config config' : Config) (policy policy' : PolicyLines) (s s' : State) (inputs : List Input) → config' ≡ config → policy' ≡ policy → s' ≡ s
     → after_from config' policy' s' inputs ≡ after_from config policy s inputs

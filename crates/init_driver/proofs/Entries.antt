@@ -1,44 +1,42 @@
 -- One input: the core takes it, the keeper is given its text, and its entry is printed.
-use Rattle.std.proofs.Common.{◌≡◌, ℕ, ◌≤◌, ◌⊎◌, inl, inr, Bool, true, false, IsTrue, if◌then◌else◌, List, [], ◌∷◌, ◌++◌, length, Option, Some, None, Result, Ok, Err, append-nil, length-append, refl, sym, ap, ◌∙◌, subst, arith}
+use Rattle.std.proofs.Common.{◌≡◌, ℕ, ◌≤◌, inl, inr, Bool, true, false, IsTrue, if◌then◌else◌, List, [], ◌∷◌, ◌++◌, length, Option, Some, None, Result, Ok, Err, append-nil, length-append, refl, sym, ap, ◌∙◌, subst, arith}
 use Rattle.std.specs.Prelude.{⊤}
 use Rattle.std.specs.Io.KnownBytes.{append_known}
 use Rattle.std.proofs.lemmas.Bool.{false≢true}
 use Rattle.init_base.specs.Crash.{LeavesAlone, LeavesOneMore, ReachesBack}
+use Rattle.init_base.specs.Faults.{Counted}
 use Rattle.init_base.specs.Keeping.{HoldsNew}
-use Rattle.init_base.specs.declared.outside.refusal.IoRefusal.{IoRefusal}
-use Rattle.init_core.specs.Core.{step_of}
 use Rattle.init_machine.specs.Changes.{change}
 use Rattle.init_machine.specs.Policy.{PolicyLines}
 use Rattle.init_machine.specs.declared.input.Input.{Input}
 use Rattle.init_machine.specs.declared.output.Output.{Output}
-use Rattle.init_machine.specs.declared.report.Entry.{Entry}
 use Rattle.init_trace.specs.Report.{EntriesText, EntryText}
 use Rattle.init_trace.specs.Written.{Added, TakesFront}
 use Rattle.init_trace.proofs.Adding.{added_nothing, taken_then}
-use Rattle.init_driver.specs.Course.{Breaks, Holds, IsAhead, Leads, Place, Prints, Refuses, Saved, Saves, Stops, Takes, Unprinted, Unsaved, Untaken, Unwritten, place_of, texts_at}
-use Rattle.init_driver.specs.Keeper.{KeeperView, LeavesNow, Risks, Took}
-use Rattle.init_driver.specs.Run.{sink_failed}
+use Rattle.init_driver.specs.Course.{Breaks, Holds, IsAhead, Leads, Place, Prints, Refuses, Saved, Saves, Stops, Takes, TracedView, Unprinted, Unsaved, Untaken, Unwritten, place_of, texts_at}
+use Rattle.init_driver.specs.Keeper.{KeeperView, Risks, Took}
+use Rattle.init_driver.specs.Machine.{entry_of, step_of}
+use Rattle.init_driver.specs.Run.{keeper_failed, sink_failed}
 use Rattle.init_driver.specs.Stored.{given_at, has_stored, Keeps}
 use Rattle.init_driver.specs.declared.refusal.DriveRefusal.{DriveRefusal}
 use Rattle.init_driver.specs.declared.refusal.DriveRefusal.TheVariants as refusal
-use Rattle.init_driver.specs.declared.traced.Traced.{Traced}
 use Rattle.persist_file.specs.Store.{store_text}
 use Rattle.init_driver.proofs.Keepers.{took_nothing}
 use Rattle.init_driver.proofs.Sinks.{two_fronts}
 
--- the core took the input, and nothing else happened
-pub record Stepped (i : Input) (t u : Traced) : Type 0 where
+-- the machine took the input, and nothing else happened
+pub record Stepped (i : Input) (t u : TracedView) : Type 0 where
   pub config : u.core.config ≡ t.core.config
   pub policy : u.core.policy ≡ t.core.policy
   pub state : u.core.state ≡ (step_of t.core i).state
+  pub input : u.core.input ≡ i
   pub outputs : u.core.outputs ≡ (step_of t.core i).lines
+  pub opening : u.core.desk.opening ≡ t.core.desk.opening
+  pub history : u.core.desk.history ≡ t.core.desk.history ++ entry_of i (step_of t.core i).lines ∷ []
   pub printer : u.printer ≡ t.printer
 
-abbrev entry_of : Input → List Output → Entry
-entry_of i outputs = record { input = i; outputs = outputs }
-
 -- all that waited is written before an entry that stores a property
-ahead_one : (i : Input) (t u v : Traced) (a b : Option (List ℕ)) (k l : KeeperView) (more : List ℕ) → Stepped i t u → (saved : Saved u.core.outputs (place_of u a k) (place_of v b l))
+ahead_one : (i : Input) (t u v : TracedView) (a b : Option (List ℕ)) (k l : KeeperView) (more : List ℕ) → Stepped i t u → (saved : Saved u.core.outputs (place_of u a k) (place_of v b l))
     → IsAhead (length t.printer) (entry_of i (step_of t.core i).lines ∷ []) (length (saved.added.front ++ more))
 ahead_one i t u v a b k l more took saved = (
   (λ stored.
@@ -53,7 +51,7 @@ ahead_one i t u v a b k l more took saved = (
 )
 
 -- the text of the entry, as the history has it
-text_one : (i : Input) (t u v : Traced) → Stepped i t u → v.core ≡ u.core
+text_one : (i : Input) (t u v : TracedView) → Stepped i t u → v.core ≡ u.core
     → u.printer ++ ([] ++ EntryText (entry_of i v.core.outputs)) ≡ t.printer ++ EntriesText (entry_of i (step_of t.core i).lines ∷ [])
 text_one i t u v took same =
     ap (λ z. z ++ EntryText (entry_of i v.core.outputs)) took.printer
@@ -61,7 +59,7 @@ text_one i t u v took same =
     ∙ ap (λ z. t.printer ++ z) (sym (append-nil (EntryText (entry_of i (step_of t.core i).lines))))
 
 -- what the keeper took at the entry
-kept_one : (i : Input) (t u : Traced) (a : Option (List ℕ)) (k l : KeeperView) → Stepped i t u → Took k l (given_at u.core.policy (change u.core.state u.core.outputs))
+kept_one : (i : Input) (t u : TracedView) (a : Option (List ℕ)) (k l : KeeperView) → Stepped i t u → Took k l (given_at u.core.policy (change u.core.state u.core.outputs))
     → Took k l (texts_at (place_of t a k) (i ∷ []))
 kept_one i t u a k l took kept =
     let c = step_of t.core i in
@@ -70,7 +68,7 @@ kept_one i t u a k l took kept =
     ∙ ap (λ os. given_at t.core.policy (change c.state os)) took.outputs ∙ sym (append-nil (given_at t.core.policy c))) kept
 
 -- the entry was printed behind what waited
-leads_one : (i : Input) (t u v w : Traced) (a b d : Option (List ℕ)) (k l : KeeperView) → Stepped i t u
+leads_one : (i : Input) (t u v w : TracedView) (a b d : Option (List ℕ)) (k l : KeeperView) → Stepped i t u
     → Saved u.core.outputs (place_of u a k) (place_of v b l) → v.core ≡ u.core
     → Added b d v.printer w.printer (EntryText (entry_of i v.core.outputs)) → w.core ≡ v.core
     → Leads (i ∷ []) (place_of t a k) (place_of w d l)
@@ -80,6 +78,8 @@ leads_one i t u v w a b d k l took saved same printed also =
       config = ap (λ k. k.config) whole ∙ took.config;
       policy = ap (λ k. k.policy) whole ∙ took.policy;
       state = ap (λ k. k.state) whole ∙ took.state;
+      opening = ap (λ k. k.desk.opening) whole ∙ took.opening;
+      history = ap (λ k. k.desk.history) whole ∙ took.history;
       added = record {
         front = saved.added.front ++ printed.front;
         whole =
@@ -92,7 +92,7 @@ leads_one i t u v w a b d k l took saved same printed also =
     }
 
 -- the entry wasn't printed whole
-breaks_one : (i : Input) (t u v w : Traced) (a b d : Option (List ℕ)) (k l : KeeperView) → Stepped i t u
+breaks_one : (i : Input) (t u v w : TracedView) (a b d : Option (List ℕ)) (k l : KeeperView) → Stepped i t u
     → Saved u.core.outputs (place_of u a k) (place_of v b l) → v.core ≡ u.core
     → TakesFront b d (v.printer ++ EntryText (entry_of i v.core.outputs))
     → Breaks (i ∷ []) (place_of t a k) (place_of w d l)
@@ -114,16 +114,24 @@ breaks_one i t u v w a b d k l took saved same printed =
     }
 
 -- the printing of the entry ends its input
-pub takes_one : {T : Type 0} (r : Result T DriveRefusal) (i : Input) (t u v w : Traced) (a b d : Option (List ℕ)) (k l : KeeperView) → Stepped i t u
+printed_one : {T : Type 0} (r : Result T DriveRefusal) (i : Input) (t u v w : TracedView) (a b d : Option (List ℕ)) (k l : KeeperView) → Stepped i t u
     → Saved u.core.outputs (place_of u a k) (place_of v b l) → v.core ≡ u.core
     → Prints b d r v.printer w.printer (EntryText (entry_of i v.core.outputs)) → w.core ≡ v.core
     → Takes (i ∷ []) (place_of t a k) (place_of w d l) r
-takes_one (Ok y) i t u v w a b d k l took saved same printed also = leads_one i t u v w a b d k l took saved same printed also
-takes_one (Err refusal.Keeper) i t u v w a b d k l took saved same printed also = absurd printed
-takes_one (Err refusal.Write) i t u v w a b d k l took saved same printed also = breaks_one i t u v w a b d k l took saved same printed
-takes_one (Err refusal.NoMemory) i t u v w a b d k l took saved same printed also = inl (breaks_one i t u v w a b d k l took saved same printed)
+printed_one (Ok y) i t u v w a b d k l took saved same printed also = leads_one i t u v w a b d k l took saved same printed also
+printed_one (Err refusal.Keeper) i t u v w a b d k l took saved same printed also = absurd printed
+printed_one (Err refusal.Write) i t u v w a b d k l took saved same printed also = breaks_one i t u v w a b d k l took saved same printed
+printed_one (Err refusal.NoMemory) i t u v w a b d k l took saved same printed also = inl (breaks_one i t u v w a b d k l took saved same printed)
 
-stops_one : (i : Input) (t u v : Traced) (a b : Option (List ℕ)) (k l : KeeperView) → Stepped i t u
+pub takes_one : {T : Type 0} (r : Result T DriveRefusal) (i : Input) (t u v w : TracedView) (a b d : Option (List ℕ)) (k l : KeeperView) → Stepped i t u
+    → Saved u.core.outputs (place_of u a k) (place_of v b l) → v.core ≡ u.core
+    → Prints b d r v.printer w.printer (EntryText (entry_of v.core.input v.core.outputs)) → w.core ≡ v.core
+    → Takes (i ∷ []) (place_of t a k) (place_of w d l) r
+takes_one r i t u v w a b d k l took saved same printed also =
+    printed_one r i t u v w a b d k l took saved same
+    (subst (λ (j : Input). Prints b d r v.printer w.printer (EntryText (entry_of j v.core.outputs))) (ap (λ m. m.input) same ∙ took.input) printed) also
+
+stops_one : (i : Input) (t u v : TracedView) (a b : Option (List ℕ)) (k l : KeeperView) → Stepped i t u
     → Refuses u.core.outputs (place_of u a k) (place_of v b l) → Stops (i ∷ []) (place_of t a k) (place_of v b l)
 stops_one i t u v a b k l took h =
     let c = step_of t.core i in
@@ -140,7 +148,7 @@ stops_one i t u v a b k l took h =
       kept = λ tells. subst (Risks k l []) given (h.kept tells);
     }
 
-before_one : (i : Input) (t u v : Traced) (a b : Option (List ℕ)) (k l : KeeperView) → Stepped i t u
+before_one : (i : Input) (t u v : TracedView) (a b : Option (List ℕ)) (k l : KeeperView) → Stepped i t u
     → Unwritten (place_of u a k) (place_of v b l) → Breaks (i ∷ []) (place_of t a k) (place_of v b l)
 before_one i t u v a b k l took h = record {
   done = [];
@@ -157,7 +165,7 @@ before_one i t u v a b k l took h = record {
 }
 
 -- the keeper's call, or the writing before it, was refused
-pub refused_one : (e : DriveRefusal) (i : Input) (t u v : Traced) (a b : Option (List ℕ)) (k l : KeeperView) → Stepped i t u
+pub refused_one : (e : DriveRefusal) (i : Input) (t u v : TracedView) (a b : Option (List ℕ)) (k l : KeeperView) → Stepped i t u
     → Unsaved e u.core.outputs (place_of u a k) (place_of v b l) → Untaken e (i ∷ []) (place_of t a k) (place_of v b l)
 refused_one refusal.Keeper i t u v a b k l took h = stops_one i t u v a b k l took h
 refused_one refusal.Write i t u v a b k l took h = before_one i t u v a b k l took h
@@ -169,7 +177,7 @@ refused_one refusal.NoMemory i t u v a b k l took h = elim h [
 -- ---- the keeper's part
 
 -- nothing is stored
-pub saves_nothing : {X : Type 0} (x : X) (outputs : List Output) (t : Traced) (a : Option (List ℕ)) (k : KeeperView) → has_stored outputs ≡ false → Saves outputs (place_of t a k) (place_of t a k) (Ok x)
+pub saves_nothing : {X : Type 0} (x : X) (outputs : List Output) (t : TracedView) (a : Option (List ℕ)) (k : KeeperView) → has_stored outputs ≡ false → Saves outputs (place_of t a k) (place_of t a k) (Ok x)
 saves_nothing x outputs t a k none = record {
   added = added_nothing a t.printer;
   empty = λ stored. absurd (false≢true (sym none ∙ stored));
@@ -238,3 +246,11 @@ risks_one a b content later leaves back told = record {
       let here : a.moment ≤ a.moment = omega arith in
       elim (leaves told a.moment text here (back a.moment b.moment text (later told) left)) [ inl before ↦ inl before | inr new ↦ inr new ];
 }
+
+-- a call that prints doesn't ask the keeper
+pub keeper_unasked : {T : Type 0} (r : Result T DriveRefusal) (old new : Option (List ℕ)) (waited waits text : List ℕ) (a b : ℕ) → Prints old new r waited waits text
+    → b ≡ a → Counted (keeper_failed r) a b
+keeper_unasked (Ok v) old new waited waits text a b printed same = same
+keeper_unasked (Err refusal.Keeper) old new waited waits text a b printed same = absurd printed
+keeper_unasked (Err refusal.Write) old new waited waits text a b printed same = same
+keeper_unasked (Err refusal.NoMemory) old new waited waits text a b printed same = same

@@ -1,5 +1,5 @@
 -- A keeper that is given texts one after another.
-use Rattle.std.proofs.Common.{◌≡◌, ℕ, ◌≤◌, ◌⊎◌, inl, inr, List, [], ◌∷◌, ◌++◌, Option, Some, None, Result, Ok, Err, refl, sym, ap, ◌∙◌, subst, arith}
+use Rattle.std.proofs.Common.{◌≡◌, ℕ, ◌≤◌, inl, inr, List, [], ◌∷◌, ◌++◌, Option, Some, None, refl, sym, ap, ◌∙◌, subst, arith}
 use Rattle.script_lang.specs.Script.{last_or}
 use Rattle.init_driver.specs.Keeper.{IsLast, IsOneOf, KeeperView, LeavesNow, LeavesSince, Risks, Survives, Took}
 use Rattle.init_driver.specs.Stored.{Keeps}

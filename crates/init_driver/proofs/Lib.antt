@@ -8,3 +8,10 @@ pub mod Entries
 pub mod Reached
 pub mod Told
 pub mod Texts
+pub mod NowRead
+pub mod Learned
+pub mod Places
+pub mod Machines
+pub mod Done
+pub mod Taken
+pub mod Tallied

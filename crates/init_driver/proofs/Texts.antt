@@ -3,8 +3,10 @@ use Rattle.std.proofs.Common.{◌≡◌, ℕ, suc, ◌+◌, ◌-◌, ◌≤◌, 
 use Rattle.std.proofs.lemmas.List.Concat.{flat_map-append}
 use Rattle.std.specs.Io.KnownBytes.{append_known}
 use Rattle.init_machine.specs.History.{after_from}
-use Rattle.init_machine.specs.State.{Opening, first_state}
+use Rattle.init_machine.specs.Policy.{PolicyLines}
+use Rattle.init_machine.specs.State.{Opening, State, first_state}
 use Rattle.init_machine.specs.Step.{step}
+use Rattle.init_machine.specs.declared.config.Config.{Config}
 use Rattle.init_machine.specs.declared.diagnostic.Diagnostic.{Diagnostic}
 use Rattle.init_machine.specs.declared.input.Input.{Input}
 use Rattle.init_machine.specs.declared.report.Entry.{Entry}
@@ -18,15 +20,15 @@ use Rattle.script_lang.specs.Inputs.{InOrder}
 use Rattle.script_lang.specs.declared.script.Script.{Script}
 use Rattle.init_driver.specs.Course.{entries_at, texts_at, Breaks, IsAhead, Leads, Place, Prints, Stops, Unprinted, Untaken}
 use Rattle.init_driver.specs.Keeper.{KeeperView, Risks, Took}
-use Rattle.init_driver.specs.Run.{Due, EndsAt, EndsBeforeStored, KeepsPart, Leaves, LeavesPart, due_of, entries_in, whole_in}
+use Rattle.init_driver.specs.Run.{Due, EndsAt, EndsBeforeStored, KeepsPart, Leaves, LeavesPart, due_from, due_of, entries_in, whole_in}
 use Rattle.init_driver.specs.Stored.{given_from}
 use Rattle.init_driver.specs.declared.refusal.DriveRefusal.{DriveRefusal}
 use Rattle.init_driver.specs.declared.refusal.DriveRefusal.TheVariants as refusal
 use Rattle.init_driver.proofs.Aheads.{ahead_up}
 use Rattle.init_driver.proofs.Courses.{history_more, takes_no_more}
-use Rattle.init_driver.proofs.Keepers.{risks_took, risks_took_others, took_nothing, took_then}
+use Rattle.init_driver.proofs.Keepers.{risks_took, risks_took_others, took_nothing}
 use Rattle.init_driver.proofs.Sinks.{prints_then, two_fronts}
-use Rattle.init_driver.proofs.Whole.{ahead_down, given_near, given_one_more, history_length, take_all, take_next, whole_exact, whole_none}
+use Rattle.init_driver.proofs.Whole.{ahead_down, given_near, given_one_more, history_length, take_all, take_next, whole_exact, whole_none, whole_over}
 
 -- what is due from a place on, where the head was printed
 pub record IsDueAt (due : Due) (inputs : List Input) (b : Place) : Type 0 where
@@ -292,4 +294,29 @@ nothing_left o diagnostics script old k =
       written = record { front = []; rest = TextOf due.report; whole = refl; taken = takes_no_more old };
       ends = tt;
       kept_at = keeps_near refusal.NoMemory k k (due.upto (whole_at due [])) (due.upto (suc (whole_at due []))) more.0 [] more.1 (took_nothing k) (inl (sym (ap due.upto none)));
+    }
+
+-- ---- all was done, and memory ran out behind it
+
+pub all_done : (config : Config) (policy : PolicyLines) (s : State) (diagnostics : List Diagnostic) (script : Script) (old new : Option (List ℕ)) (k l : KeeperView)
+    → new ≡ append_known old (TextOf (due_from config policy s diagnostics script).report) → Took k l (due_from config policy s diagnostics script).all
+    → LeavesPart refusal.NoMemory old new k l (due_from config policy s diagnostics script)
+all_done config policy s diagnostics script old new k l taken took =
+    let due = due_from config policy s diagnostics script in
+    let report = due.report in
+    let text = TextOf report in
+    let parts = ap length (text_parts report) in
+    let front = length-append (HeadText report.diagnostics) (EntriesText report.history ++ TailText report.clients) in
+    let behind = length-append (EntriesText report.history) (TailText report.clients) in
+    let bytes : length text - length (HeadText report.diagnostics) ≡ length (EntriesText report.history) + length (TailText report.clients) = omega arith in
+    let whole : whole_at due text ≡ length (InOrder script) =
+    ap (λ n. whole_in n report.history) bytes ∙ whole_over report.history (length (TailText report.clients)) ∙ history_length config policy s (InOrder script) in
+    let each : take (length (InOrder script)) (InOrder script) ≡ InOrder script =
+    ap (take (length (InOrder script))) (sym (append-nil (InOrder script))) ∙ take_all (InOrder script) [] in
+    let given : due.upto (whole_at due text) ≡ due.all = ap due.upto whole ∙ ap (given_from config policy s) each in
+    let more = given_one_more config policy s (InOrder script) (whole_at due text) in
+    record {
+      written = record { front = text; rest = []; whole = append-nil text; taken = taken };
+      ends = tt;
+      kept_at = keeps_near refusal.NoMemory k l (due.upto (whole_at due text)) (due.upto (suc (whole_at due text))) more.0 due.all more.1 took (inl (sym given));
     }

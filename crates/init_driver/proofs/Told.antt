@@ -1,7 +1,9 @@
 -- What acts tell the clients, one act after another.
-use Rattle.std.proofs.Common.{◌≡◌, ℕ, zero, suc, ◌+◌, ◌-◌, ◌<◌, ◌≤◌, ◌==◌, Bool, true, false, if◌then◌else◌, List, [], ◌∷◌, ◌++◌, length, Some, None, Result, Ok, Err, append-nil, append_assoc, refl, sym, ap, ◌∙◌, arith, get_or, drop, eq-eqb}
+use Rattle.std.proofs.Common.{◌≡◌, ℕ, zero, suc, ◌+◌, ◌-◌, ◌<◌, ◌≤◌, ◌==◌, Bool, true, false, if◌then◌else◌, List, [], ◌∷◌, ◌++◌, length, Option, Some, None, Result, Ok, Err, append-nil, append_assoc, refl, sym, ap, ◌∙◌, subst, arith, get_or, drop, eq-eqb}
 use Rattle.std.proofs.lemmas.List.{at_drop_more}
+use Rattle.std.specs.List.{flat_map}
 use Rattle.std.specs.Result.{OnOk}
+use Rattle.std.proofs.lemmas.List.Concat.{flat_map-append}
 use Rattle.std.proofs.Math.ListN.{set}
 use Rattle.std.proofs.lemmas.Bool.{ne_eqb}
 use Rattle.init_base.specs.declared.units.ClientId.{ClientId}
@@ -17,6 +19,7 @@ use Rattle.script_lang.specs.declared.script.Act.TheVariants as act
 use Rattle.script_lang.specs.declared.script.Ask.{Ask}
 use Rattle.script_lang.specs.declared.script.Client.{Client}
 use Rattle.init_driver.specs.Course.{told_at, told_from}
+use Rattle.init_driver.specs.Seat.{AreTold, told_around}
 use Rattle.init_driver.specs.Readings.{empty_parts, parts_from, readings_from, readings_in, told_by, told_now}
 
 abbrev with_readings : ClientPart → List Reading → ClientPart
@@ -134,3 +137,44 @@ told_of_opened config config' policy policy' s s' acts acts' clients clients' pa
     ∙ ap (λ (p : PolicyLines). told_from config p s' acts 1 (empty_parts clients)) same_policy
     ∙ ap (λ (t : State). told_from config policy t acts 1 (empty_parts clients)) same_state
     ∙ told_of_empty config policy s acts 1 clients
+
+-- ---- what the clients were told by the area
+
+pub on_ok_of : {T E : Type 0} {P : Type 0} (r : Result T E) → P → OnOk r P
+on_ok_of (Ok v) h = h
+on_ok_of (Err e) h = tt
+
+-- the same was told
+pub told_alike : (told told' : ℕ → List Reading) (id : ℕ) (parts : List ClientPart) → ((q : ℕ) → told' q ≡ told q) → AreTold told id parts → AreTold told' id parts
+told_alike told told' id [] same h = tt
+told_alike told told' id (part ∷ parts) same h = (same id ∙ h.0, told_alike told told' (id + 1) parts same h.1)
+
+-- nobody was told anything
+pub told_fresh : (told : ℕ → List Reading) (id : ℕ) (clients : List Client) → ((q : ℕ) → told q ≡ []) → AreTold told id (empty_parts clients)
+told_fresh told id [] none = tt
+told_fresh told id (client ∷ clients) none = (none id, told_fresh told (id + 1) clients none)
+
+-- an act told its client what it tells, between counts
+pub told_more : (told told' : ℕ → List Reading) (s : State) (act : Act) (id : ℕ) (parts : List ClientPart)
+    → ((q : ℕ) → told' q ≡ told q ++ flat_map told_around (told_by q s act)) → AreTold told id parts → AreTold told' id (told_at s act id parts)
+told_more told told' s act id [] more h = tt
+told_more told told' s act id (part ∷ parts) more h = (
+  more id ∙ ap (λ rs. rs ++ flat_map told_around (told_by id s act)) h.0 ∙ sym (flat_map-append told_around part.readings (told_by id s act)),
+  told_more told told' s act (id + 1) parts more h.1,
+)
+
+-- the same, of the request of an act
+pub told_by_ask : (s : State) (a : Act) (who : ClientId) (ask : Ask) (reading : Option Reading) (q : ℕ) → a ≡ act.Ask who ask → reading ≡ told_now s ask
+    → (if who.0 == q then flat_map told_around (readings_in reading) else []) ≡ flat_map told_around (told_by q s a)
+told_by_ask s a who ask reading q is tells =
+    ap (λ (r : Option Reading). if who.0 == q then flat_map told_around (readings_in r) else []) tells
+    ∙ (elim (who.0 == q) as (λ b. (if b then flat_map told_around (readings_in (told_now s ask)) else []) ≡ flat_map told_around (if b then readings_in (told_now s ask) else [])) [
+      | true ↦ refl
+      | false ↦ refl
+    ])
+    ∙ ap (λ (x : Act). flat_map told_around (told_by q s x)) (sym is)
+
+-- a part was pushed to
+pub on_ok_told : {T E : Type 0} (r : Result T E) (told : ℕ → List Reading) (x y : List ClientPart) → OnOk r (x ≡ y) → AreTold told 1 y → OnOk r (AreTold told 1 x)
+on_ok_told (Ok v) told x y e h = subst (AreTold told 1) (sym e) h
+on_ok_told (Err e) told x y is h = tt

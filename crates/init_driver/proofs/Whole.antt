@@ -1,5 +1,5 @@
 -- How many entries stand whole in what is written, and which texts the keeper was given up to there.
-use Rattle.std.proofs.Common.{◌≡◌, ℕ, zero, suc, ◌+◌, ◌-◌, ◌<◌, ◌≤◌, ◌⊎◌, inl, inr, Bool, true, false, IsTrue, nat_le, if◌then◌else◌, List, [], ◌∷◌, ◌++◌, length, map, take, append-nil, append_assoc, length-append, refl, sym, ap, ◌∙◌, subst, arith}
+use Rattle.std.proofs.Common.{◌≡◌, ℕ, zero, suc, ◌+◌, ◌-◌, ◌<◌, ◌≤◌, ◌⊎◌, inl, inr, Bool, true, false, IsTrue, nat_le, if◌then◌else◌, List, [], ◌∷◌, ◌++◌, length, map, take, append_assoc, length-append, refl, sym, ap, ◌∙◌, subst, arith}
 use Rattle.std.proofs.lemmas.Grind.{common_steps}
 use Rattle.init_machine.specs.Policy.{PolicyLines}
 use Rattle.init_machine.specs.State.{State}
@@ -50,6 +50,17 @@ whole_exact (e ∷ entries) rest =
     ap (λ (b : Bool). if b then suc (whole_in (length (EntryText e ++ EntriesText entries) - length (EntryText e)) (entries ++ rest)) else 0) within
     ∙ ap (λ n. suc (whole_in n (entries ++ rest))) left
     ∙ ap suc (whole_exact entries rest)
+
+-- all of them are written, and so much more
+pub whole_over : (entries : List Entry) (more : ℕ) → whole_in (length (EntriesText entries) + more) entries ≡ length entries
+whole_over [] more = refl
+whole_over (e ∷ entries) more =
+    let both = length-append (EntryText e) (EntriesText entries) in
+    let within : nat_le (length (EntryText e)) (length (EntryText e ++ EntriesText entries) + more) ≡ true = grind (arith, common_steps, both) in
+    let left : length (EntryText e ++ EntriesText entries) + more - length (EntryText e) ≡ length (EntriesText entries) + more = omega arith in
+    ap (λ (b : Bool). if b then suc (whole_in (length (EntryText e ++ EntriesText entries) + more - length (EntryText e)) entries) else 0) within
+    ∙ ap (λ n. suc (whole_in n entries)) left
+    ∙ ap suc (whole_over entries more)
 
 -- ---- entries behind which more is written
 

@@ -15,6 +15,7 @@ use Rattle.init_machine.specs.declared.input.Input.{Input}
 use Rattle.init_machine.specs.declared.output.Output.{Output}
 use Rattle.init_machine.specs.declared.report.ClientPart.{ClientPart}
 use Rattle.init_machine.specs.declared.report.Entry.{Entry}
+use Rattle.init_machine.specs.declared.report.Report.{Report}
 use Rattle.init_trace.specs.Report.{EntriesText, EntryText}
 use Rattle.init_trace.specs.Written.{Added, TakesFront}
 use Rattle.machine_laws.specs.Histories.{history_from}
@@ -24,22 +25,37 @@ use Rattle.init_driver.specs.Keeper.{KeeperView, Risks, Took}
 use Rattle.init_driver.specs.Stored.{given_at, given_from, has_stored}
 use Rattle.init_driver.specs.declared.refusal.DriveRefusal.{DriveRefusal}
 use Rattle.init_driver.specs.declared.refusal.DriveRefusal.TheVariants as refusal
+use Rattle.init_driver.specs.Machine.{MachineView, told_to}
+use Rattle.init_driver.specs.Seat.{AreTold}
 use Rattle.init_driver.specs.declared.traced.Traced.{Traced}
 
--- what the machine goes by, its state, what waits to be written, what was taken of the text, and what the keeper tells
+-- the machine, and what waits to be written
+pub record TracedView : Type 0 where
+  pub core : MachineView
+  pub printer : List ℕ
+
+abbrev pub view_of : {N : Type 0} → Traced N → TracedView
+view_of t = record { core = t.core; printer = t.printer }
+
+-- what the machine goes by, its state, its opening and its history, what waits to be written, what was taken of the text, and what the
+-- keeper tells
 pub record Place : Type 1 where
   pub config : Config
   pub policy : PolicyLines
   pub state : State
+  pub opening : Opening
+  pub history : List Entry
   pub waits : List ℕ
   pub taken : Option (List ℕ)
   pub keeper : KeeperView
 
-abbrev pub place_of : Traced → Option (List ℕ) → KeeperView → Place
+abbrev pub place_of : TracedView → Option (List ℕ) → KeeperView → Place
 place_of t taken keeper = record {
   config = t.core.config;
   policy = t.core.policy;
   state = t.core.state;
+  opening = t.core.desk.opening;
+  history = t.core.desk.history;
   waits = t.printer;
   taken = taken;
   keeper = keeper;
@@ -65,6 +81,8 @@ pub record Leads (inputs : List Input) (a b : Place) : Type 0 where
   pub config : b.config ≡ a.config
   pub policy : b.policy ≡ a.policy
   pub state : b.state ≡ after_from a.config a.policy a.state inputs
+  pub opening : b.opening ≡ a.opening
+  pub history : b.history ≡ a.history ++ entries_at a inputs
   pub added : Added a.taken b.taken a.waits b.waits (EntriesText (entries_at a inputs))
   pub ahead : IsAhead (length a.waits) (entries_at a inputs) (length added.front)
   pub kept : Took a.keeper b.keeper (texts_at a inputs)
@@ -168,3 +186,10 @@ abbrev pub told_from : Config → PolicyLines → State → List Act → ℕ →
 told_from config policy s acts id [] = []
 told_from config policy s acts id (part ∷ rest) =
     record part { readings = part.readings ++ readings_from config policy id s acts } ∷ told_from config policy s acts (id + 1) rest
+
+-- a machine has made this report, whose history comes behind its own: the clients were told what their parts have
+pub record HasDone (a b : MachineView) (report : Report) : Type 0 where
+  pub config : b.config ≡ a.config
+  pub opening : b.desk.opening ≡ a.desk.opening
+  pub history : b.desk.history ≡ a.desk.history ++ report.history
+  pub told : AreTold (told_to b.readers) 1 report.clients

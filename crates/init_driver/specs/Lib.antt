@@ -2,4 +2,9 @@ pub mod Stored
 pub mod Keeper
 pub mod Readings
 pub mod Run
+pub mod Told
+pub mod Machine
+pub mod Seat
+pub mod Learning
 pub mod Course
+pub mod Counted

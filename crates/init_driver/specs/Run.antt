@@ -17,7 +17,7 @@ use Rattle.script_lang.specs.Laws.{IsAskAmong}
 use Rattle.script_lang.specs.declared.script.Script.{Script}
 use Rattle.init_driver.specs.Readings.{parts_from}
 use Rattle.init_driver.specs.Keeper.{KeeperView, Risks, Took}
-use Rattle.init_driver.specs.Stored.{given_from, has_stored, Keeps}
+use Rattle.init_driver.specs.Stored.{given_from, has_stored}
 use Rattle.init_driver.specs.declared.refusal.DriveRefusal.{DriveRefusal}
 use Rattle.init_driver.specs.declared.refusal.DriveRefusal.TheVariants as refusal
 

@@ -2,32 +2,34 @@
 
 ghost use Rattle.std.specs.Prelude.{◌≡◌, IsTrue, false};
 ghost use Rattle.init_base.specs.Faults.{Counted};
-ghost use Rattle.init_driver.specs.Course.{Holds, Saves, place_of};
+ghost use Rattle.init_driver.specs.Course.{Holds, Saves, place_of, view_of};
 ghost use Rattle.init_driver.specs.Keeper.{seen_by};
 ghost use Rattle.init_driver.specs.Run.{keeper_failed, sink_failed};
 ghost use Rattle.init_driver.specs.Stored.{has_stored, is_stored as is_stored_lem};
 ghost use Rattle.persist_file.specs.Store.{are_saved, are_typed, store_text};
 
+use crate::machine::Machine;
 use crate::refusal::DriveRefusal;
 use crate::traced::Traced;
-use init_base::{IoRefusal, Keeper, List, Sink};
-use init_machine::{Output, Pair};
-use prop_contexts::Policy;
+use init_base::{IoRefusal, Keeper, Sink};
+use init_machine::Output;
+use property_service::AreaName;
 use std::alloc::Global;
 
 /// Where the last entry stores a property, writes all that waits, and then gives the keeper the text of the saved pairs.
 /// So after the keeper's fault exactly the entries before that one are written.
-pub fn save<P: Keeper, K: Sink>(
+pub fn save<N: AreaName, P: Keeper, K: Sink>(
     alloc: Global,
-    traced: &mut Traced,
+    traced: &mut Traced<'_, N>,
     keeper: &mut P,
     out: &mut K,
 ) -> Result<(), DriveRefusal>
+    requires ready { traced.old.core.spent ≡ false }
     requires saved { IsTrue (has_stored traced.old.core.outputs) → IsTrue (are_saved traced.old.core.state.saved) }
     requires typed { IsTrue (has_stored traced.old.core.outputs) → IsTrue (are_typed traced.old.core.policy traced.old.core.state.saved) }
     ensures saves { let seen = seen_by P.held P.TellsCrash P.moment P.MayLeave in
-        Saves traced.old.core.outputs (place_of traced.old (K.taken out.old) (seen keeper.old))
-        (place_of traced.new (K.taken out.new) (seen keeper.new)) result }
+        Saves traced.old.core.outputs (place_of (view_of traced.old) (K.taken out.old) (seen keeper.old))
+        (place_of (view_of traced.new) (K.taken out.new) (seen keeper.new)) result }
     ensures core { traced.new.core ≡ traced.old.core }
     ensures keeper { Counted (keeper_failed result) (P.fault_count keeper.old) (P.fault_count keeper.new) }
     ensures sink { Counted (sink_failed result) (K.fault_count out.old) (K.fault_count out.new) }
@@ -36,7 +38,7 @@ pub fn save<P: Keeper, K: Sink>(
         return Ok(());
     }
     traced.flush(out)?;
-    keep(alloc, traced.core.saved(), traced.core.policy(), keeper)
+    keep(alloc, &traced.core, keeper)
 }
 
 /// Whether a property is stored.
@@ -52,21 +54,21 @@ fn is_stored(output: &Output) -> bool
     matches!(output, Output::Stored { .. })
 }
 
-/// Gives the keeper the text of pairs under a policy.
-fn keep<P: Keeper>(
+/// Gives the keeper the text of the pairs to be saved.
+fn keep<N: AreaName, P: Keeper>(
     alloc: Global,
-    pairs: &List<Pair>,
-    policy: &Policy,
+    core: &Machine<'_, N>,
     keeper: &mut P,
 ) -> Result<(), DriveRefusal>
-    requires saved { IsTrue (are_saved pairs.now) }
-    requires typed { IsTrue (are_typed policy.now pairs.now) }
+    requires ready { core.now.spent ≡ false }
+    requires saved { IsTrue (are_saved core.now.state.saved) }
+    requires typed { IsTrue (are_typed core.now.policy core.now.state.saved) }
     ensures keeps { let seen = seen_by P.held P.TellsCrash P.moment P.MayLeave in
-        Holds (seen keeper.old) (seen keeper.new) (store_text policy.now pairs.now) result }
+        Holds (seen keeper.old) (seen keeper.new) (store_text core.now.policy core.now.state.saved) result }
     ensures writes { sink_failed result ≡ false }
     ensures cause { Counted (keeper_failed result) (P.fault_count keeper.old) (P.fault_count keeper.new) }
 {
-    let text = persist_file::print(alloc, pairs, policy)?;
+    let text = persist_file::print(alloc, core.saved(), core.policy())?;
     match keeper.replace(alloc, text.bytes()) {
         Ok(()) => Ok(()),
         Err(IoRefusal::Failed) => Err(DriveRefusal::Keeper),

@@ -3,7 +3,6 @@
 ghost use Rattle.std.specs.Prelude.{◌≡◌};
 
 use init_base::NoMemory;
-use init_core::CoreStop;
 
 /// Why a run ended early.
 #[derive(Clone, Copy, Debug, PartialEq, Eq)]
@@ -22,18 +21,6 @@ impl From<NoMemory> for DriveRefusal {
     ghost from_gives = { λ _ refusal. refusal ≡ no_memory };
 
     fn from(_: NoMemory) -> Self {
-        DriveRefusal::NoMemory
-    }
-}
-
-impl From<CoreStop> for DriveRefusal {
-    ghost use Rattle.std.specs.Prelude.{◌≡◌};
-    ghost use Rattle.init_driver.specs.declared.refusal.DriveRefusal.TheVariants.{NoMemory as no_memory};
-
-    ghost from_gives = { λ _ refusal. refusal ≡ no_memory };
-
-    /// A core stops only where memory ran out, and a run ends at its first stop.
-    fn from(_: CoreStop) -> Self {
         DriveRefusal::NoMemory
     }
 }

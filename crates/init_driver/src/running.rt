@@ -1,26 +1,34 @@
 //! `run`: a script on one thread.
 
-ghost use Rattle.std.specs.Prelude.{◌≡◌, ◌≤◌, ◌∷◌, [], IfOk, length};
+ghost use Rattle.std.specs.Prelude.{◌≡◌, ◌≤◌, ◌∷◌, ℕ, [], IfOk, OnOk, length};
 ghost use Rattle.init_base.specs.Faults.{Counted};
 ghost use Rattle.init_core.specs.Core.{opening_of};
-ghost use Rattle.init_driver.specs.Course.{IsReached, Prints, Takes, place_of};
+ghost use Rattle.init_driver.specs.Course.{HasDone, IsReached, Prints, Takes, place_of, view_of};
 ghost use Rattle.init_driver.specs.Keeper.{seen_by};
+ghost use Rattle.init_driver.specs.Machine.{told_to};
 ghost use Rattle.init_driver.specs.Readings.{empty_parts, parts_from};
-ghost use Rattle.init_driver.specs.Run.{AsksAreMet, Leaves, due_from, due_of, keeper_failed, sink_failed};
+ghost use Rattle.init_driver.specs.Run.{AsksAreMet, Leaves, due_from, due_of, keeper_failed, report_from, report_of, sink_failed};
+ghost use Rattle.init_driver.specs.Seat.{AreTold, HasRecorded};
 ghost use Rattle.init_machine.specs.History.{after_from};
 ghost use Rattle.init_machine.specs.WellFormed.{IsWellFormed};
 ghost use Rattle.init_machine.specs.declared.input.Input.TheVariants as Input;
 ghost use Rattle.init_trace.specs.Report.{TailText};
+ghost use Rattle.property_area.specs.Area.{begins};
 ghost use Rattle.script_lang.specs.Inputs.{InOrder};
 
 use crate::acts::{take, take_acts};
+use crate::machine::Machine;
 use crate::refusal::DriveRefusal;
 use crate::traced::Traced;
 use init_base::{Keeper, List, NoMemory, Sink};
 use init_machine::{ClientPart, Config, Diagnostic, Input};
+use init_trace::Printer;
 use prop_contexts::Policy;
+use property_area::{Area, AreaRefusal, WriterSeat};
+use property_service::AreaName;
 use script_lang::{Client, Script};
 use std::alloc::Global;
+use std::marker::Brand;
 
 /// What a machine is opened with, and the mistakes that were found in its files.
 #[derive(Drop)]
@@ -30,11 +38,15 @@ pub struct Setup {
     pub diagnostics: List<Diagnostic>,
 }
 
-/// Runs a script: takes the boot and then all acts in the order of the file, and writes the text of the report as it goes.
+/// Runs a script over an area of its words: takes the boot and then all acts in the order of the file, and writes the text of the
+/// report as it goes. It keeps no history.
 ///
 /// A `step` is so many times the next event or command. A read finds the present value with the present count of accepted
-/// sets, or tells with that count that the property is absent; `sync` and `catch` tell the count. At each entry with a
-/// `stored` output the keeper is given the text of the saved pairs before the entry is written.
+/// sets, or tells with that count that the property is absent; `sync` and `catch` tell the count. Each is what a reader of the area
+/// answers. At each entry with a `stored` output the keeper is given the text of the saved pairs before the entry is written.
+///
+/// The answer is the seat of the area's writer. It has recorded the opening and the history of the report, and each client was told by
+/// the area what its part of the report has, each look-up between two counts of the sets that are its own number.
 ///
 /// `Keeper` comes only where the keeper's count of faults rose: then exactly the head and the entries before the one whose
 /// text the keeper was to take are written. `Write` comes only where the sink's count rose. After it, and after `NoMemory`, a
@@ -50,24 +62,107 @@ pub fn run<P: Keeper, K: Sink>(
     script: &Script,
     keeper: &mut P,
     out: &mut K,
-) -> Result<(), DriveRefusal>
+) -> Result<WriterSeat, DriveRefusal>
     requires config { IsWellFormed setup.config }
     requires domains { length script.now.clients ≤ length setup.config.domains }
+    requires words { (64 ≤ script.now.words) × (script.now.words ≤ 1048576) }
     requires asks { AsksAreMet script.now }
     ensures leaves { let seen = seen_by P.held P.TellsCrash P.moment P.MayLeave in
         Leaves result (K.taken out.old) (K.taken out.new) (seen keeper.old) (seen keeper.new)
         (due_of (opening_of setup.config setup.policy script.now.words) setup.diagnostics script.now) }
+    ensures seat { IfOk result (λ seat. let o = opening_of setup.config setup.policy script.now.words in
+        HasRecorded o (report_of o setup.diagnostics script.now) seat.view) }
     ensures keeper { Counted (keeper_failed result) (P.fault_count keeper.old) (P.fault_count keeper.new) }
     ensures sink { Counted (sink_failed result) (K.fault_count out.old) (K.fault_count out.new) }
 {
-    let mut traced = Traced::new(alloc, setup.config, setup.policy, script.words)?;
-    drive(alloc, &mut traced, &setup.diagnostics, script, keeper, out)
+    let (area, seat) = open_area(alloc, script.words)?;
+    run_over::<Brand, P, K>(alloc, &area, seat, setup, script, keeper, out)
+}
+
+/// An area of so many words, and its writer's seat.
+pub fn open_area(alloc: Global, words: u64) -> Result<(Area, WriterSeat), NoMemory>
+    requires { (64 ≤ words) × (words ≤ 1048576) }
+    ensures { IfOk result (λ made. (made.1.table ≡ made.0) × (made.1.view ≡ begins words)) }
+{
+    match Area::new(alloc, words) {
+        Ok(made) => Ok(made),
+        Err(AreaRefusal::NoMemory) => Err(NoMemory),
+        Err(_) => unreachable!(),
+    }
+}
+
+/// Runs a script over an area in which nothing was set.
+fn run_over<N: AreaName, P: Keeper, K: Sink>(
+    alloc: Global,
+    area: &Area,
+    seat: WriterSeat,
+    setup: Setup,
+    script: &Script,
+    keeper: &mut P,
+    out: &mut K,
+) -> Result<WriterSeat, DriveRefusal>
+    requires config { IsWellFormed setup.config }
+    requires domains { length script.now.clients ≤ length setup.config.domains }
+    requires named { area.now ≡ N.area }
+    requires seat { (seat.table ≡ area.now) × (seat.view ≡ begins script.now.words) }
+    requires asks { AsksAreMet script.now }
+    ensures leaves { let seen = seen_by P.held P.TellsCrash P.moment P.MayLeave in
+        Leaves result (K.taken out.old) (K.taken out.new) (seen keeper.old) (seen keeper.new)
+        (due_of (opening_of setup.config setup.policy script.now.words) setup.diagnostics script.now) }
+    ensures seat { IfOk result (λ seat. let o = opening_of setup.config setup.policy script.now.words in
+        HasRecorded o (report_of o setup.diagnostics script.now) seat.view) }
+    ensures keeper { Counted (keeper_failed result) (P.fault_count keeper.old) (P.fault_count keeper.new) }
+    ensures sink { Counted (sink_failed result) (K.fault_count out.old) (K.fault_count out.new) }
+{
+    let Setup {
+        config,
+        policy,
+        diagnostics,
+    } = setup;
+    let core = Machine::<N>::new(alloc, config, policy, area, seat)?;
+    let traced = Traced {
+        core,
+        printer: Printer::new(alloc),
+    };
+    drive_whole(alloc, traced, &diagnostics, script, keeper, out)
+}
+
+/// Writes the whole report of a script, and ends the machine.
+fn drive_whole<N: AreaName, P: Keeper, K: Sink>(
+    alloc: Global,
+    mut traced: Traced<'_, N>,
+    diagnostics: &List<Diagnostic>,
+    script: &Script,
+    keeper: &mut P,
+    out: &mut K,
+) -> Result<WriterSeat, DriveRefusal>
+    requires reached { IsReached traced.core.config traced.core.policy traced.core.state }
+    requires empty { traced.printer ≡ [] }
+    requires domains { length script.now.clients ≤ length traced.core.config.domains }
+    requires asks { AsksAreMet script.now }
+    requires fresh { (who : ℕ) → told_to traced.core.readers who ≡ [] }
+    requires begun { traced.core.desk.history ≡ [] }
+    ensures leaves { let seen = seen_by P.held P.TellsCrash P.moment P.MayLeave in
+        Leaves result (K.taken out.old) (K.taken out.new) (seen keeper.old) (seen keeper.new)
+        (due_from traced.entry.core.config traced.entry.core.policy traced.entry.core.state diagnostics.now script.now) }
+    ensures seat { IfOk result (λ seat. HasRecorded traced.entry.core.desk.opening
+        (report_from traced.entry.core.config traced.entry.core.policy traced.entry.core.state diagnostics.now script.now) seat.view) }
+    ensures keeper { Counted (keeper_failed result) (P.fault_count keeper.old) (P.fault_count keeper.new) }
+    ensures sink { Counted (sink_failed result) (K.fault_count out.old) (K.fault_count out.new) }
+{
+    match drive(alloc, &mut traced, diagnostics, script, keeper, out) {
+        Ok(()) => Ok(traced.into_core().finish(alloc)?),
+        Err(refusal) => {
+            drop(traced);
+            Err(refusal)
+        }
+    }
 }
 
 /// Writes the whole report of a script, from the state of the machine on.
-fn drive<P: Keeper, K: Sink>(
+fn drive<N: AreaName, P: Keeper, K: Sink>(
     alloc: Global,
-    traced: &mut Traced,
+    traced: &mut Traced<'_, N>,
     diagnostics: &List<Diagnostic>,
     script: &Script,
     keeper: &mut P,
@@ -77,9 +172,12 @@ fn drive<P: Keeper, K: Sink>(
     requires empty { traced.old.printer ≡ [] }
     requires domains { length script.now.clients ≤ length traced.old.core.config.domains }
     requires asks { AsksAreMet script.now }
+    requires fresh { (who : ℕ) → told_to traced.old.core.readers who ≡ [] }
     ensures leaves { let seen = seen_by P.held P.TellsCrash P.moment P.MayLeave in
         Leaves result (K.taken out.old) (K.taken out.new) (seen keeper.old) (seen keeper.new)
         (due_from traced.old.core.config traced.old.core.policy traced.old.core.state diagnostics.now script.now) }
+    ensures done { OnOk result (HasDone traced.old.core traced.new.core
+        (report_from traced.old.core.config traced.old.core.policy traced.old.core.state diagnostics.now script.now)) }
     ensures keeper { Counted (keeper_failed result) (P.fault_count keeper.old) (P.fault_count keeper.new) }
     ensures sink { Counted (sink_failed result) (K.fault_count out.old) (K.fault_count out.new) }
 {
@@ -89,9 +187,9 @@ fn drive<P: Keeper, K: Sink>(
 }
 
 /// Takes the boot and the acts of a script, and answers what the clients learn.
-fn take_script<P: Keeper, K: Sink>(
+fn take_script<N: AreaName, P: Keeper, K: Sink>(
     alloc: Global,
-    traced: &mut Traced,
+    traced: &mut Traced<'_, N>,
     script: &Script,
     keeper: &mut P,
     out: &mut K,
@@ -99,23 +197,25 @@ fn take_script<P: Keeper, K: Sink>(
     requires reached { IsReached traced.old.core.config traced.old.core.policy traced.old.core.state }
     requires domains { length script.now.clients ≤ length traced.old.core.config.domains }
     requires asks { AsksAreMet script.now }
+    requires fresh { (who : ℕ) → told_to traced.old.core.readers who ≡ [] }
     ensures takes { let seen = seen_by P.held P.TellsCrash P.moment P.MayLeave in
-        Takes (InOrder script.now) (place_of traced.old (K.taken out.old) (seen keeper.old))
-        (place_of traced.new (K.taken out.new) (seen keeper.new)) result }
+        Takes (InOrder script.now) (place_of (view_of traced.old) (K.taken out.old) (seen keeper.old))
+        (place_of (view_of traced.new) (K.taken out.new) (seen keeper.new)) result }
     ensures parts { IfOk result (λ parts. parts ≡ parts_from traced.old.core.config traced.old.core.policy
         (after_from traced.old.core.config traced.old.core.policy traced.old.core.state (Input.Boot ∷ []))
         script.now.acts 1 script.now.clients) }
+    ensures heard { IfOk result (λ parts. AreTold (told_to traced.new.core.readers) 1 parts) }
     ensures keeper { Counted (keeper_failed result) (P.fault_count keeper.old) (P.fault_count keeper.new) }
     ensures sink { Counted (sink_failed result) (K.fault_count out.old) (K.fault_count out.new) }
 {
     let mut parts = open_parts(alloc, script.clients.items())?;
-    take(alloc, traced, &Input::Boot, keeper, out)?;
+    take(alloc, traced, Input::Boot, keeper, out)?;
     take_acts(alloc, traced, script.acts.items(), &mut parts, keeper, out)?;
     Ok(List::from_vec(parts))
 }
 
 /// The parts of clients that learned nothing yet.
-fn open_parts(alloc: Global, clients: &[Client]) -> Result<Vec<ClientPart>, NoMemory>
+pub fn open_parts(alloc: Global, clients: &[Client]) -> Result<Vec<ClientPart>, NoMemory>
     ensures { IfOk result (λ parts. parts.items ≡ empty_parts clients.now) }
 {
     let mut parts = Vec::new(alloc);
@@ -130,12 +230,13 @@ fn open_parts(alloc: Global, clients: &[Client]) -> Result<Vec<ClientPart>, NoMe
 }
 
 /// Prints the tail of the report, and writes all that waits.
-fn finish<K: Sink>(
-    traced: &mut Traced,
+fn finish<N: AreaName, K: Sink>(
+    traced: &mut Traced<'_, N>,
     parts: &List<ClientPart>,
     out: &mut K,
 ) -> Result<(), DriveRefusal>
     ensures prints { Prints (K.taken out.old) (K.taken out.new) result traced.old.printer [] (TailText parts.now) }
+    ensures core { traced.new.core ≡ traced.old.core }
     ensures sink { Counted (sink_failed result) (K.fault_count out.old) (K.fault_count out.new) }
 {
     traced.print_tail(parts, out)?;

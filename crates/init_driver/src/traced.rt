@@ -1,48 +1,34 @@
 //! The machine with the printer of its entries.
 
-ghost use Rattle.std.specs.Prelude.{◌≡◌, [], IfOk, OnOk};
+ghost use Rattle.std.specs.Prelude.{◌≡◌, [], OnOk};
 ghost use Rattle.init_base.specs.Faults.{Counted};
-ghost use Rattle.init_core.specs.Core.{opening_of, without_saved};
 ghost use Rattle.init_driver.specs.Course.{Prints, at_sink};
+ghost use Rattle.init_driver.specs.Machine.{entry_of};
 ghost use Rattle.init_driver.specs.Run.{sink_failed};
-ghost use Rattle.init_machine.specs.State.{first_state};
-ghost use Rattle.init_machine.specs.WellFormed.{IsWellFormed};
 ghost use Rattle.init_trace.specs.Report.{EntryText, HeadText, TailText};
 
+use crate::machine::Machine;
 use crate::refusal::DriveRefusal;
-use init_base::{IoRefusal, List, NoMemory, Sink};
-use init_core::Core;
-use init_machine::{ClientPart, Config, Diagnostic, Input, ListStore};
+use init_base::{IoRefusal, List, Sink};
+use init_machine::{ClientPart, Diagnostic, Entry};
 use init_trace::Printer;
-use prop_contexts::Policy;
-use std::alloc::Global;
+use property_service::AreaName;
 
 /// The machine, and the printer of its entries.
 #[derive(Drop)]
-pub struct Traced {
-    pub core: Core<ListStore>,
+pub struct Traced<'a, N: AreaName> {
+    pub core: Machine<'a, N>,
     pub printer: Printer,
 }
 
-impl Traced {
-    /// The machine in its first state, with so many words for properties, where nothing was printed.
-    pub fn new(
-        alloc: Global,
-        config: Config,
-        policy: Policy,
-        words: u64,
-    ) -> Result<Traced, NoMemory>
-        requires { IsWellFormed config }
-        ensures config { IfOk result (λ traced. traced.core.config ≡ without_saved config) }
-        ensures policy { IfOk result (λ traced. traced.core.policy ≡ policy) }
-        ensures state { IfOk result (λ traced. traced.core.state ≡ first_state (opening_of config policy words)) }
-        ensures printer { IfOk result (λ traced. traced.printer ≡ []) }
+impl<'a, N: AreaName> Traced<'a, N> {
+    /// The machine alone.
+    pub fn into_core(self) -> Machine<'a, N>
+        ensures { result ≡ self.entry.core }
     {
-        let store = ListStore::new(alloc, words)?;
-        Ok(Traced {
-            core: Core::new(alloc, config, policy, store)?,
-            printer: Printer::new(alloc),
-        })
+        let Traced { core, printer } = self;
+        drop(printer);
+        core
     }
 
     /// Prints the head of the report.
@@ -60,13 +46,14 @@ impl Traced {
     }
 
     /// Prints the entry of the last input.
-    pub fn print_entry<K: Sink>(&mut self, input: &Input, out: &mut K) -> Result<(), DriveRefusal>
+    pub fn print_entry<K: Sink>(&mut self, out: &mut K) -> Result<(), DriveRefusal>
         ensures prints { Prints (K.taken out.old) (K.taken out.new) result self.old.printer self.new.printer
-            (EntryText (record { input = input.now; outputs = self.old.core.outputs })) }
+            (EntryText (entry_of self.old.core.input self.old.core.outputs)) }
         ensures core { self.new.core ≡ self.old.core }
         ensures cause { Counted (sink_failed result) (K.fault_count out.old) (K.fault_count out.new) }
     {
-        printed(self.printer.print_entry(input, self.core.outputs(), out))
+        let Entry { input, outputs } = self.core.last();
+        printed(self.printer.print_entry(input, outputs, out))
     }
 
     /// Prints the tail of the report.

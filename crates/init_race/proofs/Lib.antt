@@ -10,3 +10,4 @@ pub mod Parting
 pub mod Through
 pub mod Storing
 pub mod Kept
+pub mod Readings

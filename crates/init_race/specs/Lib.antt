@@ -5,4 +5,3 @@ pub mod Keeping
 pub mod Race
 pub mod Seating
 pub mod Threads
-pub mod Told

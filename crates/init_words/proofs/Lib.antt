@@ -1,2 +1,3 @@
 pub mod Taken
 pub mod Misuses
+pub mod Numbers

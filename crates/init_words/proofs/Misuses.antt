@@ -6,13 +6,16 @@ use Rattle.std.specs.Str.{bytes_eq, is_utf8}
 use Rattle.std.proofs.lemmas.Bool.{and_from, and_parts}
 use Rattle.std.proofs.lemmas.Slice.Eq.{bytes_eq-Decides}
 use Rattle.init_words.specs.Form.{form_of, is_path_word}
-use Rattle.init_words.specs.Misuse.{misuse_at, misuse_behind, misuse_of, word_fault}
+use Rattle.init_words.specs.Misuse.{misuse_at, misuse_behind, misuse_of, number_fault, word_fault}
+use Rattle.init_words.specs.Services.{services_in}
 use Rattle.init_words.specs.declared.form.Form.{Form}
-use Rattle.init_words.specs.declared.form.Form.TheVariants.{Run, Race, Check, Audit}
+use Rattle.init_words.specs.declared.form.Form.TheVariants.{Run, Race, Check, Audit, Soak}
+use Rattle.init_words.specs.declared.misuse.FormName.{FormName}
+use Rattle.init_words.specs.declared.misuse.FormName.TheVariants as name
 use Rattle.init_words.specs.declared.misuse.Misuse.{Misuse}
 use Rattle.init_words.specs.declared.misuse.Misuse.TheVariants as misuse
 use Rattle.init_words.specs.declared.misuse.Place.{Place}
-use Rattle.init_words.specs.declared.misuse.Place.TheVariants.{Root, Script, Trace}
+use Rattle.init_words.specs.declared.misuse.Place.TheVariants.{Root, Script, Trace, Number}
 use Rattle.init_words.specs.declared.misuse.WordFault.{WordFault}
 use Rattle.init_words.specs.declared.misuse.WordFault.TheVariants as fault
 
@@ -72,27 +75,62 @@ some_first : (b c : Bool) (x y : Form) → b ≡ true → IsSome (if b then Some
 some_first true c x y h = refl
 some_first false c x y h = cc
 
--- the form that the tests of a word's name give
-tested : (run race check audit : Bool) → Option Form
-tested run race check audit = if run then Some Run else (if race then Some Race else (if check then Some Check else (if audit then Some Audit else None)))
+-- the name that the tests of a word give
+tested : (run race check audit soak : Bool) → Option FormName
+tested run race check audit soak =
+    if run then Some name.Run else (if race then Some name.Race else (if check then Some name.Check else (if audit then Some name.Audit else (if soak then Some name.Soak else None))))
 
 -- what is wrong with words behind a name that is tested so
-behind : (run race check audit : Bool) (words : List (List ℕ)) → Option Misuse
-behind run race check audit words = option_map_or (misuse_behind words) (tested run race check audit) (Some misuse.UnknownForm)
+behind : (run race check audit soak : Bool) (words : List (List ℕ)) → Option Misuse
+behind run race check audit soak words = option_map_or (misuse_behind words) (tested run race check audit soak) (Some misuse.UnknownForm)
 
-two : (run race check audit : Bool) (root : List ℕ) → (run ≡ true → check ≡ false) → (race ≡ true → check ≡ false)
-    → (behind run race check audit (root ∷ []) ≡ None) ↔ IsSome (if check && is_path_word root then Some Check else None)
-unfolding behind tested
-two true race true audit root run_differs race_differs = let bad : false ≡ true = sym (run_differs refl) in (λ h. cc, λ h. cc)
-two true race false audit root run_differs race_differs = (λ h. cc, λ h. cc)
-two false true true audit root run_differs race_differs = let bad : false ≡ true = sym (race_differs refl) in (λ h. cc, λ h. cc)
-two false true false audit root run_differs race_differs = (λ h. cc, λ h. cc)
-two false false true audit root run_differs race_differs = (
-  λ h. some_if (is_path_word root) Check ((at_law _ root).0 h),
-  λ h. (at_law _ root).1 (some_where (is_path_word root) Check h),
+-- a number of services is one exactly where nothing is wrong with it
+number_law : (found : Option ℕ) → (number_fault found ≡ None) ↔ IsSome (option_map Soak found)
+number_law None = (λ h. cc, λ h. cc)
+number_law (Some n) = (λ h. refl, λ h. refl)
+
+soak_where : (b : Bool) (found : Option ℕ) → IsSome (if b then option_map Soak found else None) → (b ≡ true) × IsSome (option_map Soak found)
+soak_where true found h = (refl, h)
+soak_where false found h = (h, cc)
+
+soak_if : (b : Bool) (found : Option ℕ) → b ≡ true → IsSome (option_map Soak found) → IsSome (if b then option_map Soak found else None)
+soak_if true found h k = k
+soak_if false found h k = cc
+
+count_law : (given : List ℕ)
+    → (option_or (misuse_at Number given) (number_fault (services_in given)) ≡ None) ↔ IsSome (if is_path_word given then option_map Soak (services_in given) else None)
+count_law given = (
+  λ h. soak_if (is_path_word given) (services_in given) ((at_law _ given).0 (first_none _ _ h)) ((number_law (services_in given)).0 (second_none _ _ h)),
+  λ h. let both = soak_where (is_path_word given) (services_in given) h in
+      both_none _ _ ((at_law _ given).1 both.0) ((number_law (services_in given)).1 both.1),
 )
-two false false false true root run_differs race_differs = (λ h. cc, λ h. cc)
-two false false false false root run_differs race_differs = (λ h. cc, λ h. cc)
+
+two : (run race check audit soak : Bool) (given : List ℕ) → (run ≡ true → check ≡ false) → (race ≡ true → check ≡ false)
+    → (run ≡ true → soak ≡ false) → (race ≡ true → soak ≡ false) → (check ≡ true → soak ≡ false) → (audit ≡ true → soak ≡ false)
+    → (behind run race check audit soak (given ∷ []) ≡ None)
+    ↔ IsSome (if check && is_path_word given then Some Check else (if soak && is_path_word given then option_map Soak (services_in given) else None))
+unfolding behind tested
+two true race true audit soak given run_differs race_differs run_other race_other check_other audit_other =
+    let bad : false ≡ true = sym (run_differs refl) in (λ h. cc, λ h. cc)
+two true race false audit true given run_differs race_differs run_other race_other check_other audit_other =
+    let bad : false ≡ true = sym (run_other refl) in (λ h. cc, λ h. cc)
+two true race false audit false given run_differs race_differs run_other race_other check_other audit_other = (λ h. cc, λ h. cc)
+two false true true audit soak given run_differs race_differs run_other race_other check_other audit_other =
+    let bad : false ≡ true = sym (race_differs refl) in (λ h. cc, λ h. cc)
+two false true false audit true given run_differs race_differs run_other race_other check_other audit_other =
+    let bad : false ≡ true = sym (race_other refl) in (λ h. cc, λ h. cc)
+two false true false audit false given run_differs race_differs run_other race_other check_other audit_other = (λ h. cc, λ h. cc)
+two false false true audit true given run_differs race_differs run_other race_other check_other audit_other =
+    let bad : false ≡ true = sym (check_other refl) in (λ h. cc, λ h. cc)
+two false false true audit false given run_differs race_differs run_other race_other check_other audit_other = (
+  λ h. some_first (is_path_word given) false Check Check ((at_law _ given).0 h),
+  λ h. (at_law _ given).1 (some_of (is_path_word given) false Check Check h (λ k. cc)),
+)
+two false false false true true given run_differs race_differs run_other race_other check_other audit_other =
+    let bad : false ≡ true = sym (audit_other refl) in (λ h. cc, λ h. cc)
+two false false false true false given run_differs race_differs run_other race_other check_other audit_other = (λ h. cc, λ h. cc)
+two false false false false true given run_differs race_differs run_other race_other check_other audit_other = count_law given
+two false false false false false given run_differs race_differs run_other race_other check_other audit_other = (λ h. cc, λ h. cc)
 
 both_paths : (root script : List ℕ)
     → (option_or (misuse_at Root root) (misuse_at Script script) ≡ None) ↔ ((is_path_word root && is_path_word script) ≡ true)
@@ -102,26 +140,27 @@ both_paths root script = (
       both_none _ _ ((at_law _ root).1 both.0) ((at_law _ script).1 both.1),
 )
 
-three : (run race check audit : Bool) (root script : List ℕ)
-    → (behind run race check audit (root ∷ script ∷ []) ≡ None)
+three : (run race check audit soak : Bool) (root script : List ℕ)
+    → (behind run race check audit soak (root ∷ script ∷ []) ≡ None)
     ↔ IsSome (if run && is_path_word root && is_path_word script then Some Run
     else (if race && is_path_word root && is_path_word script then Some Race else None))
 unfolding behind tested
-three true true check audit root script = (
+three true true check audit soak root script = (
   λ h. some_first (is_path_word root && is_path_word script) _ Run Race ((both_paths root script).0 h),
   λ h. (both_paths root script).1 (some_of (is_path_word root && is_path_word script) _ Run Race h (λ k. k)),
 )
-three true false check audit root script = (
+three true false check audit soak root script = (
   λ h. some_first (is_path_word root && is_path_word script) false Run Race ((both_paths root script).0 h),
   λ h. (both_paths root script).1 (some_of (is_path_word root && is_path_word script) false Run Race h (λ k. cc)),
 )
-three false true check audit root script = (
+three false true check audit soak root script = (
   λ h. some_if (is_path_word root && is_path_word script) Race ((both_paths root script).0 h),
   λ h. (both_paths root script).1 (some_where (is_path_word root && is_path_word script) Race h),
 )
-three false false true audit root script = (λ h. cc, λ h. cc)
-three false false false true root script = (λ h. cc, λ h. cc)
-three false false false false root script = (λ h. cc, λ h. cc)
+three false false true audit soak root script = (λ h. cc, λ h. cc)
+three false false false true soak root script = (λ h. cc, λ h. cc)
+three false false false false true root script = (λ h. cc, λ h. cc)
+three false false false false false root script = (λ h. cc, λ h. cc)
 
 three_paths : (root script trace : List ℕ)
     → (option_or (misuse_at Root root) (option_or (misuse_at Script script) (misuse_at Trace trace)) ≡ None)
@@ -136,54 +175,58 @@ three_paths root script trace = (
       both_none _ _ ((at_law _ root).1 both.0) (both_none _ _ ((at_law _ script).1 both.1) ((at_law _ trace).1 all.1)),
 )
 
-four : (run race check audit : Bool) (root script trace : List ℕ)
+four : (run race check audit soak : Bool) (root script trace : List ℕ)
     → (run ≡ true → audit ≡ false) → (race ≡ true → audit ≡ false) → (check ≡ true → audit ≡ false)
-    → (behind run race check audit (root ∷ script ∷ trace ∷ []) ≡ None)
+    → (behind run race check audit soak (root ∷ script ∷ trace ∷ []) ≡ None)
     ↔ IsSome (if audit && is_path_word root && is_path_word script && is_path_word trace then Some Audit else None)
 unfolding behind tested
-four true race check true root script trace run_differs race_differs check_differs =
+four true race check true soak root script trace run_differs race_differs check_differs =
     let bad : false ≡ true = sym (run_differs refl) in (λ h. cc, λ h. cc)
-four true race check false root script trace run_differs race_differs check_differs = (λ h. cc, λ h. cc)
-four false true check true root script trace run_differs race_differs check_differs =
+four true race check false soak root script trace run_differs race_differs check_differs = (λ h. cc, λ h. cc)
+four false true check true soak root script trace run_differs race_differs check_differs =
     let bad : false ≡ true = sym (race_differs refl) in (λ h. cc, λ h. cc)
-four false true check false root script trace run_differs race_differs check_differs = (λ h. cc, λ h. cc)
-four false false true true root script trace run_differs race_differs check_differs =
+four false true check false soak root script trace run_differs race_differs check_differs = (λ h. cc, λ h. cc)
+four false false true true soak root script trace run_differs race_differs check_differs =
     let bad : false ≡ true = sym (check_differs refl) in (λ h. cc, λ h. cc)
-four false false true false root script trace run_differs race_differs check_differs = (λ h. cc, λ h. cc)
-four false false false true root script trace run_differs race_differs check_differs = (
+four false false true false soak root script trace run_differs race_differs check_differs = (λ h. cc, λ h. cc)
+four false false false true soak root script trace run_differs race_differs check_differs = (
   λ h. some_if (is_path_word root && is_path_word script && is_path_word trace) Audit ((three_paths root script trace).0 h),
   λ h. (three_paths root script trace).1 (some_where (is_path_word root && is_path_word script && is_path_word trace) Audit h),
 )
-four false false false false root script trace run_differs race_differs check_differs = (λ h. cc, λ h. cc)
+four false false false false true root script trace run_differs race_differs check_differs = (λ h. cc, λ h. cc)
+four false false false false false root script trace run_differs race_differs check_differs = (λ h. cc, λ h. cc)
 
-other_count : (run race check audit : Bool) (words : List (List ℕ)) (a b c d : Misuse)
-    → misuse_behind words Run ≡ Some a → misuse_behind words Race ≡ Some b → misuse_behind words Check ≡ Some c → misuse_behind words Audit ≡ Some d
-    → behind run race check audit words ≡ None → true ≡ false
+other_count : (run race check audit soak : Bool) (words : List (List ℕ)) (a b c d e : Misuse)
+    → misuse_behind words name.Run ≡ Some a → misuse_behind words name.Race ≡ Some b → misuse_behind words name.Check ≡ Some c → misuse_behind words name.Audit ≡ Some d
+    → misuse_behind words name.Soak ≡ Some e → behind run race check audit soak words ≡ None → true ≡ false
 unfolding behind tested
-other_count true race check audit words a b c d e f g h i = cc
-other_count false true check audit words a b c d e f g h i = cc
-other_count false false true audit words a b c d e f g h i = cc
-other_count false false false true words a b c d e f g h i = cc
-other_count false false false false words a b c d e f g h i = cc
+other_count true race check audit soak words a b c d e of_run of_race of_check of_audit of_soak h = cc
+other_count false true check audit soak words a b c d e of_run of_race of_check of_audit of_soak h = cc
+other_count false false true audit soak words a b c d e of_run of_race of_check of_audit of_soak h = cc
+other_count false false false true soak words a b c d e of_run of_race of_check of_audit of_soak h = cc
+other_count false false false false true words a b c d e of_run of_race of_check of_audit of_soak h = cc
+other_count false false false false false words a b c d e of_run of_race of_check of_audit of_soak h = cc
 
 pub misuse_law : (words : List (List ℕ)) → (misuse_of words ≡ None) ↔ IsSome (form_of words)
 unfolding behind tested
 misuse_law [] = (λ h. cc, λ h. cc)
 misuse_law (word ∷ []) = (
-  λ h. sym (other_count (bytes_eq word (codes "run")) (bytes_eq word (codes "race")) (bytes_eq word (codes "check")) (bytes_eq word (codes "audit"))
-      [] _ _ _ _ refl refl refl refl h),
+  λ h. sym (other_count (bytes_eq word (codes "run")) (bytes_eq word (codes "race")) (bytes_eq word (codes "check")) (bytes_eq word (codes "audit")) (bytes_eq word (codes "soak"))
+      [] _ _ _ _ _ refl refl refl refl refl h),
   λ h. cc,
 )
-misuse_law (word ∷ root ∷ []) =
-    two (bytes_eq word (codes "run")) (bytes_eq word (codes "race")) (bytes_eq word (codes "check")) (bytes_eq word (codes "audit")) root
+misuse_law (word ∷ given ∷ []) =
+    two (bytes_eq word (codes "run")) (bytes_eq word (codes "race")) (bytes_eq word (codes "check")) (bytes_eq word (codes "audit")) (bytes_eq word (codes "soak")) given
     (no_other word (codes "run") (codes "check") refl) (no_other word (codes "race") (codes "check") refl)
+    (no_other word (codes "run") (codes "soak") refl) (no_other word (codes "race") (codes "soak") refl)
+    (no_other word (codes "check") (codes "soak") refl) (no_other word (codes "audit") (codes "soak") refl)
 misuse_law (word ∷ root ∷ script ∷ []) =
-    three (bytes_eq word (codes "run")) (bytes_eq word (codes "race")) (bytes_eq word (codes "check")) (bytes_eq word (codes "audit")) root script
+    three (bytes_eq word (codes "run")) (bytes_eq word (codes "race")) (bytes_eq word (codes "check")) (bytes_eq word (codes "audit")) (bytes_eq word (codes "soak")) root script
 misuse_law (word ∷ root ∷ script ∷ trace ∷ []) =
-    four (bytes_eq word (codes "run")) (bytes_eq word (codes "race")) (bytes_eq word (codes "check")) (bytes_eq word (codes "audit")) root script trace
+    four (bytes_eq word (codes "run")) (bytes_eq word (codes "race")) (bytes_eq word (codes "check")) (bytes_eq word (codes "audit")) (bytes_eq word (codes "soak")) root script trace
     (no_other word (codes "run") (codes "audit") refl) (no_other word (codes "race") (codes "audit") refl) (no_other word (codes "check") (codes "audit") refl)
 misuse_law (word ∷ root ∷ script ∷ trace ∷ more ∷ rest) = (
-  λ h. sym (other_count (bytes_eq word (codes "run")) (bytes_eq word (codes "race")) (bytes_eq word (codes "check")) (bytes_eq word (codes "audit"))
-      (root ∷ script ∷ trace ∷ more ∷ rest) _ _ _ _ refl refl refl refl h),
+  λ h. sym (other_count (bytes_eq word (codes "run")) (bytes_eq word (codes "race")) (bytes_eq word (codes "check")) (bytes_eq word (codes "audit")) (bytes_eq word (codes "soak"))
+      (root ∷ script ∷ trace ∷ more ∷ rest) _ _ _ _ _ refl refl refl refl refl h),
   λ h. cc,
 )

@@ -1,6 +1,6 @@
 -- The command takes words of a form, and they are UTF-8.
-use Rattle.std.proofs.Common.{◌≡◌, ℕ, Bool, true, false, List, [], ◌∷◌, ◌&&◌, codes, Some, None, ◌⊎◌, inl, inr, refl, sym, subst}
-use Rattle.std.specs.Prelude.{IsSome, ◌==◌, not, if◌then◌else◌}
+use Rattle.std.proofs.Common.{◌≡◌, ℕ, Bool, true, false, List, [], ◌∷◌, ◌&&◌, codes, Option, Some, None, ◌⊎◌, inl, inr, refl, sym, subst}
+use Rattle.std.specs.Prelude.{IsSome, ◌==◌, not, if◌then◌else◌, option_map}
 use Rattle.std.specs.List.{list_all}
 use Rattle.std.specs.Str.{bytes_eq, is_utf8}
 use Rattle.std.proofs.lemmas.Bool.{and_parts}
@@ -9,7 +9,7 @@ use Rattle.clap.specs.Words.{takes}
 use Rattle.clap.proofs.OnLiterals.{clap_on_literals}
 use Rattle.init_words.specs.Command.{app}
 use Rattle.init_words.specs.Form.{form_of, is_path_word}
-use Rattle.init_words.specs.declared.form.Form.TheVariants.{Run, Race}
+use Rattle.init_words.specs.declared.form.Form.TheVariants.{Run, Race, Check, Soak}
 
 some_where : {T : Type 0} (b : Bool) (x : T) → IsSome (if b then Some x else None) → b ≡ true
 some_where true x h = refl
@@ -26,6 +26,13 @@ check_taken : (root : List ℕ) → is_path_word root ≡ true → takes app (co
 unfolding clap_on_literals
 check_taken [] h = cc
 check_taken (byte ∷ rest) h =
+    let plain = not_dash byte rest h in
+    simp plain refl
+
+soak_taken : (count : List ℕ) → is_path_word count ≡ true → takes app (codes "soak" ∷ count ∷ []) ≡ true
+unfolding clap_on_literals
+soak_taken [] h = cc
+soak_taken (byte ∷ rest) h =
     let plain = not_dash byte rest h in
     simp plain refl
 
@@ -49,6 +56,12 @@ race_taken (byte ∷ rest) (other ∷ more) h k =
     let plain2 = not_dash other more k in
     simp (plain, plain2) refl
 
+-- words of two that have a form are those of `check` or of `soak`
+check_or_soak : (check soak : Bool) (found : Option ℕ) → IsSome (if check then Some Check else (if soak then option_map Soak found else None)) → (check ≡ true) ⊎ (soak ≡ true)
+check_or_soak true soak found some = inl refl
+check_or_soak false true found some = inr refl
+check_or_soak false false found some = inl some
+
 -- words of three that have a form are those of `run` or of `race`
 one_of_two : (run race : Bool) → IsSome (if run then Some Run else (if race then Some Race else None)) → (run ≡ true) ⊎ (race ≡ true)
 one_of_two true race some = inl refl
@@ -71,10 +84,16 @@ audit_taken (byte ∷ rest) (other ∷ more) (third ∷ most) h k l =
 pub form_taken : (words : List (List ℕ)) → IsSome (form_of words) → takes app words ≡ true
 form_taken [] h = cc
 form_taken (word ∷ []) h = cc
-form_taken (word ∷ root ∷ []) h =
-    let both = and_parts (bytes_eq word (codes "check")) (is_path_word root) (some_where _ _ h) in
-    let named : word ≡ codes "check" = (bytes_eq-Decides word (codes "check")).0 both.0 in
-    subst (λ w. takes app (w ∷ root ∷ []) ≡ true) (sym named) (check_taken root both.1)
+form_taken (word ∷ given ∷ []) h = elim (check_or_soak _ _ _ h) [
+  | inl is ↦
+      let both = and_parts (bytes_eq word (codes "check")) (is_path_word given) is in
+      let named : word ≡ codes "check" = (bytes_eq-Decides word (codes "check")).0 both.0 in
+      subst (λ w. takes app (w ∷ given ∷ []) ≡ true) (sym named) (check_taken given both.1)
+  | inr is ↦
+      let both = and_parts (bytes_eq word (codes "soak")) (is_path_word given) is in
+      let named : word ≡ codes "soak" = (bytes_eq-Decides word (codes "soak")).0 both.0 in
+      subst (λ w. takes app (w ∷ given ∷ []) ≡ true) (sym named) (soak_taken given both.1)
+]
 form_taken (word ∷ root ∷ script ∷ []) h = elim (one_of_two _ _ h) [
   | inl is ↦
       let all = and_parts (bytes_eq word (codes "run") && is_path_word root) (is_path_word script) is in
@@ -111,6 +130,10 @@ check_utf8 : is_utf8 (codes "check") ≡ true
 unfolding clap_on_literals is_utf8
 check_utf8 = refl
 
+soak_utf8 : is_utf8 (codes "soak") ≡ true
+unfolding clap_on_literals is_utf8
+soak_utf8 = refl
+
 audit_utf8 : is_utf8 (codes "audit") ≡ true
 unfolding clap_on_literals is_utf8
 audit_utf8 = refl
@@ -119,12 +142,20 @@ audit_utf8 = refl
 pub form_utf8 : (words : List (List ℕ)) → IsSome (form_of words) → list_all is_utf8 words ≡ true
 form_utf8 [] h = cc
 form_utf8 (word ∷ []) h = cc
-form_utf8 (word ∷ root ∷ []) h =
-    let both = and_parts (bytes_eq word (codes "check")) (is_path_word root) (some_where _ _ h) in
-    let named : word ≡ codes "check" = (bytes_eq-Decides word (codes "check")).0 both.0 in
-    let first : is_utf8 word ≡ true = subst (λ w. is_utf8 w ≡ true) (sym named) check_utf8 in
-    let second : is_utf8 root ≡ true = path_utf8 root both.1 in
-    rw (first, second) refl
+form_utf8 (word ∷ given ∷ []) h = elim (check_or_soak _ _ _ h) [
+  | inl is ↦
+      let both = and_parts (bytes_eq word (codes "check")) (is_path_word given) is in
+      let named : word ≡ codes "check" = (bytes_eq-Decides word (codes "check")).0 both.0 in
+      let first : is_utf8 word ≡ true = subst (λ w. is_utf8 w ≡ true) (sym named) check_utf8 in
+      let second : is_utf8 given ≡ true = path_utf8 given both.1 in
+      rw (first, second) refl
+  | inr is ↦
+      let both = and_parts (bytes_eq word (codes "soak")) (is_path_word given) is in
+      let named : word ≡ codes "soak" = (bytes_eq-Decides word (codes "soak")).0 both.0 in
+      let first : is_utf8 word ≡ true = subst (λ w. is_utf8 w ≡ true) (sym named) soak_utf8 in
+      let second : is_utf8 given ≡ true = path_utf8 given both.1 in
+      rw (first, second) refl
+]
 form_utf8 (word ∷ root ∷ script ∷ []) h = elim (one_of_two _ _ h) [
   | inl is ↦
       let all = and_parts (bytes_eq word (codes "run") && is_path_word root) (is_path_word script) is in

@@ -3,7 +3,7 @@ use Rattle.std.specs.Prelude.{ℕ, true, List, codes, Some}
 use Rattle.clap.specs.Words.{App, Rule, new_app, new_rule, with_rule, with_subcommand}
 use Rattle.clap.specs.declared.builder.ArgAction.TheVariants.{Set}
 
--- a path that has to be given
+-- a word that has to be given
 abbrev pub path_rule : List ℕ → Rule
 path_rule id = record (new_rule id) { required = true; action = Some Set }
 
@@ -23,6 +23,10 @@ check_app = with_rule (new_app (codes "check")) (path_rule (codes "ROOT"))
 abbrev pub audit_app : App
 audit_app = with_rule (with_rule (with_rule (new_app (codes "audit")) (path_rule (codes "ROOT"))) (path_rule (codes "SCRIPT"))) (path_rule (codes "TRACE"))
 
+-- `soak N`
+abbrev pub soak_app : App
+soak_app = with_rule (new_app (codes "soak")) (path_rule (codes "N"))
+
 -- what holds of all: no program's name stands before the words, one of them is named, and there is neither help nor
 -- version
 abbrev pub bare_of : App → App
@@ -38,5 +42,6 @@ bare_of a = record a {
 
 abbrev pub app : App
 app =
-    with_subcommand (with_subcommand (with_subcommand (with_subcommand (bare_of (new_app (codes "initsim"))) run_app.top) race_app.top) check_app.top)
-    audit_app.top
+    with_subcommand
+    (with_subcommand (with_subcommand (with_subcommand (with_subcommand (bare_of (new_app (codes "initsim"))) run_app.top) race_app.top) check_app.top) audit_app.top)
+    soak_app.top

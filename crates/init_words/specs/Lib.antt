@@ -1,3 +1,4 @@
+pub mod Services
 pub mod Form
 pub mod Misuse
 pub mod Command

@@ -2,21 +2,23 @@
 use Rattle.std.specs.Prelude.{ℕ, ◌==◌, if◌then◌else◌, List, [], ◌∷◌, length, codes, Option, Some, None, option_map}
 use Rattle.std.specs.Option.{option_map_or, option_or}
 use Rattle.std.specs.Str.{bytes_eq, is_utf8}
-use Rattle.init_words.specs.declared.form.Form.{Form}
-use Rattle.init_words.specs.declared.form.Form.TheVariants.{Run, Race, Check, Audit}
+use Rattle.init_words.specs.Services.{services_in}
+use Rattle.init_words.specs.declared.misuse.FormName.{FormName}
+use Rattle.init_words.specs.declared.misuse.FormName.TheVariants.{Run, Race, Check, Audit, Soak}
 use Rattle.init_words.specs.declared.misuse.Misuse.{Misuse}
 use Rattle.init_words.specs.declared.misuse.Misuse.TheVariants as misuse
 use Rattle.init_words.specs.declared.misuse.Place.{Place}
-use Rattle.init_words.specs.declared.misuse.Place.TheVariants.{Root, Script, Trace}
+use Rattle.init_words.specs.declared.misuse.Place.TheVariants.{Root, Script, Trace, Number}
 use Rattle.init_words.specs.declared.misuse.WordFault.{WordFault}
 use Rattle.init_words.specs.declared.misuse.WordFault.TheVariants as fault
 
 -- the form with this name
-abbrev pub form_named : List ℕ → Option Form
+abbrev pub form_named : List ℕ → Option FormName
 form_named word =
     if bytes_eq word (codes "run") then Some Run
     else (if bytes_eq word (codes "race") then Some Race
-    else (if bytes_eq word (codes "check") then Some Check else (if bytes_eq word (codes "audit") then Some Audit else None)))
+    else (if bytes_eq word (codes "check") then Some Check
+    else (if bytes_eq word (codes "audit") then Some Audit else (if bytes_eq word (codes "soak") then Some Soak else None))))
 
 -- why a word names no path: it is empty, or begins with `-` (45), or isn't UTF-8
 abbrev pub word_fault : List ℕ → Option WordFault
@@ -27,10 +29,16 @@ word_fault (byte ∷ rest) =
 abbrev pub misuse_at : Place → List ℕ → Option Misuse
 misuse_at place word = option_map (misuse.BadWord place) (word_fault word)
 
--- what is wrong with the words behind the form's name: `run` and `race` take the root and the script, `check` the root, and `audit` the
--- root, the script and the trace
-abbrev pub misuse_behind : List (List ℕ) → Form → Option Misuse
+-- a word that is the number of these services
+abbrev pub number_fault : Option ℕ → Option Misuse
+number_fault None = Some misuse.BadNumber
+number_fault (Some services) = None
+
+-- what is wrong with the words behind the form's name: `run` and `race` take the root and the script, `check` the root, `audit` the
+-- root, the script and the trace, and `soak` a number of services
+abbrev pub misuse_behind : List (List ℕ) → FormName → Option Misuse
 misuse_behind (root ∷ []) Check = misuse_at Root root
+misuse_behind (count ∷ []) Soak = option_or (misuse_at Number count) (number_fault (services_in count))
 misuse_behind (root ∷ script ∷ []) Run = option_or (misuse_at Root root) (misuse_at Script script)
 misuse_behind (root ∷ script ∷ []) Race = option_or (misuse_at Root root) (misuse_at Script script)
 misuse_behind (root ∷ script ∷ trace ∷ []) Audit = option_or (misuse_at Root root) (option_or (misuse_at Script script) (misuse_at Trace trace))

@@ -18,7 +18,7 @@ pub fn parse<'a>(alloc: Global, words: &'a [&'a str]) -> Result<ArgMatches<'a>, 
     command.try_get_matches_from(words)
 }
 
-/// `run ROOT SCRIPT`, `race ROOT SCRIPT`, `check ROOT` and `audit ROOT SCRIPT TRACE`, without help and version.
+/// `run ROOT SCRIPT`, `race ROOT SCRIPT`, `check ROOT`, `audit ROOT SCRIPT TRACE` and `soak N`, without help and version.
 fn command<'a>(alloc: Global) -> Result<Command<'a>, Error>
     ensures ok { IfOk result (λ command. app_of command ≡ app) }
     ensures err { IfErr result (λ e. kind_of e ≡ ErrorKind.OutOfMemory) }
@@ -34,6 +34,7 @@ fn command<'a>(alloc: Global) -> Result<Command<'a>, Error>
         .arg(path(alloc, "ROOT"))?
         .arg(path(alloc, "SCRIPT"))?
         .arg(path(alloc, "TRACE"))?;
+    let soak = Command::new(alloc, "soak").arg(path(alloc, "N"))?;
     let bare = Command::new(alloc, "initsim")
         .no_binary_name(true)
         .disable_help_flag(true)
@@ -44,11 +45,12 @@ fn command<'a>(alloc: Global) -> Result<Command<'a>, Error>
         .subcommand(run)?
         .subcommand(race)?
         .subcommand(check)?
-        .subcommand(audit)?;
+        .subcommand(audit)?
+        .subcommand(soak)?;
     Ok(whole)
 }
 
-/// A path that has to be given.
+/// A word that has to be given: a path, or a number.
 fn path<'a>(alloc: Global, id: &'a str) -> Arg<'a>
     ensures rule { rule_of result ≡ path_rule id.entry.now }
     ensures local { result.global ≡ false }

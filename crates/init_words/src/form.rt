@@ -1,8 +1,11 @@
 //! The forms of the words.
 
-ghost use Rattle.std.specs.Prelude.{◌≡◌};
+ghost use Rattle.std.specs.Prelude.{◌≡◌, option_map};
 ghost use Rattle.init_words.specs.Form.{form_of as form_of_lem, is_path_word as is_path_word_lem};
+ghost use Rattle.init_words.specs.Services.{services_in as services_in_lem};
+ghost use Rattle.init_words.specs.declared.form.Form.TheVariants as form;
 
+use crate::services::services_in;
 use init_base::{List, Text};
 
 /// What the program is asked to do.
@@ -16,6 +19,8 @@ pub enum Form {
     Check,
     /// `audit ROOT SCRIPT TRACE`: whether the machine can have written a trace is written.
     Audit,
+    /// `soak N`: a generated boot of so many services runs, and the summary of its report is written.
+    Soak { services: u32 },
 }
 
 /// The form of the words.
@@ -24,6 +29,7 @@ pub fn form_of(words: &List<Text>) -> Option<Form>
 {
     match words.items() {
         [word, root] if word.is(b"check") && is_path_word(root) => Some(Form::Check),
+        [word, count] if word.is(b"soak") && is_path_word(count) => soak_of(count),
         [word, root, script] if word.is(b"run") && is_path_word(root) && is_path_word(script) => {
             Some(Form::Run)
         }
@@ -39,7 +45,15 @@ pub fn form_of(words: &List<Text>) -> Option<Form>
     }
 }
 
-/// Whether a word names a path: it isn't empty, doesn't begin with `-`, and is UTF-8.
+/// The form `soak` with a word that is a number of services.
+fn soak_of(count: &Text) -> Option<Form>
+    ensures { result ≡ option_map form.Soak (services_in_lem count.now) }
+{
+    let services = services_in(count.bytes())?;
+    Some(Form::Soak { services })
+}
+
+/// Whether a word may stand behind the name of a form, as a path does: it isn't empty, doesn't begin with `-`, and is UTF-8.
 fn is_path_word(word: &Text) -> bool
     ensures { result ≡ is_path_word_lem word.now }
 {

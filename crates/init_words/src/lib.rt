@@ -8,7 +8,8 @@ mod command;
 mod form;
 mod misuse;
 mod reading;
+mod services;
 
 pub use form::{Form, form_of};
-pub use misuse::{Misuse, Place, WordFault, misuse_of, nothing_wrong_with_a_form};
+pub use misuse::{FormName, Misuse, Place, WordFault, misuse_of, nothing_wrong_with_a_form};
 pub use reading::{WordsRefusal, read_words};

@@ -2,9 +2,10 @@
 
 ghost use Rattle.std.specs.Prelude.{◌≡◌, ◌↔◌, ℕ, None, IsSome, List as Items};
 ghost use Rattle.init_words.specs.Form.{form_of as form_of_lem};
-ghost use Rattle.init_words.specs.Misuse.{form_named as form_named_lem, misuse_at as misuse_at_lem, misuse_of as misuse_of_lem, word_fault as word_fault_lem};
+ghost use Rattle.init_words.specs.Misuse.{form_named as form_named_lem, misuse_at as misuse_at_lem, misuse_of as misuse_of_lem, number_fault as number_fault_lem, word_fault as word_fault_lem};
+ghost use Rattle.init_words.specs.Services.{services_in as services_in_lem};
 
-use crate::form::Form;
+use crate::services::services_in;
 use init_base::{List, Text};
 
 /// The first thing that is wrong with the words.
@@ -15,17 +16,30 @@ pub enum Misuse {
     /// The first word is the name of no form.
     UnknownForm,
     /// Behind the form's name stand more words than the form has, or fewer.
-    WrongCount { form: Form, given: usize },
+    WrongCount { form: FormName, given: usize },
     /// The word at this place names no path.
     BadWord { place: Place, fault: WordFault },
+    /// The word behind `soak` is no number from 1 to 1000 in decimal.
+    BadNumber,
 }
 
-/// The places of a form at which a path stands.
+/// The names of the forms.
+#[derive(Clone, Copy, Debug, PartialEq, Eq)]
+pub enum FormName {
+    Run,
+    Race,
+    Check,
+    Audit,
+    Soak,
+}
+
+/// The places of a form at which a path stands, or a number.
 #[derive(Clone, Copy, Debug, PartialEq, Eq)]
 pub enum Place {
     Root,
     Script,
     Trace,
+    Number,
 }
 
 /// Why a word names no path.
@@ -54,14 +68,15 @@ pub fn misuse_of(words: &List<Text>) -> Option<Misuse>
         return Some(Misuse::UnknownForm);
     };
     match (form, paths) {
-        (Form::Check, [root]) => misuse_at(Place::Root, root),
-        (Form::Run | Form::Race, [root, script]) => {
+        (FormName::Check, [root]) => misuse_at(Place::Root, root),
+        (FormName::Run | FormName::Race, [root, script]) => {
             misuse_at(Place::Root, root).or(misuse_at(Place::Script, script))
         }
-        (Form::Audit, [root, script, trace]) => misuse_at(Place::Root, root).or(misuse_at(
+        (FormName::Audit, [root, script, trace]) => misuse_at(Place::Root, root).or(misuse_at(
             Place::Script,
             script,
         ).or(misuse_at(Place::Trace, trace))),
+        (FormName::Soak, [count]) => misuse_at(Place::Number, count).or(number_fault(count)),
         _ => Some(Misuse::WrongCount {
             form,
             given: paths.len(),
@@ -70,19 +85,31 @@ pub fn misuse_of(words: &List<Text>) -> Option<Misuse>
 }
 
 /// The form with this name.
-fn form_named(word: &Text) -> Option<Form>
+fn form_named(word: &Text) -> Option<FormName>
     ensures { result ≡ form_named_lem word.now }
 {
     if word.is(b"run") {
-        Some(Form::Run)
+        Some(FormName::Run)
     } else if word.is(b"race") {
-        Some(Form::Race)
+        Some(FormName::Race)
     } else if word.is(b"check") {
-        Some(Form::Check)
+        Some(FormName::Check)
     } else if word.is(b"audit") {
-        Some(Form::Audit)
+        Some(FormName::Audit)
+    } else if word.is(b"soak") {
+        Some(FormName::Soak)
     } else {
         None
+    }
+}
+
+/// What is wrong with the number of services.
+fn number_fault(count: &Text) -> Option<Misuse>
+    ensures { result ≡ number_fault_lem (services_in_lem count.now) }
+{
+    match services_in(count.bytes()) {
+        Some(_) => None,
+        None => Some(Misuse::BadNumber),
     }
 }
 

@@ -31,7 +31,7 @@ use Rattle.initsim.specs.Tree.{HasNoRoot, IsBadPolicyFor, IsFitFor, IsPolicyTooL
 use Rattle.initsim.specs.declared.status.Status.{Status}
 use Rattle.initsim.specs.declared.status.Status.TheVariants as status
 use Rattle.init_words.specs.declared.form.Form.{Form}
-use Rattle.init_words.specs.declared.form.Form.TheVariants.{Run, Race, Check, Audit}
+use Rattle.init_words.specs.declared.form.Form.TheVariants.{Run, Race, Check, Audit, Soak}
 
 -- ---- the tree
 
@@ -50,6 +50,8 @@ no_policy_limit Race world limit number fit large =
     none_long (contexts_text world.tree) (allow_text world.tree) fit.0.1.short large.0
 no_policy_limit Check world limit number fit large = large
 no_policy_limit Audit world limit number fit large =
+    none_long (contexts_text world.tree) (allow_text world.tree) fit.0.1.short large.0
+no_policy_limit (Soak services) world limit number fit large =
     none_long (contexts_text world.tree) (allow_text world.tree) fit.0.1.short large.0
 
 ok_or_err : (result : Result Loaded LoadRefusal) (loaded : Loaded) (why : LoadRefusal) → result ≡ Ok loaded → result ≡ Err why → ⊥
@@ -89,6 +91,8 @@ no_bad_policy Race world in_allow line fit bad =
     no_bad_line (contexts_text world.tree) (allow_text world.tree) fit.0.0 in_allow line fit.0.1.policy_is bad.bad
 no_bad_policy Check world in_allow line fit bad = bad
 no_bad_policy Audit world in_allow line fit bad =
+    no_bad_line (contexts_text world.tree) (allow_text world.tree) fit.0.0 in_allow line fit.0.1.policy_is bad.bad
+no_bad_policy (Soak services) world in_allow line fit bad =
     no_bad_line (contexts_text world.tree) (allow_text world.tree) fit.0.0 in_allow line fit.0.1.policy_is bad.bad
 
 -- ---- a check

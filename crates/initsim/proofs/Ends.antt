@@ -33,7 +33,7 @@ use Rattle.initsim.specs.declared.stop.Stop.TheVariants as stop
 untouched : (old : Option (List ℕ)) (a b : KeeperView) → b.held ≡ a.held → (a.TellsCrash → Risks a b [] []) → Untouched (shown_as old old a b)
 untouched old a b held crash = record { written = refl; held = held; crash = crash }
 
-nothing_new : (old new : Option (List ℕ)) (a : KeeperView) → new ≡ old → Untouched (shown_as old new a a)
+pub nothing_new : (old new : Option (List ℕ)) (a : KeeperView) → new ≡ old → Untouched (shown_as old new a a)
 nothing_new old new a same = record { written = same; held = refl; crash = λ tells. risks_nothing a [] }
 
 pub left_alone : (old : Option (List ℕ)) (a : KeeperView) → Untouched (shown_as old old a a)
@@ -48,7 +48,7 @@ tree_limit told limit number has (inr (inl build)) = inr (has, inr (build.0, inl
 tree_limit told limit number has (inr (inr rc)) =
     inr (has, inr (rc.policy, inl (inr (rc.build_files, record { refusal = rc.refusal; refused = rc.refused; passes = rc.passes }))))
 
-limit_refused : (told : Told) (left : Option (List ℕ)) (limit : Limit) (number : ℕ) → IsRunLimit limit → ScriptLimitSays told.script left limit number
+pub limit_refused : (told : Told) (left : Option (List ℕ)) (limit : Limit) (number : ℕ) → IsRunLimit limit → ScriptLimitSays told.script left limit number
     → TreeLimitSays Run told.world limit number → StoreLimitSays told.held limit number → RunRefused told (status.TooLarge limit number)
 limit_refused told left limits.ScriptBytes number is script tree store = inl script
 limit_refused told left limits.ScriptLines number is script tree store = inl script

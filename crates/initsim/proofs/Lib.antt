@@ -8,6 +8,9 @@ pub mod Performed
 pub mod Judged
 pub mod Ends
 pub mod Raced
+pub mod Soaked
+pub mod Seated
 pub mod Complete
+pub mod Promised
 pub mod Stores
 pub mod TextJudged

@@ -66,7 +66,7 @@ counts_after how f f' s s' t k k' k'' o o' same counted =
     (subst (λ x. AreCounted how (counts_of f x t k' o) now) script
     (subst (λ x. AreCounted how (counts_of x s' t k' o) now) files (counted f' s' t)))
 
-rose_from_nothing : Rose 0 0 → ⊥
+pub rose_from_nothing : Rose 0 0 → ⊥
 rose_from_nothing rose = omega (arith, rose)
 
 pub performed_as_before : {A : Type 0} (course : Course) (old new : Option (List ℕ)) (keeper kept : KeeperView) (how : Status) (k k' k'' o o' : ℕ) (one other : A)

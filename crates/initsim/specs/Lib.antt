@@ -7,12 +7,16 @@ pub mod Tree
 pub mod Store
 pub mod Run
 pub mod Racing
+pub mod Soaking
 pub mod Trace
 pub mod Verdict
 pub mod Endings
 pub mod Check
 pub mod Outcome
+pub mod Seats
+pub mod SoakEnds
 pub mod Top
+pub mod Promise
 pub mod Stops
 pub mod Judging
 pub mod Prepared

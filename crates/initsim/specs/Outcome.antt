@@ -25,6 +25,7 @@ use Rattle.initsim.specs.Policy.{HasPolicy, IsBadPolicyAt, IsPolicyTooLarge}
 use Rattle.initsim.specs.Racing.{CutsRace, IsAudited, WritesRace}
 use Rattle.initsim.specs.Run.{Course, IsCourseOf, due_of_course, run_text}
 use Rattle.initsim.specs.Script.{HasScript}
+use Rattle.initsim.specs.Soaking.{generated_script, generated_tree, soak_text}
 use Rattle.initsim.specs.Store.{HasStore}
 use Rattle.initsim.specs.Texts.{Tree}
 use Rattle.initsim.specs.Trace.{IsNoTrace, IsTraceTooLarge}
@@ -58,14 +59,19 @@ pub record TellRun (sources : Sources) (told : Told) : Type 0 where
   pub world_is : IsWorldOf sources.tree told.world
   pub held_is : sources.held ≡ Some told.held
 
+-- what is read of a generated boot of so many services: its script and its tree, and a store without pairs
+abbrev pub generated_sources : ℕ → Sources
+generated_sources services = sources_of (Some (generated_script services)) (Some (generated_tree services)) (Some []) None
+
 -- They tell what a form reads: a race what a run does, a check the tree alone, an audit what a run does and the trace, and words
--- of no form nothing.
+-- of no form nothing. What a soak reads is generated.
 abbrev pub Tell : Option Form → Sources → Told → Type 0
 Tell None sources told = ⊤
 Tell (Some form.Run) sources told = TellRun sources told
 Tell (Some form.Race) sources told = TellRun sources told
 Tell (Some form.Check) sources told = IsWorldOf sources.tree told.world
 Tell (Some form.Audit) sources told = TellRun sources told × (sources.trace ≡ Some told.trace)
+Tell (Some (form.Soak services)) sources told = TellRun (generated_sources services) told
 
 -- ---- what each reader refuses, and with which status
 
@@ -135,7 +141,7 @@ pub record IsRaced (told : Told) (course : Course) (report : Report) : Type 0 wh
 -- ---- the outcome
 
 -- The words have no form; or nothing is begun, with this status; or these diagnostics are told; or this course is run; or it is
--- raced, with this report; or this is the verdict on the trace.
+-- raced, with this report; or this is the verdict on the trace; or this course of a generated boot of so many services is run.
 pub data Outcome : Type 0 where
   Unformed : Outcome
   Refused : Status → Outcome
@@ -143,6 +149,7 @@ pub data Outcome : Type 0 where
   Ran : Course → Outcome
   Raced : Course → Report → Outcome
   Judged : Verdict → Outcome
+  Soaked : ℕ → Course → Outcome
 
 -- What the words of a form come to, or words of none. A race comes to one of the reports that the order of its clients allows.
 abbrev pub ComesTo : Option Form → Told → Outcome → Type 0
@@ -155,6 +162,8 @@ ComesTo (Some form.Check) told (Refused why) = FilesRefuse told.world why
 ComesTo (Some form.Check) told (Checked diagnostics) = (config : Config) × IsLoadOf told.world config diagnostics
 ComesTo (Some form.Audit) told (Refused why) = AuditRefused told why
 ComesTo (Some form.Audit) told (Judged verdict) = IsJudged told verdict
+ComesTo (Some (form.Soak services)) told (Refused why) = RunRefused told why
+ComesTo (Some (form.Soak services)) told (Soaked given course) = (given ≡ services) × IsCourseOf told.script told.world told.held course
 ComesTo form told outcome = ⊥
 
 abbrev pub status_of_outcome : Outcome → Status
@@ -164,6 +173,7 @@ status_of_outcome (Checked diagnostics) = status.Done
 status_of_outcome (Ran course) = status.Done
 status_of_outcome (Raced course report) = status.Done
 status_of_outcome (Judged verdict) = status.Done
+status_of_outcome (Soaked services course) = status.Done
 
 -- ---- how a call ends
 
@@ -191,6 +201,7 @@ Shows (Checked diagnostics) shown = (shown.new ≡ append_known shown.old (Diagn
 Shows (Ran course) shown = (shown.new ≡ append_known shown.old (run_text course)) × Took shown.keeper shown.kept (given_in course.opening course.script)
 Shows (Raced course report) shown = WritesRace course report shown.old shown.new shown.keeper shown.kept
 Shows (Judged verdict) shown = (shown.new ≡ append_known shown.old (verdict_text verdict)) × Took shown.keeper shown.kept []
+Shows (Soaked services course) shown = (shown.new ≡ append_known shown.old (soak_text services course)) × Took shown.keeper shown.kept []
 
 -- its text is cut short: by a fault of the sink or of the keeper, or for want of memory
 abbrev pub CutShort : DriveRefusal → Outcome → Shown → Type 0
@@ -200,6 +211,8 @@ CutShort refusal.Keeper (Checked diagnostics) shown = ⊥
 CutShort why (Checked diagnostics) shown = TakesFront shown.old shown.new (DiagnosticsText diagnostics) × Took shown.keeper shown.kept []
 CutShort refusal.Keeper (Judged verdict) shown = ⊥
 CutShort why (Judged verdict) shown = TakesFront shown.old shown.new (verdict_text verdict) × Took shown.keeper shown.kept []
+CutShort refusal.Keeper (Soaked services course) shown = ⊥
+CutShort why (Soaked services course) shown = TakesFront shown.old shown.new (soak_text services course) × Took shown.keeper shown.kept []
 CutShort why outcome shown = ⊥
 
 -- How a call ends. A fault of what is read, and want of memory, come before anything is written, or in the run or the race.

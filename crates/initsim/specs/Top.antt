@@ -1,12 +1,13 @@
 -- What the top call leaves alone, and what it can do.
 use Rattle.std.specs.Prelude.{◌≡◌, ℕ, ⊤, ◌⊎◌, Option, Some, None, IsSomeAnd}
 use Rattle.init_base.specs.Faults.{Rose}
-use Rattle.initsim.specs.Outcome.{Sources}
+use Rattle.initsim.specs.Outcome.{Sources, generated_sources}
 use Rattle.initsim.specs.Script.{HasScript}
+use Rattle.initsim.specs.Soaking.{generated_tree}
 use Rattle.initsim.specs.Store.{HasStore}
 use Rattle.rc_import.specs.World.{World}
 use Rattle.initsim.specs.Trace.{HasTrace}
-use Rattle.initsim.specs.Tree.{IsFitFor}
+use Rattle.initsim.specs.Tree.{IsFitFor, IsWorldOf}
 use Rattle.initsim.specs.declared.status.Status.{Status}
 use Rattle.initsim.specs.declared.status.Status.TheVariants as status
 use Rattle.init_words.specs.declared.form.Form.{Form}
@@ -32,13 +33,21 @@ pub record CanRun (sources : Sources) (world : World) : Type 0 where
   pub world_is_fit : IsFitFor form.Run world
   pub store : IsSomeAnd sources.held HasStore
 
--- What is told can be done. A check asks for the world alone, a race for what a run does, and an audit for that and for a trace.
+-- the generated boot of so many services can be run
+pub record CanSoak (services : ℕ) : Type 0 where
+  pub world : World
+  pub world_is : IsWorldOf (Some (generated_tree services)) world
+  pub can : CanRun (generated_sources services) world
+
+-- What is told can be done. A check asks for the world alone, a race for what a run does, and an audit for that and for a trace; a soak for
+-- what is generated.
 abbrev pub CanBeDone : Option Form → Sources → World → Type 0
 CanBeDone None sources world = ⊥
 CanBeDone (Some form.Run) sources world = CanRun sources world
 CanBeDone (Some form.Race) sources world = CanRun sources world
 CanBeDone (Some form.Check) sources world = IsFitFor form.Check world
 CanBeDone (Some form.Audit) sources world = CanRun sources world × IsSomeAnd sources.trace HasTrace
+CanBeDone (Some (form.Soak services)) sources world = CanSoak services
 
 -- a form that reads a script
 abbrev pub ReadsScript : Option Form → Type 0
@@ -47,3 +56,4 @@ ReadsScript (Some form.Run) = ⊤
 ReadsScript (Some form.Race) = ⊤
 ReadsScript (Some form.Check) = ⊥
 ReadsScript (Some form.Audit) = ⊤
+ReadsScript (Some (form.Soak services)) = ⊥

@@ -72,18 +72,21 @@ HasPolicyFor form.Run tree = HasPolicy tree
 HasPolicyFor form.Race tree = HasPolicy tree
 HasPolicyFor form.Check tree = ⊤
 HasPolicyFor form.Audit tree = HasPolicy tree
+HasPolicyFor (form.Soak services) tree = HasPolicy tree
 
 abbrev pub IsPolicyTooLargeFor : Form → Tree → Limit → ℕ → Type 0
 IsPolicyTooLargeFor form.Run tree limit number = IsPolicyTooLarge tree limit number
 IsPolicyTooLargeFor form.Race tree limit number = IsPolicyTooLarge tree limit number
 IsPolicyTooLargeFor form.Check tree limit number = ⊥
 IsPolicyTooLargeFor form.Audit tree limit number = IsPolicyTooLarge tree limit number
+IsPolicyTooLargeFor (form.Soak services) tree limit number = IsPolicyTooLarge tree limit number
 
 abbrev pub IsBadPolicyFor : Form → Tree → Bool → ℕ → Type 0
 IsBadPolicyFor form.Run tree allow line = IsBadPolicyAt tree allow line
 IsBadPolicyFor form.Race tree allow line = IsBadPolicyAt tree allow line
 IsBadPolicyFor form.Check tree allow line = ⊥
 IsBadPolicyFor form.Audit tree allow line = IsBadPolicyAt tree allow line
+IsBadPolicyFor (form.Soak services) tree allow line = IsBadPolicyAt tree allow line
 
 -- ---- statuses
 

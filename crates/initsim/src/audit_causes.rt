@@ -8,7 +8,8 @@ ghost use Rattle.initsim.specs.Prepared.{IsFit};
 
 use crate::causes::text_at;
 use crate::prepare::{Job, prepare};
-use init_base::{List, MemSink, StdFiles, StdKeeper, StdSource, Text};
+use crate::store::store_below;
+use init_base::{List, MemSink, StdFiles, StdSource, Text};
 use init_core::Core;
 use init_driver::Setup;
 use init_machine::{ClientPart, Diagnostic, Entry, Input, ListStore, Report};
@@ -24,8 +25,6 @@ use trace_causes::{
 use trace_reader::{Piece, Pieces};
 
 const MOST_TRACE_BYTES: usize = 67_108_864;
-
-const STORE: &[u8] = b"/data/property/persist.txt";
 
 /// What is wrong with a trace that is no report's text.
 pub fn bad_trace(rt: &HostRuntime, path: &Text) -> Option<String> {
@@ -105,8 +104,7 @@ fn job_of(rt: &HostRuntime, words: &List<Text>) -> Option<Job>
     let (root, path) = (words.at(1)?, words.at(2)?);
     let mut files = StdFiles::at(rt, rt.alloc(), root).ok()?;
     let mut script = StdSource::at(rt, rt.alloc(), path).ok()?;
-    let store = Text::of(rt.alloc(), STORE).ok()?;
-    let mut keeper = StdKeeper::below(rt, root, &store).ok()?;
+    let mut keeper = store_below(rt, root).ok()?;
     match prepare(rt.alloc(), &mut files, &mut script, &mut keeper) {
         Ok(job) => Some(job),
         Err(_) => None,

@@ -5,11 +5,11 @@ ghost use Rattle.std.specs.Prelude.{◌≤◌, IfSome, length};
 
 use crate::audit_causes::{bad_trace, bad_verdict};
 use crate::status::Status;
+use crate::store::{IMAGE, TEXT, store_below};
 use crate::texts::read_build_files;
-use init_base::{
-    Files, Keeper, List, NoMemory, ReadRefusal, StdFiles, StdKeeper, StdSource, Text, read_all,
-};
+use init_base::{Files, Keeper, List, NoMemory, ReadRefusal, StdFiles, StdSource, Text, read_all};
 use init_machine::Limit;
+use persist_disk::OpenRefusal;
 use prop_rules::boot_view;
 use rc_import::LoadRefusal;
 use refusal_causes::{
@@ -31,7 +31,8 @@ const SYSTEM_BUILD: &[u8] = b"/system/build.prop";
 
 const VENDOR_BUILD: &[u8] = b"/vendor/build.prop";
 
-const STORE: &[u8] = b"/data/property/persist.txt";
+/// What is said behind the reason for which an image is no store.
+const LOOK: &str = "; tools/store looks into it";
 
 /// What is said of a file that passes the limit of its bytes.
 const MOST_BYTES: &str = "has more than 1048576 bytes";
@@ -44,6 +45,30 @@ pub fn tell_cause(rt: &HostRuntime, status: Status, words: &List<Text>, wrote: &
     if let Some(line) = cause_line(rt, status, words, wrote) {
         let _ = eprintln!(rt; "initsim: {line}");
     }
+}
+
+/// Prints what is wrong with the image of the store, where it is no store.
+pub fn tell_bad_image(rt: &HostRuntime, root: &Text) {
+    if let Some(line) = image_line(rt, root) {
+        let _ = eprintln!(rt; "initsim: {line}");
+    }
+}
+
+fn image_line(rt: &HostRuntime, root: &Text) -> Option<String> {
+    let mut store = store_below(rt, root).ok()?;
+    let Err(OpenRefusal::BadSlot { slot, len }) = store.look() else {
+        return None;
+    };
+    let path = below(rt, root, IMAGE)?;
+    let path = ShownPath(path.bytes());
+    if len > MOST_STORE_BYTES as u64 {
+        return format!(in rt.alloc();
+            "{path}: the length in slot {slot} is {len}, and a slot holds {MOST_STORE_BYTES} bytes{LOOK}"
+        ).ok();
+    }
+    format!(in rt.alloc();
+        "{path}: the text in slot {slot} has {len} bytes by its length, and the file ends before{LOOK}"
+    ).ok()
 }
 
 fn cause_line(
@@ -88,11 +113,11 @@ fn bad_allow(rt: &HostRuntime, root: &Text, line: u32) -> Option<String> {
 }
 
 fn bad_store(rt: &HostRuntime, root: &Text, line: u32) -> Option<String> {
-    let path = Text::of(rt.alloc(), STORE).ok()?;
-    let mut keeper = StdKeeper::below(rt, root, &path).ok()?;
-    let text = keeper.load(rt.alloc(), MOST_STORE_BYTES).ok()?;
+    let mut store = store_below(rt, root).ok()?;
+    let text = store.load(rt.alloc(), MOST_STORE_BYTES).ok()?;
     let cause = store_cause(rt.alloc(), text.bytes(), line).ok()??;
-    said(rt, &below(rt, root, STORE)?, line, &cause)
+    let read = if store.store().is_open() { IMAGE } else { TEXT };
+    said(rt, &below(rt, root, read)?, line, &cause)
 }
 
 /// What is wrong in a line of a file.
@@ -138,7 +163,7 @@ fn too_large(rt: &HostRuntime, words: &List<Text>, limit: Limit, number: u64) ->
         Limit::ScriptBytes => passed(rt, script?, "has more than 16777216 bytes"),
         Limit::ScriptLines => passed(rt, script?, "has more than 100000 lines"),
         Limit::Steps => passed(rt, script?, "has more than 1000000 steps"),
-        Limit::StoreBytes => passed(rt, &below(rt, root, STORE)?, "has more than 33554432 bytes"),
+        Limit::StoreBytes => passed(rt, &below(rt, root, TEXT)?, "has more than 33554432 bytes"),
         Limit::FileBytes => long_file(rt, words, root, number),
         Limit::Files | Limit::Names | Limit::RcBytes => unloaded(rt, root, limit, number),
         Limit::TraceBytes => passed(rt, words.at(3)?, "has more than 67108864 bytes"),

@@ -8,13 +8,13 @@ Runs Android's init over a modelled kernel, and writes command by command what i
 
   run ROOT SCRIPT   boots the tree, does what SCRIPT says, and writes the trace
     reads           the rc files of ROOT, the build files, property_contexts, property_allow and
-                    data/property/persist.txt, and SCRIPT
-    writes          the trace to standard output, and data/property/persist.txt where a property is saved
+                    the store in data/property (persist.img, or else persist.txt), and SCRIPT
+    writes          the trace to standard output, and data/property/persist.img where a property is saved
     for example     initsim run examples/device/tree examples/device/script
 
   race ROOT SCRIPT  the same, with init and each client of SCRIPT on a thread of its own, beside each other
     reads           what run reads
-    writes          what run writes, but data/property/persist.txt once, at the end
+    writes          what run writes, but data/property/persist.img once, at the end
     for example     initsim race examples/race/tree examples/race/script
 
   check ROOT        writes the mistakes in the rc files and the build files, one a line
@@ -26,6 +26,11 @@ Runs Android's init over a modelled kernel, and writes command by command what i
     reads           what run reads, and TRACE
     writes          yes, or no WHY NUMBER, to standard output
     for example     initsim audit examples/device/tree examples/device/script examples/device/stdout
+
+  soak N            boots a made-up tree of N services, from 1 to 1000, and does what a made-up script says: to try the program
+    reads           nothing
+    writes          how much there was to do, to standard output
+    for example     initsim soak 3
 
 ROOT is the folder that holds system/etc/init/hw/init.rc; tools/take-product makes one from a product's build.
 The rc files are those of /system, /system_ext, /vendor, /odm and /product (etc/init) with what they import, the

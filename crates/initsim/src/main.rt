@@ -14,30 +14,28 @@ mod noting;
 mod prepare;
 mod racing;
 mod reading;
+mod soaking;
 mod status;
 mod stop;
+mod store;
 mod telling;
 mod texts;
 mod top;
 mod verdict;
 
-use causes::tell_cause;
+use causes::{tell_bad_image, tell_cause};
 use command_line::words_of;
 use help::{is_help, tell_help};
-use init_base::{
-    Fault, Keeper, List, NoMemory, Source, StdFiles, StdKeeper, StdSink, StdSource, Text,
-};
+use init_base::{Fault, Keeper, List, NoMemory, Source, StdFiles, StdSink, StdSource, Text};
 use init_race::OpenGate;
 use noting::Noting;
 use status::Status;
 use std::process::ExitCode;
 use std::sync::Wait;
 use std::thread::Threads;
+use store::{TreeStore, last_fault, store_below};
 use telling::{tell, tell_misuse};
 use top::initsim;
-
-/// Where the persistent store stands below the root.
-const STORE_PATH: &[u8] = b"/data/property/persist.txt";
 
 /// A word by its place. The empty text where there is none.
 fn word_at(words: &List<Text>, at: usize) -> Result<Text, NoMemory> {
@@ -56,9 +54,9 @@ fn run<R: Threads + Wait + Sync>(rt: &HostRuntime, threads: &R) -> Result<Status
     let mut files = StdFiles::at(rt, alloc, &root)?;
     let mut script = StdSource::at(rt, alloc, &path)?;
     let mut trace = StdSource::at(rt, alloc, &word_at(&words, 3)?)?;
-    let mut keeper = StdKeeper::below(rt, &root, &Text::of(alloc, STORE_PATH)?)?;
+    let mut keeper = store_below(rt, &root)?;
     let mut out = Noting::new(alloc, StdSink::stdout(rt));
-    let status = initsim(
+    let (status, _) = initsim(
         threads,
         alloc,
         &words,
@@ -71,6 +69,9 @@ fn run<R: Threads + Wait + Sync>(rt: &HostRuntime, threads: &R) -> Result<Status
     );
     let fault = fault_behind(status, &script, &trace, &files, &keeper, &out.sink);
     let _ = tell(rt, status, fault);
+    if fault.is_none() && keeper.faults() > 0 {
+        tell_bad_image(rt, &root);
+    }
     tell_cause(rt, status, &words, out.first());
     if status == Status::Usage {
         let _ = tell_usage(rt, &words);
@@ -96,7 +97,7 @@ fn fault_behind<'a>(
     script: &'a StdSource<'_, HostRuntime>,
     trace: &'a StdSource<'_, HostRuntime>,
     files: &'a StdFiles<'_, HostRuntime>,
-    keeper: &'a StdKeeper<'_, HostRuntime>,
+    keeper: &'a TreeStore<'_>,
     out: &'a StdSink<'_, HostRuntime>,
 ) -> Option<&'a Fault> {
     let has_script_failed = script.faults() > 0;
@@ -105,7 +106,7 @@ fn fault_behind<'a>(
     match status {
         Status::ReadFault if has_script_failed => script.last_fault(),
         Status::ReadFault if has_trace_failed => trace.last_fault(),
-        Status::ReadFault if has_keeper_failed => keeper.last_fault(),
+        Status::ReadFault if has_keeper_failed => last_fault(keeper),
         Status::ReadFault | Status::NoInit => files.last_fault(),
         Status::WriteFault => out.last_fault(),
         _ => None,

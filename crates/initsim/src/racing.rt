@@ -10,6 +10,7 @@ ghost use Rattle.initsim.specs.Outcome.{Ends, TellRun, Told, shown_as, sources_o
 ghost use Rattle.initsim.specs.Prepared.{IsFit, WritesText, course_of};
 ghost use Rattle.initsim.specs.Racing.{PerformsRace};
 ghost use Rattle.initsim.specs.Script.{ScriptSays};
+ghost use Rattle.initsim.specs.Seats.{GivesOwn, GivesSeat, RaceGives, Records};
 ghost use Rattle.initsim.specs.Store.{StoreSays};
 ghost use Rattle.initsim.specs.Top.{IsAsBefore};
 ghost use Rattle.initsim.specs.Tree.{IsWorldOf, TreeSays};
@@ -20,8 +21,9 @@ use crate::status::Status;
 use init_base::{Files, IoRefusal, Keeper, Sink, Source};
 use init_driver::DriveRefusal;
 use init_machine::Report;
-use init_race::{Gate, race};
+use init_race::{Gate, Raced, race};
 use init_trace::print;
+use property_area::WriterSeat;
 use std::alloc::Global;
 use std::sync::Wait;
 use std::thread::Threads;
@@ -40,6 +42,21 @@ fn write_report<K: Sink>(alloc: Global, report: &Report, out: &mut K) -> Status
     }
 }
 
+/// Writes the report of a race, and gives the seat of its area's writer where it is written whole.
+fn write_raced<K: Sink>(alloc: Global, raced: Raced, out: &mut K) -> (Status, Option<WriterSeat>)
+    ensures writes { WritesText (TextOf raced.report) (K.taken out.old) (K.taken out.new) result.0 }
+    ensures seat { GivesOwn raced.seat result.0 result.1 }
+    ensures counts { (files script trace keeper : ℕ) → AreCounted result.0
+        (counts_of files script trace keeper (K.fault_count out.old))
+        (counts_of files script trace keeper (K.fault_count out.new)) }
+{
+    let Raced { report, seat } = raced;
+    match write_report(alloc, &report, out) {
+        Status::Done => (Status::Done, Some(seat)),
+        other => (other, None),
+    }
+}
+
 /// Races a job: its clients and the main actor act beside each other, and then the text of the report is written.
 fn perform_race<R: Threads + Wait + Sync, P: Keeper, K: Sink, G: Gate>(
     rt: &R,
@@ -48,19 +65,21 @@ fn perform_race<R: Threads + Wait + Sync, P: Keeper, K: Sink, G: Gate>(
     keeper: &mut P,
     out: &mut K,
     gate: &G,
-) -> Status
+) -> (Status, Option<WriterSeat>)
     requires { IsFit job }
     ensures leaves { let seen = seen_by P.held P.TellsCrash P.moment P.MayLeave in
-        PerformsRace (course_of job) (K.taken out.old) (K.taken out.new) (seen keeper.old) (seen keeper.new) result }
-    ensures counts { (files script trace : ℕ) → AreCounted result
+        PerformsRace (course_of job) (K.taken out.old) (K.taken out.new) (seen keeper.old) (seen keeper.new) result.0 }
+    ensures seat { let seen = seen_by P.held P.TellsCrash P.moment P.MayLeave in
+        RaceGives (course_of job) (shown_as (K.taken out.old) (K.taken out.new) (seen keeper.old) (seen keeper.new)) result.0 result.1 }
+    ensures counts { (files script trace : ℕ) → AreCounted result.0
         (counts_of files script trace (P.fault_count keeper.old) (K.fault_count out.old))
         (counts_of files script trace (P.fault_count keeper.new) (K.fault_count out.new)) }
 {
     match race(rt, alloc, job.setup, &job.script, keeper, gate) {
-        Ok(raced) => write_report(alloc, &raced.report, out),
-        Err(DriveRefusal::Keeper) => Status::ReadFault,
+        Ok(raced) => write_raced(alloc, raced, out),
+        Err(DriveRefusal::Keeper) => (Status::ReadFault, None),
         Err(DriveRefusal::Write) => unreachable!(),
-        Err(DriveRefusal::NoMemory) => Status::NoMemory,
+        Err(DriveRefusal::NoMemory) => (Status::NoMemory, None),
     }
 }
 
@@ -73,23 +92,28 @@ pub fn race_script<R: Threads + Wait + Sync, F: Files, S: Source, P: Keeper, K: 
     keeper: &mut P,
     out: &mut K,
     gate: &G,
-) -> Status
-    ensures script { IfSome (S.left script.old) (λ bytes. ScriptSays bytes (S.left script.new) result) }
-    ensures tree { (world : World) → IsWorldOf (F.tree files.old) world → TreeSays Form.Run world result }
-    ensures store { IfSome (P.held keeper.old) (λ held. StoreSays held result) }
+) -> (Status, Option<WriterSeat>)
+    ensures script { IfSome (S.left script.old) (λ bytes. ScriptSays bytes (S.left script.new) result.0) }
+    ensures tree { (world : World) → IsWorldOf (F.tree files.old) world → TreeSays Form.Run world result.0 }
+    ensures store { IfSome (P.held keeper.old) (λ held. StoreSays held result.0) }
     ensures ends { let seen = seen_by P.held P.TellsCrash P.moment P.MayLeave in
         (trace : Option (Items ℕ)) (told : Told) →
         TellRun (sources_of (S.left script.old) (F.tree files.old) (P.held keeper.old) trace) told →
-        Ends (Some Form.Race) told result (shown_as (K.taken out.old) (K.taken out.new) (seen keeper.old) (seen keeper.new)) }
-    ensures counts { (trace : ℕ) → AreCounted result
+        Ends (Some Form.Race) told result.0 (shown_as (K.taken out.old) (K.taken out.new) (seen keeper.old) (seen keeper.new)) }
+    ensures seat { GivesSeat (Some Form.Race) result.0 result.1 }
+    ensures recorded { let seen = seen_by P.held P.TellsCrash P.moment P.MayLeave in
+        (trace : Option (Items ℕ)) (told : Told) →
+        TellRun (sources_of (S.left script.old) (F.tree files.old) (P.held keeper.old) trace) told →
+        Records (Some Form.Race) told result.0 (shown_as (K.taken out.old) (K.taken out.new) (seen keeper.old) (seen keeper.new)) result.1 }
+    ensures counts { (trace : ℕ) → AreCounted result.0
         (counts_of (F.fault_count files.old) (S.fault_count script.old) trace (P.fault_count keeper.old) (K.fault_count out.old))
         (counts_of (F.fault_count files.new) (S.fault_count script.new) trace (P.fault_count keeper.new) (K.fault_count out.new)) }
-    ensures unwritten { IsAsBefore (K.taken out.old) (K.taken out.new) result (P.fault_count keeper.old) (P.fault_count keeper.new) }
-    ensures unkept { IsAsBefore (P.held keeper.old) (P.held keeper.new) result (P.fault_count keeper.old) (P.fault_count keeper.new) }
-    ensures formed { IsRunStatus result }
+    ensures unwritten { IsAsBefore (K.taken out.old) (K.taken out.new) result.0 (P.fault_count keeper.old) (P.fault_count keeper.new) }
+    ensures unkept { IsAsBefore (P.held keeper.old) (P.held keeper.new) result.0 (P.fault_count keeper.old) (P.fault_count keeper.new) }
+    ensures formed { IsRunStatus result.0 }
 {
     match prepare(alloc, files, script, keeper) {
         Ok(job) => perform_race(rt, alloc, job, keeper, out, gate),
-        Err(stop) => stop.status(),
+        Err(stop) => (stop.status(), None),
     }
 }

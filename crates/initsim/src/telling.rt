@@ -2,7 +2,7 @@
 
 use crate::status::Status;
 use init_base::{Fault, List, Text};
-use init_words::{Form, Misuse, Place, WordFault, misuse_of};
+use init_words::{FormName, Misuse, Place, WordFault, misuse_of};
 use persist_file::StoreCause;
 use refusal_causes::ShownPath;
 use std::fmt;
@@ -21,7 +21,7 @@ fn tell_status(rt: &HostRuntime, status: Status) -> std::io::Result<()> {
     match status {
         Status::Done => Ok(()),
         Status::Usage => eprintln!(rt;
-            "initsim: usage: run ROOT SCRIPT | race ROOT SCRIPT | check ROOT | audit ROOT SCRIPT TRACE"
+            "initsim: usage: run ROOT SCRIPT | race ROOT SCRIPT | check ROOT | soak N | audit ROOT SCRIPT TRACE"
         ),
         Status::ReadFault => eprintln!(rt; "initsim: read fault"),
         Status::WriteFault => eprintln!(rt; "initsim: write fault"),
@@ -74,6 +74,9 @@ pub fn tell_misuse(rt: &HostRuntime, words: &List<Text>) -> std::io::Result<()> 
         Some(Misuse::BadWord { place, fault }) => {
             eprintln!(rt; "initsim: {} {}", name_of(place), said_of(fault))
         }
+        Some(Misuse::BadNumber) => {
+            eprintln!(rt; "initsim: N is no number from 1 to 1000 without leading zeros")
+        }
         None => Ok(()),
     }
 }
@@ -90,12 +93,13 @@ fn tell_unknown(rt: &HostRuntime, words: &List<Text>) -> std::io::Result<()> {
     }
 }
 
-fn tell_count(rt: &HostRuntime, form: Form, given: usize) -> std::io::Result<()> {
+fn tell_count(rt: &HostRuntime, form: FormName, given: usize) -> std::io::Result<()> {
     let taken = match form {
-        Form::Run => "run takes 2 words",
-        Form::Race => "race takes 2 words",
-        Form::Check => "check takes 1 word",
-        Form::Audit => "audit takes 3 words",
+        FormName::Run => "run takes 2 words",
+        FormName::Race => "race takes 2 words",
+        FormName::Check => "check takes 1 word",
+        FormName::Audit => "audit takes 3 words",
+        FormName::Soak => "soak takes 1 word",
     };
     match given {
         0 => eprintln!(rt; "initsim: {taken}, and none is given"),
@@ -110,6 +114,7 @@ fn name_of(place: Place) -> &'static str {
         Place::Root => "ROOT",
         Place::Script => "SCRIPT",
         Place::Trace => "TRACE",
+        Place::Number => "N",
     }
 }
 

@@ -78,7 +78,7 @@ fn put_fault(line: &mut Vec<u8>, why: Why, number: u64) -> Result<(), NoMemory>
 }
 
 /// Writes all of the bytes.
-fn send<K: Sink>(alloc: Global, out: &mut K, bytes: &[u8]) -> Result<(), IoRefusal>
+pub fn send<K: Sink>(alloc: Global, out: &mut K, bytes: &[u8]) -> Result<(), IoRefusal>
     ensures written { Writes (K.taken out.old) (K.taken out.new) result bytes.now }
     ensures cause { Counted (write_failed result) (K.fault_count out.old) (K.fault_count out.new) }
 {

@@ -2,10 +2,11 @@
 
 use init_base::{IoRefusal, Keeper, List, MemKeeper, SteadyKeeper, Text};
 use persist_disk::{
-    Disk, DiskKeeper, DiskStep, MemDisk, OpenRefusal, ReopenRefusal, StdDisk, reopen,
+    Disk, DiskKeeper, DiskStep, LateKeeper, MemDisk, OpenRefusal, ReopenRefusal, StdDisk, reopen,
 };
 use persist_file::StoreCause;
 use std::alloc::Global;
+use std::fs;
 use std::process::Abort;
 use std::test::Fail;
 
@@ -58,6 +59,10 @@ fn is_write(step: Option<&DiskStep>, place: u64, written: &[u8]) -> bool {
 
 fn is_sync(step: Option<&DiskStep>) -> bool {
     matches!(step, Some(DiskStep::Sync))
+}
+
+fn writes_in(steps: &[DiskStep]) -> usize {
+    steps.iter().filter(|step| !is_sync(Some(*step))).count()
 }
 
 /// A replace writes a slot of 18 bytes, syncs, writes the gate and syncs; a crash before the gate leaves the empty text.
@@ -168,5 +173,41 @@ fn store_over_a_file(rt: HostRuntime) -> Result<(), Fail> {
     let pairs = reopen(alloc, StdDisk::at(&rt, alloc, &path)?, SLOT)?;
     assert_eq!(rt; pairs.len(), 1);
     assert!(rt; pairs.items()[0].value.is(b"1"));
+    Ok(())
+}
+
+#[test]
+fn late_store_writes_nothing_before_a_text(rt: HostRuntime) -> Result<(), Fail> {
+    let alloc = rt.alloc();
+    let former = SteadyKeeper::new(Text::of(alloc, b"persist 2\n")?);
+    let disk = disk_of(alloc, b"", List::new(alloc))?;
+    let mut store = LateKeeper::new(DiskKeeper::new(disk, SLOT, former));
+    assert!(rt;
+        store
+            .load(alloc, LIMIT)
+            .is_ok_and(|held| held.is(b"persist 2\n"))
+    );
+    assert_eq!(rt; writes_in(store.store().disk().steps()), 0);
+    assert!(rt; store.replace(alloc, NEW).is_ok());
+    // The disk is formatted, and then come the slot and the gate.
+    assert_eq!(rt; writes_in(store.store().disk().steps()), 3);
+    assert!(rt; store.load(alloc, LIMIT).is_ok_and(|held| held.is(NEW)));
+    Ok(())
+}
+
+#[test]
+fn late_store_in_a_missing_folder(rt: HostRuntime) -> Result<(), Fail> {
+    let alloc = rt.alloc();
+    let _ = fs::remove_dir_all(&rt, "late");
+    let root = Text::of(alloc, b".")?;
+    let disk = StdDisk::below(&rt, alloc, &root, &Text::of(alloc, b"/late/store.img")?)?;
+    let former = SteadyKeeper::new(Text::empty());
+    let mut store = LateKeeper::new(DiskKeeper::new(disk, SLOT, former));
+    assert!(rt; store.load(alloc, LIMIT).is_ok_and(|held| held.is(b"")));
+    assert!(rt; fs::metadata(&rt, "late").is_err());
+    assert!(rt; store.replace(alloc, NEW).is_ok());
+    assert!(rt; fs::metadata(&rt, "late/store.img").is_ok());
+    assert!(rt; store.load(alloc, LIMIT).is_ok_and(|held| held.is(NEW)));
+    assert_eq!(rt; store.faults(), 0);
     Ok(())
 }

@@ -4,3 +4,5 @@ pub mod Steps
 pub mod Standing
 pub mod Texts
 pub mod Recording
+pub mod Finds
+pub mod FirstTexts

@@ -35,6 +35,15 @@ held_put (Some held) None now silent size now_size chosen (Ok done) text stands 
 held_put (Some held) (Some image) now silent size now_size chosen (Ok done) text stands puts fits bound silent_is size_is none =
     told_put silent size now_size (replaced size chosen.slot image text) text now silent_is size_is puts (opens_replaced size image text chosen.slot stands.store stands.slot_is fits bound).0
 
+-- so does one behind a first opening
+pub first_put : (content mid now old : Option (List ℕ)) (silent : Bool) (was_size size now_size : ℕ) (opened chosen : Chosen) (result : Result ⊤ IoRefusal) (text : List ℕ) → IfSome content (λ image. length image < 16 → FormatsAs was_size content mid old (Ok opened))
+    → IfSome mid (λ image. IsChosen size image chosen) → Puts size chosen.slot mid now result text → length text + 8 ≤ size → size ≤ 33554440 → OnOk result (silent ≡ false) → now_size ≡ size
+    → IfSome content (λ image. length image < 16 → HoldsNew old (told_text silent now_size now) result text)
+first_put None mid now old silent was_size size now_size opened chosen result text formats stands puts fits bound silent_is size_is = tt
+first_put (Some image) mid now None silent was_size size now_size opened chosen result text formats stands puts fits bound silent_is size_is = λ few. tt
+first_put (Some image) mid now (Some held) silent was_size size now_size opened chosen result text formats stands puts fits bound silent_is size_is =
+    λ few. let is = (formats few).1 in held_put (Some held) mid now silent size now_size chosen result text stands puts fits bound silent_is size_is (λ none. cc (is, none))
+
 -- a text that a crash in a replace leaves is one that a crash could leave before, or the new one
 pub either_text : (content : Option (List ℕ)) (began later size : ℕ) (chosen : Chosen) (before middle after : ℕ → List ℕ → Type 0) (text : List ℕ) → began ≤ later → LeavesNoOther began before middle → ReachesBack middle
     → MayLeaveRead content (middle later) → IfSome content (λ image. IsChosen size image chosen) → IfSome content (λ image. LeavesEither size later middle after image text)

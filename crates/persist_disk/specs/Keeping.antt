@@ -1,5 +1,5 @@
 -- A store on a disk, as a keeper of its text.
-use Rattle.std.specs.Prelude.{◌≡◌, ⊤, ℕ, ◌+◌, ◌-◌, ◌^◌, ◌<◌, ◌≤◌, min, Bool, true, false, List, length, Option, Some, None, Result, Ok, Err, MatchOption, IfSome, OnSome, nat_le, if◌then◌else◌}
+use Rattle.std.specs.Prelude.{◌≡◌, ⊤, ℕ, ◌+◌, ◌-◌, ◌^◌, ◌<◌, ◌≤◌, min, Bool, true, false, List, length, Option, Some, None, Result, Ok, Err, MatchOption, IfSome, OnSome, is_some, nat_le, if◌then◌else◌}
 use Rattle.init_base.specs.Memory.{one_more}
 use Rattle.init_base.specs.declared.outside.refusal.ReadRefusal.{ReadRefusal}
 use Rattle.init_base.specs.declared.outside.refusal.ReadRefusal.TheVariants as reading
@@ -61,6 +61,24 @@ OpensAs size image old (Err TooLarge) = (length image < 16) × IfSome old (λ te
 OpensAs size image old (Err (BadSlot number len)) = IsBad size image number len
 OpensAs size image old (Err NoMemory) = ⊤
 
+-- what looking for the store answers: its chosen slot, or none of a disk of fewer than 16 bytes
+abbrev pub FindsAs : ℕ → List ℕ → Result (Option Chosen) OpenRefusal → Type 0
+FindsAs size image (Ok None) = length image < 16
+FindsAs size image (Ok (Some chosen)) = IsStore size image
+FindsAs size image (Err Failed) = ⊤
+FindsAs size image (Err TooLarge) = ⊥
+FindsAs size image (Err (BadSlot number len)) = IsBad size image number len
+FindsAs size image (Err NoMemory) = ⊤
+
+-- whether the disk holds a store
+abbrev pub LooksAs : ℕ → List ℕ → Result Bool OpenRefusal → Type 0
+LooksAs size image (Ok false) = length image < 16
+LooksAs size image (Ok true) = IsStore size image
+LooksAs size image (Err Failed) = ⊤
+LooksAs size image (Err TooLarge) = ⊥
+LooksAs size image (Err (BadSlot number len)) = IsBad size image number len
+LooksAs size image (Err NoMemory) = ⊤
+
 -- whether opening answered a fault of the disk or of the old keeper
 abbrev pub open_failed : {T : Type 0} → Result T OpenRefusal → Bool
 open_failed (Ok value) = false
@@ -84,6 +102,14 @@ IsOpenAfter (Err Failed) before now = now ≡ false
 IsOpenAfter (Err TooLarge) before now = now ≡ true → before ≡ true
 IsOpenAfter (Err (BadSlot number len)) before now = now ≡ before
 IsOpenAfter (Err NoMemory) before now = now ≡ true → before ≡ true
+
+-- whether an open stands after looking for the store: where one is found
+abbrev pub IsOpenAfterFind : Result (Option Chosen) OpenRefusal → Bool → Bool → Type 0
+IsOpenAfterFind (Ok found) before now = now ≡ is_some found
+IsOpenAfterFind (Err Failed) before now = now ≡ false
+IsOpenAfterFind (Err TooLarge) before now = now ≡ true → before ≡ true
+IsOpenAfterFind (Err (BadSlot number len)) before now = now ≡ before
+IsOpenAfterFind (Err NoMemory) before now = now ≡ true → before ≡ true
 
 -- what is told after opening: the text in the chosen slot, or the old one of a disk of fewer than 16 bytes
 abbrev pub opened_text : ℕ → List ℕ → Option (List ℕ) → Option (List ℕ)
@@ -120,6 +146,15 @@ CanPut size image old text = (16 ≤ length image → IsStore size image) × (le
 -- the text that a store tells
 abbrev pub stored_text : {D P : Type 0} → (D → Option (List ℕ)) → DiskStore D P → Option (List ℕ)
 stored_text content store = told_text store.is_silent store.slot (content store.disk)
+
+-- the text that is told of a disk, or of the keeper that it is formatted from, where it is told to hold no store yet
+abbrev pub first_text : Bool → ℕ → Option (List ℕ) → Option (List ℕ) → Option (List ℕ)
+first_text silent size None old = None
+first_text silent size (Some image) old = (if nat_le 16 (length image) then told_text silent size (Some image) else old)
+
+-- the text that a store tells which is formatted late
+abbrev pub late_text : {D P : Type 0} → (D → Option (List ℕ)) → (P → Option (List ℕ)) → DiskStore D P → Option (List ℕ)
+late_text content held store = first_text store.is_silent store.slot (content store.disk) (held store.former)
 
 -- a store tells what a crash leaves where its disk does, and is formatted
 abbrev pub StoreTells : {D P : Type 0} → (D → Type 0) → (D → Option (List ℕ)) → DiskStore D P → Type 0

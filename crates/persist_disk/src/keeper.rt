@@ -11,7 +11,8 @@ ghost use Rattle.persist_disk.specs.Image.{text_of, IsStore};
 ghost use Rattle.persist_disk.specs.Replacing.{LeavesEither, Puts};
 ghost use Rattle.persist_disk.specs.Keeping.{open_after, open_failed, opened_text, own_after_open, unopened};
 ghost use Rattle.persist_disk.specs.Keeping.{outside_faults, store_faults, stored_text, StoreLeaves, StoreTells};
-ghost use Rattle.persist_disk.specs.Keeping.{CanPut, FormatsAs, IsFormatted, IsOpenAfter, IsOpenAfterLoad, OpensAs, StandsOn, TellsText};
+ghost use Rattle.persist_disk.specs.Keeping.{CanPut, FindsAs, FormatsAs, IsFormatted, IsOpenAfter, IsOpenAfterFind, IsOpenAfterLoad};
+ghost use Rattle.persist_disk.specs.Keeping.{LooksAs, OpensAs, StandsOn, TellsText};
 ghost use Rattle.persist_disk.specs.Keeping.{told_text};
 
 use crate::disk::Disk;
@@ -80,6 +81,20 @@ impl<D: Disk, P: Keeper> DiskKeeper<D, P> {
         &self.disk
     }
 
+    /// The keeper that the disk is formatted from.
+    pub fn former(&self) -> &P
+        ensures { result.now ≡ self.now.former }
+    {
+        &self.former
+    }
+
+    /// Whether an open stands.
+    pub fn is_open(&self) -> bool
+        ensures { result ≡ self.now.is_open }
+    {
+        self.chosen.is_some()
+    }
+
     /// Opens the store: what was written is safe from then on, and the gate's slot is chosen. A disk of fewer than 16 bytes
     /// is formatted with the text of the keeper that `new` was given; of a crash in that nothing is promised.
     ///
@@ -113,7 +128,55 @@ impl<D: Disk, P: Keeper> DiskKeeper<D, P> {
         Ok(())
     }
 
-    /// Finds the chosen slot, once what was written is safe, or formats the disk.
+    /// Whether the disk holds a store, which is opened then. A disk of fewer than 16 bytes stays as it is.
+    ///
+    /// `BadSlot` as at [`DiskKeeper::open`]. It is never `TooLarge`.
+    pub fn look(&mut self) -> Result<bool, OpenRefusal>
+        ensures answer { IfSome (D.content self.old.disk) (λ image. LooksAs self.old.slot image result) }
+        ensures limit { result ≢ Err OpenRefusal.TooLarge }
+        ensures reads { OnlyReads D.content D.TellsCrash D.moment D.MayLeave self.old.disk self.new.disk }
+        ensures open { IfOk result (λ holds. self.new.is_open ≡ holds) }
+        ensures cause { Counted (open_failed result)
+            (outside_faults D.fault_count P.fault_count self.old)
+            (outside_faults D.fault_count P.fault_count self.new) }
+        ensures own { self.new.own_faults ≡ own_after_open result self.old.own_faults }
+        ensures silent { self.new.is_silent ≡ self.old.is_silent }
+        ensures former { self.new.former ≡ self.old.former }
+        ensures slot { self.new.slot ≡ self.old.slot }
+    {
+        match self.find_now() {
+            Ok(Some(_)) => Ok(true),
+            Ok(None) => Ok(false),
+            Err(refusal) => Err(refusal),
+        }
+    }
+
+    /// The text, as `load` gives it. But a disk of fewer than 16 bytes stays as it is: what is answered is then the text of the
+    /// keeper that `new` was given, and no open stands.
+    pub fn peek(&mut self, alloc: Global, limit: usize) -> Result<Text, ReadRefusal>
+        ensures text { LoadsHeld (stored_text D.content self.old) limit result }
+        ensures former { IfSome (D.content self.old.disk) (λ image. length image < 16
+            → LoadsHeld (P.held self.old.former) limit result) }
+        ensures bound { IfOk result (λ text. length text ≤ limit) }
+        ensures reads { OnlyReads D.content D.TellsCrash D.moment D.MayLeave self.old.disk self.new.disk }
+        ensures cause { Counted (read_failed result)
+            (store_faults D.fault_count P.fault_count self.old)
+            (store_faults D.fault_count P.fault_count self.new) }
+        ensures held { P.held self.new.former ≡ P.held self.old.former }
+        ensures silent { self.new.is_silent ≡ self.old.is_silent }
+        ensures slot { self.new.slot ≡ self.old.slot }
+    {
+        match self.find_standing() {
+            Ok(Some(chosen)) => self.read_chosen(alloc, chosen, limit),
+            Ok(None) => self.former.load(alloc, limit),
+            Err(OpenRefusal::TooLarge) => Err(ReadRefusal::TooLarge),
+            Err(OpenRefusal::NoMemory) => Err(ReadRefusal::NoMemory),
+            Err(_) => Err(ReadRefusal::Failed),
+        }
+    }
+
+    /// Finds the chosen slot, or formats the disk.
+    #[tactic(auto, using(crate::proofs::Finds::opens_refused))]
     fn open_now(&mut self, alloc: Global) -> Result<Chosen, OpenRefusal>
         ensures answer { IfSome (D.content self.old.disk) (λ image. OpensAs self.old.slot image (P.held self.old.former) result) }
         ensures stands { IfOk result (StandsOn D.content D.TellsCrash D.moment D.MayLeave self.new.disk self.new.slot) }
@@ -130,16 +193,43 @@ impl<D: Disk, P: Keeper> DiskKeeper<D, P> {
         ensures held { told_text self.new.is_silent self.old.slot (D.content self.new.disk) ≡ stored_text D.content self.old }
         ensures slot { self.new.slot ≡ self.old.slot }
     {
+        match self.find_now() {
+            Ok(Some(chosen)) => Ok(chosen),
+            Ok(None) => self.format_now(alloc),
+            Err(refusal) => Err(refusal),
+        }
+    }
+
+    /// The chosen slot of the store that the disk holds, once what was written is safe. None where the disk has fewer than 16
+    /// bytes; it stays as it is, and no open stands.
+    fn find_now(&mut self) -> Result<Option<Chosen>, OpenRefusal>
+        ensures answer { IfSome (D.content self.old.disk) (λ image. FindsAs self.old.slot image result) }
+        ensures limit { result ≢ Err OpenRefusal.TooLarge }
+        ensures stands { IfOk result (λ found.
+            IfSome found (StandsOn D.content D.TellsCrash D.moment D.MayLeave self.new.disk self.new.slot)) }
+        ensures reads { OnlyReads D.content D.TellsCrash D.moment D.MayLeave self.old.disk self.new.disk }
+        ensures open { IsOpenAfterFind result self.old.is_open self.new.is_open }
+        ensures cause { Counted (open_failed result)
+            (outside_faults D.fault_count P.fault_count self.old)
+            (outside_faults D.fault_count P.fault_count self.new) }
+        ensures own { self.new.own_faults ≡ own_after_open result self.old.own_faults }
+        ensures silent { self.new.is_silent ≡ self.old.is_silent }
+        ensures former { self.new.former ≡ self.old.former }
+        ensures slot { self.new.slot ≡ self.old.slot }
+    {
         match find_synced(&mut self.disk, self.slot) {
             Ok(Found::Store(chosen)) => {
                 self.chosen = Some(chosen);
-                Ok(chosen)
+                Ok(Some(chosen))
             }
             Ok(Found::Bad { slot, len }) => {
                 self.own_faults = self.own_faults.saturating_add(1);
                 Err(OpenRefusal::BadSlot { slot, len })
             }
-            Ok(Found::Nothing) => self.format_now(alloc),
+            Ok(Found::Nothing) => {
+                self.chosen = None;
+                Ok(None)
+            }
             Err(IoRefusal::Failed) => {
                 self.chosen = None;
                 Err(OpenRefusal::Failed)
@@ -180,6 +270,8 @@ impl<D: Disk, P: Keeper> DiskKeeper<D, P> {
         ensures cause { Counted (open_failed result)
             (outside_faults D.fault_count P.fault_count self.old)
             (outside_faults D.fault_count P.fault_count self.new) }
+        ensures formats { IfSome (D.content self.old.disk) (λ image. length image < 16
+            → FormatsAs self.old.slot (D.content self.old.disk) (D.content self.new.disk) (P.held self.old.former) result) }
         ensures tells { D.TellsCrash self.old.disk ↔ D.TellsCrash self.new.disk }
         ensures own { self.new.own_faults ≡ own_after_open result self.old.own_faults }
         ensures held { told_text self.new.is_silent self.old.slot (D.content self.new.disk) ≡ stored_text D.content self.old }
@@ -191,22 +283,51 @@ impl<D: Disk, P: Keeper> DiskKeeper<D, P> {
         }
     }
 
-    /// The text in the slot that is chosen. A disk that gives fewer bytes than it had as it was opened is a fault of the
-    /// store.
-    fn read_chosen(&mut self, alloc: Global, chosen: Chosen) -> Result<Text, ReadRefusal>
+    /// The chosen slot of the store that the disk holds. Where no open stands, it is found as by `find_now`.
+    fn find_standing(&mut self) -> Result<Option<Chosen>, OpenRefusal>
+        ensures answer { IfSome (D.content self.old.disk) (λ image. FindsAs self.old.slot image result) }
+        ensures limit { result ≢ Err OpenRefusal.TooLarge }
+        ensures stands { IfOk result (λ found.
+            IfSome found (StandsOn D.content D.TellsCrash D.moment D.MayLeave self.new.disk self.new.slot)) }
+        ensures reads { OnlyReads D.content D.TellsCrash D.moment D.MayLeave self.old.disk self.new.disk }
+        ensures cause { Counted (open_failed result)
+            (outside_faults D.fault_count P.fault_count self.old)
+            (outside_faults D.fault_count P.fault_count self.new) }
+        ensures own { self.new.own_faults ≡ own_after_open result self.old.own_faults }
+        ensures silent { self.new.is_silent ≡ self.old.is_silent }
+        ensures former { self.new.former ≡ self.old.former }
+        ensures slot { self.new.slot ≡ self.old.slot }
+    {
+        match self.chosen {
+            Some(chosen) => Ok(Some(chosen)),
+            None => self.find_now(),
+        }
+    }
+
+    /// The text in the slot that is chosen. `TooLarge` exactly where it has more than `limit` bytes. A disk that gives fewer
+    /// bytes than it had as it was opened is a fault of the store.
+    fn read_chosen(
+        &mut self,
+        alloc: Global,
+        chosen: Chosen,
+        limit: usize,
+    ) -> Result<Text, ReadRefusal>
         requires { StandsOn D.content D.TellsCrash D.moment D.MayLeave self.old.disk self.old.slot chosen }
-        ensures text { IfSome (D.content self.old.disk) (λ image. IfOk result (λ text. text ≡ text_of self.old.slot image)) }
-        ensures len { IfOk result (λ text. length text ≡ chosen.len) }
-        ensures limit { result ≢ Err ReadRefusal.TooLarge }
+        ensures text { IfSome (D.content self.old.disk) (λ image. LoadsHeld (Some (text_of self.old.slot image)) limit result) }
+        ensures bound { IfOk result (λ text. length text ≤ limit) }
         ensures reads { OnlyReads D.content D.TellsCrash D.moment D.MayLeave self.old.disk self.new.disk }
         ensures cause { Counted (read_failed result)
             (store_faults D.fault_count P.fault_count self.old)
             (store_faults D.fault_count P.fault_count self.new) }
         ensures open { self.new.is_open ≡ open_after (read_failed result) self.old.is_open }
         ensures silent { self.new.is_silent ≡ self.old.is_silent }
+        ensures former { self.new.former ≡ self.old.former }
         ensures own { IfSome (D.content self.old.disk) (λ _. self.new.own_faults ≡ self.old.own_faults) }
         ensures slot { self.new.slot ≡ self.old.slot }
     {
+        if chosen.len > limit as u64 {
+            return Err(ReadRefusal::TooLarge);
+        }
         let at = chosen.slot.place(self.slot) + LENGTH;
         match read_text(&mut self.disk, alloc, at, chosen.len) {
             Ok(Some(text)) => return Ok(text),
@@ -296,14 +417,13 @@ impl<D: Disk, P: Keeper> Keeper for DiskKeeper<D, P> {
             Err(OpenRefusal::NoMemory) => return Err(ReadRefusal::NoMemory),
             Err(_) => return Err(ReadRefusal::Failed),
         };
-        if chosen.len > limit as u64 {
-            return Err(ReadRefusal::TooLarge);
-        }
-        self.read_chosen(alloc, chosen)
+        self.read_chosen(alloc, chosen, limit)
     }
 
     fn replace(&mut self, alloc: Global, content: &[u8]) -> Result<(), IoRefusal>
         ensures held { HoldsNew (stored_text D.content self.old) (stored_text D.content self.new) result content.now }
+        ensures first { IfSome (D.content self.old.disk) (λ image. length image < 16
+            → HoldsNew (P.held self.old.former) (stored_text D.content self.new) result content.now) }
         ensures cause { Counted (write_failed result)
             (store_faults D.fault_count P.fault_count self.old)
             (store_faults D.fault_count P.fault_count self.new) }

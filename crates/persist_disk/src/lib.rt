@@ -2,7 +2,9 @@
 #![tactic(auto)]
 
 mod disk;
+mod finding;
 mod keeper;
+mod late;
 mod laws;
 mod layout;
 mod mem_disk;
@@ -13,6 +15,7 @@ mod std_disk;
 
 pub use disk::Disk;
 pub use keeper::DiskKeeper;
+pub use late::LateKeeper;
 pub use laws::each_disk_opens_to_one_text;
 pub use mem_disk::{DiskStep, MemDisk};
 pub use refusal::{OpenRefusal, ReopenRefusal};

@@ -1,28 +1,37 @@
 //! A disk over a file of the machine.
 
-ghost use Rattle.std.specs.Prelude.{◌≡◌, ◌≤◌, None, ℕ, List, Bool, IfOk, is_err, length};
-ghost use Rattle.std.specs.Result.{result_ok};
+ghost use Rattle.std.specs.Prelude.{◌≡◌, ◌≤◌, true, None, ℕ, List, IfOk, length};
 ghost use Rattle.std.specs.Io.{ReadsAtMost};
-ghost use Rattle.init_base.specs.Faults.{Counted};
+ghost use Rattle.init_base.specs.Faults.{Counted, write_failed};
 
 use crate::disk::Disk;
+use crate::finding::{make_whole, open_found};
 use init_base::{Failed, Fault, IoRefusal, NoMemory, Text};
 use std::alloc::Global;
 use std::fs;
-use std::fs::{OpenFile, OpenOptions};
+use std::fs::OpenFile;
 use std::io::{Error, ErrorKind, Read, Seek, SeekFrom, Write};
 use std::marker::Model;
 
 /// How often a read is tried again that a signal interrupted.
 const MAX_TRIES: usize = 64;
 
-/// The bytes of a file of the machine, which is made where it is absent. It is opened at the first call, and tells nothing
-/// of what it holds, nor of a crash.
+/// The bytes of a file below a folder of the machine, its root. The file's path is resolved as on a device whose root directory
+/// that folder is: no link and no `..` leads out of it. It is opened at the first call, and to be written at the first write.
+///
+/// An absent file has no bytes. The first write makes it, with the folders that lack on the way to it: it appears with what was
+/// written, whole and safe. It tells nothing of what it holds, nor of a crash.
 #[derive(Drop)]
 pub struct StdDisk<'a, R: fs::Files> {
     rt: &'a R,
+    alloc: Global,
+    root: Text,
     path: Text,
     file: Option<R::File>,
+    /// Whether the file was opened to be written.
+    is_written: bool,
+    /// Whether there was no file when it was looked for last, which the next sync does anew.
+    is_absent: bool,
     faults: u64,
     last_fault: Option<Fault>,
 }
@@ -36,14 +45,42 @@ impl<'a, R: fs::Files> Model for StdDisk<'a, R> {
 }
 
 impl<'a, R: fs::Files> StdDisk<'a, R> {
-    /// The file with this path of the machine.
-    pub fn at(rt: &'a R, _alloc: Global, path: &Text) -> Result<StdDisk<'a, R>, NoMemory>
+    /// The file with this path of the machine, below its folder.
+    pub fn at(rt: &'a R, alloc: Global, path: &Text) -> Result<StdDisk<'a, R>, NoMemory>
+        ensures { IfOk result (λ disk. disk ≡ 0) }
+    {
+        let bytes = path.bytes();
+        match bytes.iter().rposition(|byte| *byte == b'/') {
+            Some(at) => {
+                let folder = Text::of(alloc, &bytes[..at])?;
+                StdDisk::below(rt, alloc, &folder, &Text::of(alloc, &bytes[at..])?)
+            }
+            None => StdDisk::below(
+                rt,
+                alloc,
+                &Text::of(alloc, b".")?,
+                &joined(alloc, b"/", bytes)?,
+            ),
+        }
+    }
+
+    /// The file with this path of the tree below a folder of the machine.
+    pub fn below(
+        rt: &'a R,
+        alloc: Global,
+        root: &Text,
+        path: &Text,
+    ) -> Result<StdDisk<'a, R>, NoMemory>
         ensures { IfOk result (λ disk. disk ≡ 0) }
     {
         Ok(StdDisk {
             rt,
+            alloc,
+            root: root.share()?,
             path: path.share()?,
             file: None,
+            is_written: false,
+            is_absent: false,
             faults: 0,
             last_fault: None,
         })
@@ -54,13 +91,34 @@ impl<'a, R: fs::Files> StdDisk<'a, R> {
         self.last_fault.as_ref()
     }
 
-    /// The open file, which is taken out of its place.
-    fn take_file(&mut self) -> Result<R::File, Error>
+    /// The open file, which is taken out of its place. None where there is none.
+    fn take_file(&mut self) -> Result<Option<R::File>, Error>
         ensures { self.new ≡ self.old }
     {
         match self.file.take() {
-            Some(file) => Ok(file),
-            None => open_file(self.rt, &self.path),
+            Some(file) => Ok(Some(file)),
+            None if self.is_absent => Ok(None),
+            None => self.find(),
+        }
+    }
+
+    /// Looks for the file, and opens it to be read.
+    fn find(&mut self) -> Result<Option<R::File>, Error>
+        ensures { self.new ≡ self.old }
+    {
+        let found = open_found(self.rt, self.alloc, &self.root, &self.path, false)?;
+        self.is_written = false;
+        self.is_absent = found.is_none();
+        Ok(found)
+    }
+
+    /// The file, opened to be written. None where there is none.
+    fn take_written(&mut self) -> Result<Option<R::File>, Error>
+        ensures { self.new ≡ self.old }
+    {
+        match self.file.take() {
+            Some(file) if self.is_written => Ok(Some(file)),
+            _ => open_found(self.rt, self.alloc, &self.root, &self.path, true),
         }
     }
 
@@ -69,7 +127,9 @@ impl<'a, R: fs::Files> StdDisk<'a, R> {
         ensures bound { ReadsAtMost result buf.new }
         ensures count { self.new ≡ self.old }
     {
-        let mut file = self.take_file()?;
+        let Some(mut file) = self.take_file()? else {
+            return Ok(0);
+        };
         file.seek(SeekFrom::Start(at))?;
         let count = fill(&mut file, buf)?;
         self.file = Some(file);
@@ -80,39 +140,62 @@ impl<'a, R: fs::Files> StdDisk<'a, R> {
     fn try_write(&mut self, at: u64, bytes: &[u8]) -> Result<(), Error>
         ensures { self.new ≡ self.old }
     {
-        let mut file = self.take_file()?;
+        let Some(mut file) = self.take_written()? else {
+            return self.make(at, bytes);
+        };
         file.seek(SeekFrom::Start(at))?;
         file.write_all(bytes)?;
+        self.is_written = true;
         self.file = Some(file);
         Ok(())
+    }
+
+    /// Makes the file with these bytes at a place, up to which zeros lead.
+    fn make(&mut self, at: u64, bytes: &[u8]) -> Result<(), Error>
+        ensures { self.new ≡ self.old }
+    {
+        let mut content = Vec::from_elem(self.alloc, 0, at as usize)?;
+        content.extend_from_slice(bytes)?;
+        self.is_absent = false;
+        make_whole(self.rt, self.alloc, &self.root, &self.path, &content)
     }
 
     /// Syncs without counting a fault.
     fn try_sync(&mut self) -> Result<(), Error>
         ensures { self.new ≡ self.old }
     {
-        let file = self.take_file()?;
+        self.is_absent = false;
+        let Some(file) = self.take_file()? else {
+            return Ok(());
+        };
         file.sync_all()?;
         self.file = Some(file);
         Ok(())
     }
 
-    /// Counts a fault, and keeps what the system said.
-    fn note<T>(&mut self, outcome: Result<T, Error>) -> Result<T, Failed>
-        ensures value { result_ok result ≡ result_ok outcome }
-        ensures count { Counted (is_err result) self.old self.new }
+    /// What a write or a sync answers. Want of memory is no fault.
+    fn answer(&mut self, outcome: Result<(), Error>) -> Result<(), IoRefusal>
+        ensures { Counted (write_failed result) self.old self.new }
     {
         match outcome {
-            Ok(value) => Ok(value),
+            Ok(()) => Ok(()),
+            Err(error) if error.kind() == ErrorKind::OutOfMemory => Err(IoRefusal::NoMemory),
             Err(error) => {
-                self.faults = self.faults.saturating_add(1);
-                self.last_fault = match self.path.share() {
-                    Ok(path) => Some(Fault { path, error }),
-                    Err(NoMemory) => None,
-                };
-                Err(Failed)
+                self.note(error);
+                Err(IoRefusal::Failed)
             }
         }
+    }
+
+    /// Counts a fault, and keeps what the system said.
+    fn note(&mut self, error: Error)
+        ensures { Counted true self.old self.new }
+    {
+        self.faults = self.faults.saturating_add(1);
+        self.last_fault = match joined(self.alloc, self.root.bytes(), self.path.bytes()) {
+            Ok(path) => Some(Fault { path, error }),
+            Err(NoMemory) => None,
+        };
     }
 }
 
@@ -132,24 +215,23 @@ impl<R: fs::Files> Disk for StdDisk<'_, R> {
     }
 
     fn read_at(&mut self, at: u64, buf: &mut [u8]) -> Result<usize, Failed> {
-        let outcome = self.try_read(at, buf);
-        self.note(outcome)
+        match self.try_read(at, buf) {
+            Ok(count) => Ok(count),
+            Err(error) => {
+                self.note(error);
+                Err(Failed)
+            }
+        }
     }
 
     fn write_at(&mut self, at: u64, bytes: &[u8]) -> Result<(), IoRefusal> {
         let outcome = self.try_write(at, bytes);
-        match self.note(outcome) {
-            Ok(()) => Ok(()),
-            Err(Failed) => Err(IoRefusal::Failed),
-        }
+        self.answer(outcome)
     }
 
     fn sync(&mut self) -> Result<(), IoRefusal> {
         let outcome = self.try_sync();
-        match self.note(outcome) {
-            Ok(()) => Ok(()),
-            Err(Failed) => Err(IoRefusal::Failed),
-        }
+        self.answer(outcome)
     }
 
     ghost earlier = { λ _ _ _ _ _ left. left };
@@ -157,33 +239,11 @@ impl<R: fs::Files> Disk for StdDisk<'_, R> {
     ghost given = { λ _ tells. tells };
 }
 
-/// Opens a file of the machine to be read and written. Where it is absent it is made, and reaches its folder on the disk.
-fn open_file<R: fs::Files>(rt: &R, path: &Text) -> Result<R::File, Error> {
-    let mut options = OpenOptions::new();
-    options.read(true);
-    options.write(true);
-    options.create(true);
-    let file = options.open(rt, path_of(path.bytes())?)?;
-    let folder = fs::open(rt, path_of(folder_of(path.bytes()))?)?;
-    folder.sync_all()?;
-    Ok(file)
-}
-
-/// A path, as the machine takes it. One that isn't UTF-8 names nothing.
-fn path_of(path: &[u8]) -> Result<&str, Error> {
-    match std::str::from_utf8(path) {
-        Ok(path) => Ok(path),
-        Err(_) => Err(Error::from(ErrorKind::InvalidInput)),
-    }
-}
-
-/// The folder of a path.
-fn folder_of(path: &[u8]) -> &[u8] {
-    match path.iter().rposition(|byte| *byte == b'/') {
-        Some(0) => b"/",
-        Some(at) => &path[..at],
-        None => b".",
-    }
+/// Two paths, one behind the other.
+fn joined(alloc: Global, front: &[u8], behind: &[u8]) -> Result<Text, NoMemory> {
+    let mut bytes = Vec::from_slice(alloc, front)?;
+    bytes.extend_from_slice(behind)?;
+    Text::from_vec(bytes)
 }
 
 /// Reads until the buffer is full or nothing is left.

@@ -10,3 +10,4 @@ pub mod OneReading
 pub mod Spellings
 pub mod InputParts
 pub mod Conditions
+pub mod Counted

@@ -9,3 +9,4 @@ pub mod Gathering
 pub mod Ordering
 pub mod Building
 pub mod Laws
+pub mod Generated

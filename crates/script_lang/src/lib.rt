@@ -3,11 +3,14 @@
 //! `read` answers a script exactly where the bytes are the text of one, as `IsScript` of `specs/Script.antt` says, and
 //! else the limit that they pass or the first bad line. `specs/Inputs.antt` has the inputs of a script, in the order of
 //! its lines and actor by actor.
+//!
+//! `generate` makes the texts of a boot of so many services, as `specs/Generated.antt` says: a tree and the script over it.
 #![tactic(auto)]
 
 mod build;
 mod fault;
 mod gather;
+mod generator;
 mod laws;
 mod number;
 mod order;
@@ -18,6 +21,7 @@ mod script;
 mod statement;
 mod words;
 
+pub use generator::{Generated, generate};
 pub use laws::{
     each_text_has_one_reading, inputs_are_those_of_the_parts, scripts_meet_conditions,
     statements_are_written_in_one_way,

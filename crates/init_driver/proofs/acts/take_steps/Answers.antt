@@ -8,6 +8,7 @@ use Rattle.init_driver.proofs.acts.take_steps.Goals as goal
 pub loop-init : goal.loop-init
 loop-init g c = record {
   going = going_begins (replicate c.args.count Input.Next) (replicate (c.args.count - 0) Input.Next) _ (all_left Input.Next c.args.count);
+  still = λ who. refl;
   keeper = refl;
   sink = refl;
 }
@@ -27,6 +28,7 @@ loop-preserved g c = record {
   going =
       going_on (replicate c.args.count Input.Next) (replicate (c.args.count - c.loop.counter) Input.Next) (Input.Next ∷ []) (replicate (c.args.count - (c.loop.counter + 1)) Input.Next) _ _ _
       (next_left Input.Next c.args.count c.loop.counter (omega arith)) c.loop.invariant.going c.in_ok-take.ensures.takes;
+  still = λ who. c.in_ok-take.ensures.still who ∙ c.loop.invariant.still who;
   keeper = c.in_ok-take.ensures.keeper ∙ c.loop.invariant.keeper;
   sink = c.in_ok-take.ensures.sink ∙ c.loop.invariant.sink;
 }

@@ -4,7 +4,7 @@ use Rattle.clap.specs.Words.{App, app_of, new_app, with_rule, with_subcommand}
 use Rattle.clap.specs.declared.builder.arg.Arg.{Arg}
 use Rattle.clap.specs.declared.builder.command.Command.{Command}
 use Rattle.clap.specs.declared.builder.command.Command.TheViews.{out-Command as fields_of}
-use Rattle.init_words.specs.Command.{audit_app, bare_of, check_app, race_app, run_app}
+use Rattle.init_words.specs.Command.{audit_app, bare_of, check_app, race_app, run_app, soak_app}
 use Rattle.init_words.proofs.command.command.Goals as goal
 
 -- a command without global arguments has none with one more that isn't global
@@ -23,9 +23,11 @@ returns-clause-ok c =
     let audit_is : app_of c.in_ok-audit.audit ≡ audit_app = c.in_ok-audit.ensures.shape c.path-8.ensures.local
     ∙ ap₂ with_rule (c.in_ok-arg-4.ensures.shape c.path-7.ensures.local
     ∙ ap₂ with_rule (c.in_ok-arg-3.ensures.shape c.path-6.ensures.local ∙ ap₂ with_rule c.new-4.ensures.app c.path-6.ensures.rule) c.path-7.ensures.rule) c.path-8.ensures.rule in
+    let soak_is : app_of c.in_ok-soak.soak ≡ soak_app = c.in_ok-soak.ensures.shape c.path-9.ensures.local
+    ∙ ap₂ with_rule c.new-5.ensures.app c.path-9.ensures.rule in
     let bare_is : app_of c.subcommand_required-bare.result ≡ bare_of (new_app (codes "initsim")) =
     rw (c.subcommand_required-bare.ensures, c.disable_version_flag.ensures, c.disable_help_subcommand.ensures, c.disable_help_flag.ensures, c.no_binary_name.ensures)
-    (ap bare_of c.new-5.ensures.app) in
+    (ap bare_of c.new-6.ensures.app) in
     let of_run = none_global _ _ _ c.in_ok-run.ensures c.path-2.ensures.local
     (none_global _ _ _ c.in_ok-arg.ensures c.path.ensures.local c.new.ensures.local) in
     let of_race = none_global _ _ _ c.in_ok-race.ensures c.path-4.ensures.local
@@ -34,8 +36,10 @@ returns-clause-ok c =
     let of_audit = none_global _ _ _ c.in_ok-audit.ensures c.path-8.ensures.local
     (none_global _ _ _ c.in_ok-arg-4.ensures c.path-7.ensures.local
     (none_global _ _ _ c.in_ok-arg-3.ensures c.path-6.ensures.local c.new-4.ensures.local)) in
-    c.in_ok-whole.ensures.shape of_audit
+    let of_soak = none_global _ _ _ c.in_ok-soak.ensures c.path-9.ensures.local c.new-5.ensures.local in
+    c.in_ok-whole.ensures.shape of_soak
+    ∙ ap₂ with_subcommand (c.in_ok-subcommand-4.ensures.shape of_audit
     ∙ ap₂ with_subcommand (c.in_ok-subcommand-3.ensures.shape of_check
     ∙ ap₂ with_subcommand (c.in_ok-subcommand-2.ensures.shape of_race
     ∙ ap₂ with_subcommand (c.in_ok-subcommand.ensures.shape of_run ∙ ap₂ with_subcommand bare_is (ap (λ (a : App). a.top) run_is))
-    (ap (λ (a : App). a.top) race_is)) (ap (λ (a : App). a.top) check_is)) (ap (λ (a : App). a.top) audit_is)
+    (ap (λ (a : App). a.top) race_is)) (ap (λ (a : App). a.top) check_is)) (ap (λ (a : App). a.top) audit_is)) (ap (λ (a : App). a.top) soak_is)

@@ -8,13 +8,14 @@ use Rattle.initsim.proofs.Ends.{stop_ends}
 use Rattle.initsim.proofs.Performed.{counts_after, course_is, setup_fits}
 use Rattle.initsim.proofs.Raced.{raced_as_before, raced_ends, raced_status, raced_tree}
 use Rattle.initsim.proofs.Says.{told as told_of}
+use Rattle.initsim.proofs.Seated.{race_is_given, race_records}
 use Rattle.initsim.proofs.racing.race_script.Goals as goal
 
 pub returns-in-Ok-clause-tree : goal.returns-in-Ok-clause-tree
 returns-in-Ok-clause-tree g c = λ world is.
     let seen = seen_by g.P.Keeper.held g.P.Keeper.TellsCrash g.P.Keeper.moment g.P.Keeper.MayLeave in
     raced_tree (course_of c.in-Ok.job) (g.K.Sink.taken c.args.out.now) (g.K.Sink.taken c.perform_race.new.out) (seen c.prepare.new.keeper) (seen c.perform_race.new.keeper)
-    c.perform_race.result world c.perform_race.ensures.leaves (setup_fits world c.in-Ok.job (c.in-Ok.ensures.tree world is))
+    c.perform_race.result.0 world c.perform_race.ensures.leaves (setup_fits world c.in-Ok.job (c.in-Ok.ensures.tree world is))
 
 pub returns-in-Ok-clause-ends : goal.returns-in-Ok-clause-ends
 returns-in-Ok-clause-ends g c = λ trace told tells.
@@ -22,7 +23,7 @@ returns-in-Ok-clause-ends g c = λ trace told tells.
     let script : ScriptOfJob told.script (g.S.Source.left c.prepare.new.source) (Ok c.in-Ok.job) = told_of _ _ told.script tells.script_is c.in-Ok.ensures.script in
     let store : GivesSaved told.held (Ok c.in-Ok.job) = told_of _ _ told.held tells.held_is c.in-Ok.ensures.store in
     raced_ends (course_of c.in-Ok.job) told (g.K.Sink.taken c.args.out.now) (g.K.Sink.taken c.perform_race.new.out) (seen c.args.keeper.now) (seen c.prepare.new.keeper) (seen c.perform_race.new.keeper)
-    c.perform_race.result c.in-Ok.ensures.asked tells.held_is
+    c.perform_race.result.0 c.in-Ok.ensures.asked tells.held_is
     (course_is c.in-Ok.job told.script told.world told.held c.in-Ok.ensures.fit script.0 (c.in-Ok.ensures.tree told.world tells.world_is) store)
     c.perform_race.ensures.leaves
 
@@ -30,14 +31,14 @@ pub returns-in-Ok-clause-unwritten : goal.returns-in-Ok-clause-unwritten
 returns-in-Ok-clause-unwritten g c =
     let seen = seen_by g.P.Keeper.held g.P.Keeper.TellsCrash g.P.Keeper.moment g.P.Keeper.MayLeave in
     raced_as_before (course_of c.in-Ok.job) (g.K.Sink.taken c.args.out.now) (g.K.Sink.taken c.perform_race.new.out) (seen c.prepare.new.keeper) (seen c.perform_race.new.keeper)
-    c.perform_race.result _ (g.P.Keeper.fault_count c.prepare.new.keeper) _ (g.K.Sink.fault_count c.args.out.now) (g.K.Sink.fault_count c.perform_race.new.out) _ _ c.perform_race.ensures.leaves
+    c.perform_race.result.0 _ (g.P.Keeper.fault_count c.prepare.new.keeper) _ (g.K.Sink.fault_count c.args.out.now) (g.K.Sink.fault_count c.perform_race.new.out) _ _ c.perform_race.ensures.leaves
     (ap (λ (counts : Counts). counts.keeper) (c.in-Ok.ensures.counts 0 0)) (c.perform_race.ensures.counts 0 0 0)
 
 pub returns-in-Ok-clause-unkept : goal.returns-in-Ok-clause-unkept
 returns-in-Ok-clause-unkept g c =
     let seen = seen_by g.P.Keeper.held g.P.Keeper.TellsCrash g.P.Keeper.moment g.P.Keeper.MayLeave in
     raced_as_before (course_of c.in-Ok.job) (g.K.Sink.taken c.args.out.now) (g.K.Sink.taken c.perform_race.new.out) (seen c.prepare.new.keeper) (seen c.perform_race.new.keeper)
-    c.perform_race.result _ (g.P.Keeper.fault_count c.prepare.new.keeper) _ (g.K.Sink.fault_count c.args.out.now) (g.K.Sink.fault_count c.perform_race.new.out) _ _ c.perform_race.ensures.leaves
+    c.perform_race.result.0 _ (g.P.Keeper.fault_count c.prepare.new.keeper) _ (g.K.Sink.fault_count c.args.out.now) (g.K.Sink.fault_count c.perform_race.new.out) _ _ c.perform_race.ensures.leaves
     (ap (λ (counts : Counts). counts.keeper) (c.in-Ok.ensures.counts 0 0)) (c.perform_race.ensures.counts 0 0 0)
 
 pub returns-in-Err-clause-ends : goal.returns-in-Err-clause-ends
@@ -52,11 +53,11 @@ pub returns-in-Ok-clause-formed : goal.returns-in-Ok-clause-formed
 returns-in-Ok-clause-formed g c =
     let seen = seen_by g.P.Keeper.held g.P.Keeper.TellsCrash g.P.Keeper.moment g.P.Keeper.MayLeave in
     raced_status IsRunStatus (course_of c.in-Ok.job) (g.K.Sink.taken c.args.out.now) (g.K.Sink.taken c.perform_race.new.out) (seen c.prepare.new.keeper) (seen c.perform_race.new.keeper)
-    c.perform_race.result c.perform_race.ensures.leaves tt tt tt tt
+    c.perform_race.result.0 c.perform_race.ensures.leaves tt tt tt tt
 
 pub returns-in-Ok-clause-counts : goal.returns-in-Ok-clause-counts
 returns-in-Ok-clause-counts g c = λ trace.
-    counts_after c.perform_race.result (g.F.Files.fault_count c.args.files.now) (g.F.Files.fault_count c.prepare.new.files)
+    counts_after c.perform_race.result.0 (g.F.Files.fault_count c.args.files.now) (g.F.Files.fault_count c.prepare.new.files)
     (g.S.Source.fault_count c.args.script.now) (g.S.Source.fault_count c.prepare.new.source) trace
     (g.P.Keeper.fault_count c.args.keeper.now) (g.P.Keeper.fault_count c.prepare.new.keeper) (g.P.Keeper.fault_count c.perform_race.new.keeper)
     (g.K.Sink.fault_count c.args.out.now) (g.K.Sink.fault_count c.perform_race.new.out)
@@ -64,3 +65,16 @@ returns-in-Ok-clause-counts g c = λ trace.
 
 pub returns-in-Err-clause-formed : goal.returns-in-Err-clause-formed
 returns-in-Err-clause-formed g c = rw c.status.ensures c.in-Err.ensures.kind
+
+pub returns-in-Ok-clause-seat : goal.returns-in-Ok-clause-seat
+returns-in-Ok-clause-seat g c = race_is_given (course_of c.in-Ok.job) _ c.perform_race.result.0 c.perform_race.result.1 c.perform_race.ensures.seat
+
+pub returns-in-Ok-clause-recorded : goal.returns-in-Ok-clause-recorded
+returns-in-Ok-clause-recorded g c = λ trace told tells.
+    let seen = seen_by g.P.Keeper.held g.P.Keeper.TellsCrash g.P.Keeper.moment g.P.Keeper.MayLeave in
+    let script : ScriptOfJob told.script (g.S.Source.left c.prepare.new.source) (Ok c.in-Ok.job) = told_of _ _ told.script tells.script_is c.in-Ok.ensures.script in
+    let store : GivesSaved told.held (Ok c.in-Ok.job) = told_of _ _ told.held tells.held_is c.in-Ok.ensures.store in
+    race_records (course_of c.in-Ok.job) told (g.K.Sink.taken c.args.out.now) (g.K.Sink.taken c.perform_race.new.out) (seen c.args.keeper.now) (seen c.prepare.new.keeper) (seen c.perform_race.new.keeper)
+    c.perform_race.result.0 c.perform_race.result.1 c.in-Ok.ensures.asked
+    (course_is c.in-Ok.job told.script told.world told.held c.in-Ok.ensures.fit script.0 (c.in-Ok.ensures.tree told.world tells.world_is) store)
+    c.perform_race.ensures.seat

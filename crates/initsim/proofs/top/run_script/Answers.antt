@@ -6,13 +6,14 @@ use Rattle.initsim.specs.Prepared.{GivesSaved, ScriptOfJob, course_of}
 use Rattle.initsim.proofs.Ends.{performed_ends, stop_ends}
 use Rattle.initsim.proofs.Performed.{counts_after, course_is, performed_as_before, performed_status, performed_tree}
 use Rattle.initsim.proofs.Says.{told as told_of}
+use Rattle.initsim.proofs.Seated.{run_given, run_records}
 use Rattle.initsim.proofs.top.run_script.Goals as goal
 
 pub returns-in-Ok-clause-tree : goal.returns-in-Ok-clause-tree
 returns-in-Ok-clause-tree g c = λ world is.
     let seen = seen_by g.P.Keeper.held g.P.Keeper.TellsCrash g.P.Keeper.moment g.P.Keeper.MayLeave in
     performed_tree c.in-Ok.job (g.K.Sink.taken c.args.out.now) (g.K.Sink.taken c.perform.new.out) (seen c.prepare.new.keeper) (seen c.perform.new.keeper)
-    c.perform.result world c.perform.ensures.leaves (c.in-Ok.ensures.tree world is)
+    c.perform.result.0 world c.perform.ensures.leaves (c.in-Ok.ensures.tree world is)
 
 pub returns-in-Ok-clause-ends : goal.returns-in-Ok-clause-ends
 returns-in-Ok-clause-ends g c = λ trace told tells.
@@ -20,7 +21,7 @@ returns-in-Ok-clause-ends g c = λ trace told tells.
     let script : ScriptOfJob told.script (g.S.Source.left c.prepare.new.source) (Ok c.in-Ok.job) = told_of _ _ told.script tells.script_is c.in-Ok.ensures.script in
     let store : GivesSaved told.held (Ok c.in-Ok.job) = told_of _ _ told.held tells.held_is c.in-Ok.ensures.store in
     performed_ends (course_of c.in-Ok.job) told (g.K.Sink.taken c.args.out.now) (g.K.Sink.taken c.perform.new.out) (seen c.args.keeper.now) (seen c.prepare.new.keeper) (seen c.perform.new.keeper)
-    c.perform.result c.in-Ok.ensures.asked
+    c.perform.result.0 c.in-Ok.ensures.asked
     (course_is c.in-Ok.job told.script told.world told.held c.in-Ok.ensures.fit script.0 (c.in-Ok.ensures.tree told.world tells.world_is) store)
     c.perform.ensures.leaves
 
@@ -28,14 +29,14 @@ pub returns-in-Ok-clause-unwritten : goal.returns-in-Ok-clause-unwritten
 returns-in-Ok-clause-unwritten g c =
     let seen = seen_by g.P.Keeper.held g.P.Keeper.TellsCrash g.P.Keeper.moment g.P.Keeper.MayLeave in
     performed_as_before (course_of c.in-Ok.job) (g.K.Sink.taken c.args.out.now) (g.K.Sink.taken c.perform.new.out) (seen c.prepare.new.keeper) (seen c.perform.new.keeper)
-    c.perform.result _ (g.P.Keeper.fault_count c.prepare.new.keeper) _ (g.K.Sink.fault_count c.args.out.now) (g.K.Sink.fault_count c.perform.new.out) _ _ c.perform.ensures.leaves
+    c.perform.result.0 _ (g.P.Keeper.fault_count c.prepare.new.keeper) _ (g.K.Sink.fault_count c.args.out.now) (g.K.Sink.fault_count c.perform.new.out) _ _ c.perform.ensures.leaves
     (ap (λ (counts : Counts). counts.keeper) (c.in-Ok.ensures.counts 0 0)) (c.perform.ensures.counts 0 0 0)
 
 pub returns-in-Ok-clause-unkept : goal.returns-in-Ok-clause-unkept
 returns-in-Ok-clause-unkept g c =
     let seen = seen_by g.P.Keeper.held g.P.Keeper.TellsCrash g.P.Keeper.moment g.P.Keeper.MayLeave in
     performed_as_before (course_of c.in-Ok.job) (g.K.Sink.taken c.args.out.now) (g.K.Sink.taken c.perform.new.out) (seen c.prepare.new.keeper) (seen c.perform.new.keeper)
-    c.perform.result _ (g.P.Keeper.fault_count c.prepare.new.keeper) _ (g.K.Sink.fault_count c.args.out.now) (g.K.Sink.fault_count c.perform.new.out) _ _ c.perform.ensures.leaves
+    c.perform.result.0 _ (g.P.Keeper.fault_count c.prepare.new.keeper) _ (g.K.Sink.fault_count c.args.out.now) (g.K.Sink.fault_count c.perform.new.out) _ _ c.perform.ensures.leaves
     (ap (λ (counts : Counts). counts.keeper) (c.in-Ok.ensures.counts 0 0)) (c.perform.ensures.counts 0 0 0)
 
 pub returns-in-Err-clause-ends : goal.returns-in-Err-clause-ends
@@ -50,11 +51,11 @@ pub returns-in-Ok-clause-formed : goal.returns-in-Ok-clause-formed
 returns-in-Ok-clause-formed g c =
     let seen = seen_by g.P.Keeper.held g.P.Keeper.TellsCrash g.P.Keeper.moment g.P.Keeper.MayLeave in
     performed_status (course_of c.in-Ok.job) (g.K.Sink.taken c.args.out.now) (g.K.Sink.taken c.perform.new.out) (seen c.prepare.new.keeper) (seen c.perform.new.keeper)
-    c.perform.result c.perform.ensures.leaves
+    c.perform.result.0 c.perform.ensures.leaves
 
 pub returns-in-Ok-clause-counts : goal.returns-in-Ok-clause-counts
 returns-in-Ok-clause-counts g c = λ trace.
-    counts_after c.perform.result (g.F.Files.fault_count c.args.files.now) (g.F.Files.fault_count c.prepare.new.files)
+    counts_after c.perform.result.0 (g.F.Files.fault_count c.args.files.now) (g.F.Files.fault_count c.prepare.new.files)
     (g.S.Source.fault_count c.args.script.now) (g.S.Source.fault_count c.prepare.new.source) trace
     (g.P.Keeper.fault_count c.args.keeper.now) (g.P.Keeper.fault_count c.prepare.new.keeper) (g.P.Keeper.fault_count c.perform.new.keeper)
     (g.K.Sink.fault_count c.args.out.now) (g.K.Sink.fault_count c.perform.new.out)
@@ -62,3 +63,16 @@ returns-in-Ok-clause-counts g c = λ trace.
 
 pub returns-in-Err-clause-formed : goal.returns-in-Err-clause-formed
 returns-in-Err-clause-formed g c = rw c.status.ensures c.in-Err.ensures.kind
+
+pub returns-in-Ok-clause-seat : goal.returns-in-Ok-clause-seat
+returns-in-Ok-clause-seat g c = run_given (course_of c.in-Ok.job) c.perform.result.0 c.perform.result.1 c.perform.ensures.seat
+
+pub returns-in-Ok-clause-recorded : goal.returns-in-Ok-clause-recorded
+returns-in-Ok-clause-recorded g c = λ trace told tells.
+    let seen = seen_by g.P.Keeper.held g.P.Keeper.TellsCrash g.P.Keeper.moment g.P.Keeper.MayLeave in
+    let script : ScriptOfJob told.script (g.S.Source.left c.prepare.new.source) (Ok c.in-Ok.job) = told_of _ _ told.script tells.script_is c.in-Ok.ensures.script in
+    let store : GivesSaved told.held (Ok c.in-Ok.job) = told_of _ _ told.held tells.held_is c.in-Ok.ensures.store in
+    run_records (course_of c.in-Ok.job) told (g.K.Sink.taken c.args.out.now) (g.K.Sink.taken c.perform.new.out) (seen c.args.keeper.now) (seen c.prepare.new.keeper) (seen c.perform.new.keeper)
+    c.perform.result.0 c.perform.result.1
+    (course_is c.in-Ok.job told.script told.world told.held c.in-Ok.ensures.fit script.0 (c.in-Ok.ensures.tree told.world tells.world_is) store)
+    c.perform.ensures.leaves c.perform.ensures.seat

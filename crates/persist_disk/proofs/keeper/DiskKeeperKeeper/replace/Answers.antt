@@ -2,7 +2,7 @@ use Rattle.std.proofs.Common.{◌≡◌, sym, ap, subst, ℕ, arith}
 use Rattle.init_base.specs.Crash.{LeavesAlone, LeavesOneMore}
 use Rattle.std.specs.Prelude.{OnOk}
 use Rattle.persist_disk.specs.Keeping.{told_text, DiskStore, MayReopen}
-use Rattle.persist_disk.proofs.Texts.{told_none, held_put, either_text, alone_put}
+use Rattle.persist_disk.proofs.Texts.{told_none, first_put, held_put, either_text, alone_put}
 use Rattle.persist_disk.proofs.keeper.DiskKeeperKeeper.replace.Goals as goal
 
 pub returns-clause-held : goal.returns-clause-held
@@ -12,6 +12,13 @@ returns-clause-held g c =
     held_put (told_text c.args.self.now.is_silent c.args.self.now.slot (g.D.Disk.content c.args.self.now.disk)) (g.D.Disk.content mid.disk) (g.D.Disk.content c.put_text.new.self.disk) c.put_text.new.self.is_silent mid.slot c.put_text.new.self.slot c.in-Ok.chosen c.put_text.result c.args.content.now
     c.in-Ok.ensures.stands.store c.put_text.ensures.bytes (omega (arith, slot_is, c.if-content-self.false, c.self.invariant.low)) (omega (arith, slot_is, c.self.invariant.high)) c.put_text.ensures.silent c.put_text.ensures.slot
     (told_none mid.is_silent c.args.self.now.slot (g.D.Disk.content mid.disk) _ c.stand.ensures.held)
+
+pub returns-clause-first : goal.returns-clause-first
+returns-clause-first g c =
+    let mid = c.stand.new.self in
+    let slot_is : c.self.inside.slot ≡ mid.slot = ap (λ (k : DiskStore g.row.D.Denot g.row.P.Denot). k.slot) c.self.view_is in
+    first_put (g.D.Disk.content c.args.self.now.disk) (g.D.Disk.content mid.disk) (g.D.Disk.content c.put_text.new.self.disk) (g.P.Keeper.held c.args.self.now.former) c.put_text.new.self.is_silent c.args.self.now.slot mid.slot c.put_text.new.self.slot c.in-Ok.chosen c.in-Ok.chosen c.put_text.result c.args.content.now
+    c.in-Ok.ensures.formats c.in-Ok.ensures.stands.store c.put_text.ensures.bytes (omega (arith, slot_is, c.if-content-self.false, c.self.invariant.low)) (omega (arith, slot_is, c.self.invariant.high)) c.put_text.ensures.silent c.put_text.ensures.slot
 
 pub returns-clause-leaves : goal.returns-clause-leaves
 returns-clause-leaves g c = λ tells.

@@ -1,0 +1,125 @@
+-- What a reader is told between two counts of the sets that are the same is what is so now.
+use Rattle.std.proofs.Common.{◌≡◌, ℕ, ◌≤◌, true, false, List, [], ◌∷◌, ◌++◌, length, Option, Some, None, refl, sym, ap, ◌∙◌, subst, ⊎_elim, arith}
+use Rattle.std.proofs.lemmas.Bool.{cases_Bool}
+use mathlib.Core.Option.{some}
+use lib.ListN.{get_elem?}
+use Rattle.init_machine.specs.Facts.{MetWrite, Stands}
+use Rattle.init_machine.specs.History.{Legal, after, inputs_of, sets_of}
+use Rattle.init_machine.specs.Orderly.{InOrder, ListStands, count_after, count_before, seen_after, seen_through}
+use Rattle.init_machine.specs.Serial.{is_dirty}
+use Rattle.init_machine.specs.Sets.{Set, value_at}
+use Rattle.init_machine.specs.State.{Opening, State, value_now}
+use Rattle.init_machine.specs.declared.client.ClientItem.{ClientItem}
+use Rattle.init_machine.specs.declared.client.ClientItem.TheVariants.{Told}
+use Rattle.init_machine.specs.declared.report.Entry.{Entry}
+use Rattle.init_machine.specs.declared.report.Reading.{Reading}
+use Rattle.init_machine.specs.declared.report.Reading.TheVariants as reading
+use Rattle.machine_laws.proofs.Counted.{last_values, sets_count}
+use Rattle.machine_laws.proofs.Options.{none_is_no_value}
+use Rattle.property_area.specs.Readers.{seen_by}
+use Rattle.property_area.specs.declared.view.AreaView.{AreaView}
+use Rattle.serial_value.specs.Kept.Lists.{seen_through-end}
+use Rattle.serial_value.specs.Kept.Places.{at_below}
+use Rattle.init_driver.specs.Readings.{read_as, read_now}
+use Rattle.init_driver.specs.Told.{TellsRead}
+
+-- no read meets a write where no set is being made and its reader has seen all
+met_none : (sets : List Set) (number : ℕ) (name : List ℕ) (first second : ℕ) → length sets ≤ number → MetWrite sets None number name first second → ⊥
+met_none sets number name first second seen h = ⊎_elim
+    (λ (dirty : is_dirty second ≡ true). ⊎_elim
+    (λ later.
+    let within = at_below sets later.0 (name, later.1) later.3 in
+    h.dirty dirty later.0 later.1 later.2 (omega arith) later.3)
+    (λ making. none_is_no_value name making)
+    (h.second_is.later dirty))
+    (λ (clean : is_dirty second ≡ false).
+    let numbered = h.second_is.numbered in
+    let within = at_below sets numbered.place (name, h.second_is.value) numbered.set_is in
+    let above = h.clean clean in
+    let is = numbered.number_is in
+    absurd (omega arith))
+    (cases_Bool (is_dirty second))
+
+-- ---- a reading that stands before a count
+
+at_one : (list rest : List ClientItem) (item : ClientItem) → get_elem? (list ++ item ∷ rest) (length list) ≡ some item
+at_one [] rest item = refl
+at_one (first ∷ list) rest item = at_one list rest item
+
+one_end : (list : List ClientItem) (item last : ClientItem) → (list ++ item ∷ []) ++ last ∷ [] ≡ list ++ item ∷ last ∷ []
+one_end [] item last = refl
+one_end (first ∷ list) item last = ap (λ (l : List ClientItem). first ∷ l) (one_end list item last)
+
+seen_before : (seen : ℕ) (list : List ClientItem) (item : ClientItem) → InOrder seen (list ++ item ∷ []) → seen_through seen list ≤ count_before item
+seen_before seen [] item order = order.0
+seen_before seen (first ∷ list) item order = seen_before (count_after first) list item order.2
+
+-- a reading before a count stands, and is about no more sets than the count
+pub record BeforeCount (sets : List Set) (reading : Reading) (count : ℕ) : Type 0 where
+  pub stands : Stands sets None reading
+  pub seen : seen_after reading ≤ count
+
+pub before_count : (sets began : List Set) (list : List ClientItem) (told : Reading) (count : ℕ)
+    → ListStands sets None began ((list ++ Told told ∷ []) ++ Told (reading.Synced count) ∷ []) → BeforeCount sets told count
+before_count sets began list told count h = record {
+  stands =
+      h.each (length list) told
+      (ap (λ (l : List ClientItem). get_elem? l (length list)) (one_end list (Told told) (Told (reading.Synced count)))
+      ∙ at_one list (Told (reading.Synced count) ∷ []) (Told told));
+  seen =
+      subst (λ n. n ≤ count) (seen_through-end (length began) list (Told told))
+      (seen_before (length began) (list ++ Told told ∷ []) (Told (reading.Synced count)) h.orderly.order);
+}
+
+-- ---- what is so now
+
+module _ (o : Opening) (history : List Entry) (legal : Legal o history) where
+  abbrev sets : List Set
+  sets = sets_of history
+
+  abbrev s : State
+  s = after o (inputs_of history)
+
+  read_is : (name : List ℕ) (value : Option (List ℕ)) → value_at sets (length sets) name ≡ value → read_as name (length sets) value ≡ read_now s name
+  read_is name value is =
+      ap (read_as name (length sets)) (sym is ∙ sym (last_values o history name legal))
+      ∙ ap (λ n. read_as name n (value_now s name)) (sym (sets_count o history legal))
+
+  found_is : (name other : List ℕ) (number : ℕ) (value : List ℕ) → other ≡ name → number ≡ length sets → value_at sets number other ≡ Some value
+      → reading.Found other number value ≡ read_now s name
+  found_is name other number value same all is =
+      ap (λ n. reading.Found other n value) all
+      ∙ ap (λ (text : List ℕ). reading.Found text (length sets) value) same
+      ∙ read_is name (Some value) (ap (λ n. value_at sets n name) (sym all) ∙ ap (λ (text : List ℕ). value_at sets number text) (sym same) ∙ is)
+
+  absent_is : (name other : List ℕ) (number : ℕ) → other ≡ name → number ≡ length sets → value_at sets number other ≡ None
+      → reading.Absent other number ≡ read_now s name
+  absent_is name other number same all is =
+      ap (λ n. reading.Absent other n) all
+      ∙ ap (λ (text : List ℕ). reading.Absent text (length sets)) same
+      ∙ read_is name None (ap (λ n. value_at sets n name) (sym all) ∙ ap (λ (text : List ℕ). value_at sets number text) (sym same) ∙ is)
+
+  -- a read of a reader that had seen all sets
+  pub now_read : (v behind : AreaView) (name : List ℕ) (told : Reading) → seen_by v.cell ≡ length sets → TellsRead v name told behind
+      → BeforeCount sets told (length sets) → told ≡ read_now s name
+  now_read v behind name (reading.Found other number value) seen tells h =
+      let least = tells.1 in
+      let most = h.seen in
+      found_is name other number value tells.0 (omega arith) h.stands.1
+  now_read v behind name (reading.Absent other number) seen tells h = absent_is name other number tells.0 (tells.1 ∙ seen) h.stands.1
+  now_read v behind name (reading.Again other number first second) seen tells h =
+      let is = tells.1 in
+      absurd (met_none sets number other first second (omega arith) h.stands)
+  now_read v behind name (reading.Synced number) seen tells h = absurd tells
+  now_read v behind name (reading.Caught number) seen tells h = absurd tells
+
+  pub count_now : (count : ℕ) → count ≡ length sets → count ≡ s.props.count
+  count_now count is = is ∙ sym (sets_count o history legal)
+
+  -- the count that such a reader loads
+  pub now_caught : (v : AreaView) (number : ℕ) → seen_by v.cell ≡ length sets → seen_by v.cell ≤ number → BeforeCount sets (reading.Caught number) (length sets)
+      → number ≡ s.props.count
+  now_caught v number seen least h =
+      let most = h.seen in
+      let all : number ≡ length sets = omega arith in
+      count_now number all

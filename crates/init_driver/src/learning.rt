@@ -1,0 +1,104 @@
+//! What clients learn by their requests, of a desk and by their readers.
+
+ghost use Rattle.std.specs.Prelude.{◌≡◌, IfOk, OnOk, Some, false};
+ghost use Rattle.init_base.specs.Name.{LegalName};
+ghost use Rattle.init_driver.specs.Learning.{Counts, HasSameHistory, Learns};
+ghost use Rattle.script_lang.specs.Laws.{ReadsLegal};
+ghost use Rattle.script_lang.specs.declared.script.Ask.TheVariants as ask;
+
+use crate::reading::read;
+use init_base::{NoMemory, Text};
+use init_machine::Reading;
+use property_area::{Area, Reader};
+use property_service::{AreaName, Desk};
+use script_lang::Ask;
+use std::alloc::Global;
+
+/// The reader, with what a request of its client tells now. A look-up stands between two counts of the sets.
+pub(crate) fn learn<N: AreaName>(
+    alloc: Global,
+    desk: &mut Desk<'_, N>,
+    area: &Area,
+    reader: Reader,
+    ask: &Ask,
+) -> Result<(Reader, Option<Reading>), NoMemory>
+    requires area { area.now ≡ N.area }
+    requires reader { reader.table ≡ N.area }
+    requires legal { ReadsLegal ask.now }
+    ensures learned { IfOk result (λ told. Learns desk.old reader told.0 ask.now told.1) }
+    ensures desk { OnOk result (HasSameHistory desk.old desk.new) }
+{
+    match ask {
+        Ask::Set(_) => Ok((reader, None)),
+        Ask::Read(name) => learn_value(alloc, desk, area, reader, name),
+        Ask::Sync => learn_count(desk, reader),
+        Ask::Catch => learn_serial(desk, area, reader),
+    }
+}
+
+/// What a read of a property tells now.
+fn learn_value<N: AreaName>(
+    alloc: Global,
+    desk: &mut Desk<'_, N>,
+    area: &Area,
+    reader: Reader,
+    name: &Text,
+) -> Result<(Reader, Option<Reading>), NoMemory>
+    requires area { area.now ≡ N.area }
+    requires reader { reader.table ≡ N.area }
+    requires legal { LegalName name.now }
+    ensures learned { IfOk result (λ told. Learns desk.old reader told.0 (ask.Read name.now) told.1) }
+    ensures desk { OnOk result (HasSameHistory desk.old desk.new) }
+{
+    let (mut reader, _) = count(desk, reader)?;
+    let reading = read(alloc, area, &mut reader, name)?;
+    let (reader, _) = count(desk, reader)?;
+    desk.agrees();
+    Ok((reader, Some(reading)))
+}
+
+/// What the area serial tells now.
+fn learn_serial<N: AreaName>(
+    desk: &mut Desk<'_, N>,
+    area: &Area,
+    reader: Reader,
+) -> Result<(Reader, Option<Reading>), NoMemory>
+    requires area { area.now ≡ N.area }
+    requires reader { reader.table ≡ N.area }
+    ensures learned { IfOk result (λ told. Learns desk.old reader told.0 ask.Catch told.1) }
+    ensures desk { OnOk result (HasSameHistory desk.old desk.new) }
+{
+    let (mut reader, _) = count(desk, reader)?;
+    let number = reader.catch_up(area);
+    let (reader, _) = count(desk, reader)?;
+    desk.agrees();
+    Ok((reader, Some(Reading::Caught { number })))
+}
+
+/// How many sets there are now.
+fn learn_count<N: AreaName>(
+    desk: &mut Desk<'_, N>,
+    reader: Reader,
+) -> Result<(Reader, Option<Reading>), NoMemory>
+    requires reader { reader.table ≡ N.area }
+    ensures learned { IfOk result (λ told. Learns desk.old reader told.0 ask.Sync told.1) }
+    ensures desk { OnOk result (HasSameHistory desk.old desk.new) }
+{
+    let (reader, number) = count(desk, reader)?;
+    desk.agrees();
+    Ok((reader, Some(Reading::Synced { number })))
+}
+
+/// Tells the reader's client how many sets there are.
+fn count<N: AreaName>(desk: &mut Desk<'_, N>, reader: Reader) -> Result<(Reader, u64), NoMemory>
+    requires reader { reader.table ≡ N.area }
+    ensures counted { IfOk result (λ counted. Counts desk.old reader counted.0 counted.1) }
+    ensures desk { OnOk result (HasSameHistory desk.old desk.new) }
+    ensures ready { OnOk result (desk.new.spent ≡ false) }
+{
+    let (back, count) = desk.sync(reader);
+    let Ok(count) = count else {
+        return Err(NoMemory);
+    };
+    Ok((back.ok_or(NoMemory)?, count))
+}

@@ -1,0 +1,266 @@
+-- The promise of the top call, form by form.
+use Rattle.std.proofs.Common.{◌≡◌, ◌↔◌, ℕ, Option, Some, None, refl, sym, subst, inl}
+use Rattle.std.specs.Prelude.{IfSome}
+use Rattle.init_words.specs.declared.form.Form.{Form}
+use Rattle.init_words.specs.declared.form.Form.TheVariants.{Run, Race, Check, Audit, Soak}
+use Rattle.property_area.specs.Seats.{Seated}
+use Rattle.rc_import.specs.World.{World}
+use Rattle.initsim.specs.Check.{IsCheckStatus}
+use Rattle.initsim.specs.Counts.{AreCounted, IsDoneUnlessRisen}
+use Rattle.initsim.specs.Endings.{IsAuditStatus, IsRunStatus}
+use Rattle.initsim.specs.Outcome.{Ends, Tell, TellRun, Told, generated_sources}
+use Rattle.initsim.specs.Promise.{Objects, Promise, shown_by, told_by}
+use Rattle.initsim.specs.Script.{ScriptSays}
+use Rattle.initsim.specs.Seats.{GivesSeat, Records}
+use Rattle.initsim.specs.Top.{CanBeDone, CanRun, CanSoak, IsAsBefore}
+use Rattle.initsim.specs.Trace.{TraceSays}
+use Rattle.initsim.specs.Tree.{IsWorldOf}
+use Rattle.initsim.specs.declared.status.Status.{Status}
+use Rattle.initsim.specs.declared.status.Status.TheVariants as status
+use Rattle.initsim.proofs.Ends.{left_alone, usage_ends}
+
+some_not_none : (form : Form) → Some form ≡ None → ⊥
+some_not_none form e = cc
+
+-- a form whose statuses leave out Usage
+no_usage : (Is : Status → Type 0) (form : Form) (how : Status) → (Is status.Usage → ⊥) → Is how → (how ≡ status.Usage) ↔ (Some form ≡ None)
+no_usage Is form how never is = (λ usage. absurd (never (subst Is usage is)), λ none. absurd (some_not_none form none))
+
+always : {T : Type 0} (o : Option T) (P : T → Type 0) → ((x : T) → P x) → IfSome o P
+always None P h = tt
+always (Some x) P h = h x
+
+module _ (before after : Objects) (how : Status) (seat : Option Seated) where
+  -- what a run and a race say of their objects
+  pub record Said (form : Form) : Type 0 where
+    pub ends : (told : Told) → TellRun (told_by before) told → Ends (Some form) told how (shown_by before after)
+    pub read : IfSome before.script (λ bytes. ScriptSays bytes after.script how)
+    pub gives : GivesSeat (Some form) how seat
+    pub records : (told : Told) → TellRun (told_by before) told → Records (Some form) told how (shown_by before after) seat
+    pub faults : AreCounted how before.counts after.counts
+    pub unwritten : IsAsBefore before.taken after.taken how before.counts.keeper after.counts.keeper
+    pub unkept : IsAsBefore before.keeper.held after.keeper.held how before.counts.keeper after.counts.keeper
+    pub formed : IsRunStatus how
+    pub complete : (world : World) → IsWorldOf before.tree world → CanRun (told_by before) world → IsDoneUnlessRisen how before.counts after.counts
+
+  pub run_promised : Said Run → Promise (Some Run) before after how seat
+  run_promised said = record {
+    usage = no_usage IsRunStatus Run how (λ no. no) said.formed;
+    ends = said.ends;
+    read = λ reads. said.read;
+    traced = λ e. absurd (other e);
+    gives = said.gives;
+    records = said.records;
+    faults = said.faults;
+    unwritten = said.unwritten;
+    unkept = said.unkept;
+    audited = λ e. absurd (other e);
+    of_check = λ e. absurd (unchecked e);
+    of_run = λ e. said.formed;
+    of_race = λ e. said.formed;
+    of_soak = λ services e. said.formed;
+    complete = said.complete;
+  }
+    where
+      other : Some Run ≡ Some Audit → ⊥
+      other e = cc
+
+      unchecked : Some Run ≡ Some Check → ⊥
+      unchecked e = cc
+
+  pub race_promised : Said Race → Promise (Some Race) before after how seat
+  race_promised said = record {
+    usage = no_usage IsRunStatus Race how (λ no. no) said.formed;
+    ends = said.ends;
+    read = λ reads. said.read;
+    traced = λ e. absurd (other e);
+    gives = said.gives;
+    records = said.records;
+    faults = said.faults;
+    unwritten = said.unwritten;
+    unkept = said.unkept;
+    audited = λ e. absurd (other e);
+    of_check = λ e. absurd (unchecked e);
+    of_run = λ e. said.formed;
+    of_race = λ e. said.formed;
+    of_soak = λ services e. said.formed;
+    complete = said.complete;
+  }
+    where
+      other : Some Race ≡ Some Audit → ⊥
+      other e = cc
+
+      unchecked : Some Race ≡ Some Check → ⊥
+      unchecked e = cc
+
+-- a check, which leaves the keeper alone and gives no seat
+pub check_promised : (before after : Objects) (how : Status)
+    → ((told : Told) → IsWorldOf before.tree told.world → Ends (Some Check) told how (shown_by before after))
+    → AreCounted how before.counts after.counts
+    → IsAsBefore before.taken after.taken how before.counts.keeper after.counts.keeper
+    → IsAsBefore before.keeper.held after.keeper.held how before.counts.keeper after.counts.keeper
+    → IsCheckStatus how
+    → ((world : World) → IsWorldOf before.tree world → CanBeDone (Some Check) (told_by before) world → IsDoneUnlessRisen how before.counts after.counts)
+    → Promise (Some Check) before after how None
+check_promised before after how ends faults unwritten unkept formed complete = record {
+  usage = no_usage IsCheckStatus Check how (λ no. no) formed;
+  ends = ends;
+  read = λ reads. absurd reads;
+  traced = λ e. absurd (other e);
+  gives = refl;
+  records = λ told tells. tt;
+  faults = faults;
+  unwritten = unwritten;
+  unkept = unkept;
+  audited = λ e. absurd (other e);
+  of_check = λ e. formed;
+  of_run = λ e. absurd (unrun e);
+  of_race = λ e. absurd (unraced e);
+  of_soak = λ services e. absurd (unsoaked services e);
+  complete = complete;
+}
+  where
+    other : Some Check ≡ Some Audit → ⊥
+    other e = cc
+
+    unrun : Some Check ≡ Some Run → ⊥
+    unrun e = cc
+
+    unraced : Some Check ≡ Some Race → ⊥
+    unraced e = cc
+
+    unsoaked : (services : ℕ) → Some Check ≡ Some (Soak services) → ⊥
+    unsoaked services e = cc
+
+-- an audit
+pub audit_promised : (before after : Objects) (how : Status)
+    → ((told : Told) → Tell (Some Audit) (told_by before) told → Ends (Some Audit) told how (shown_by before after))
+    → IfSome before.script (λ bytes. ScriptSays bytes after.script how)
+    → IfSome before.trace (λ bytes. TraceSays bytes after.trace how)
+    → AreCounted how before.counts after.counts
+    → IsAsBefore before.taken after.taken how before.counts.keeper after.counts.keeper
+    → IsAsBefore before.keeper.held after.keeper.held how before.counts.keeper after.counts.keeper
+    → after.keeper.held ≡ before.keeper.held
+    → IsAuditStatus how
+    → ((world : World) → IsWorldOf before.tree world → CanBeDone (Some Audit) (told_by before) world → IsDoneUnlessRisen how before.counts after.counts)
+    → Promise (Some Audit) before after how None
+audit_promised before after how ends read traced faults unwritten unkept held formed complete = record {
+  usage = no_usage IsAuditStatus Audit how (λ no. no) formed;
+  ends = ends;
+  read = λ reads. read;
+  traced = λ e. traced;
+  gives = refl;
+  records = λ told tells. tt;
+  faults = faults;
+  unwritten = unwritten;
+  unkept = unkept;
+  audited = λ e. held;
+  of_check = λ e. absurd (unchecked e);
+  of_run = λ e. absurd (unrun e);
+  of_race = λ e. absurd (unraced e);
+  of_soak = λ services e. absurd (unsoaked services e);
+  complete = complete;
+}
+  where
+    unchecked : Some Audit ≡ Some Check → ⊥
+    unchecked e = cc
+
+    unrun : Some Audit ≡ Some Run → ⊥
+    unrun e = cc
+
+    unraced : Some Audit ≡ Some Race → ⊥
+    unraced e = cc
+
+    unsoaked : (services : ℕ) → Some Audit ≡ Some (Soak services) → ⊥
+    unsoaked services e = cc
+
+-- a soak, which leaves all alone but the sink
+pub soak_promised : (services : ℕ) (before after : Objects) (how : Status) (seat : Option Seated)
+    → ((told : Told) → TellRun (generated_sources services) told → Ends (Some (Soak services)) told how (shown_by before after))
+    → GivesSeat (Some (Soak services)) how seat
+    → ((told : Told) → TellRun (generated_sources services) told → Records (Some (Soak services)) told how (shown_by before after) seat)
+    → AreCounted how before.counts after.counts
+    → IsAsBefore before.taken after.taken how before.counts.keeper after.counts.keeper
+    → IsAsBefore before.keeper.held after.keeper.held how before.counts.keeper after.counts.keeper
+    → IsRunStatus how
+    → (CanSoak services → IsDoneUnlessRisen how before.counts after.counts)
+    → Promise (Some (Soak services)) before after how seat
+soak_promised services before after how seat ends gives records faults unwritten unkept formed complete = record {
+  usage = no_usage IsRunStatus (Soak services) how (λ no. no) formed;
+  ends = ends;
+  read = λ reads. absurd reads;
+  traced = λ e. absurd (other e);
+  gives = gives;
+  records = records;
+  faults = faults;
+  unwritten = unwritten;
+  unkept = unkept;
+  audited = λ e. absurd (other e);
+  of_check = λ e. absurd (unchecked e);
+  of_run = λ e. formed;
+  of_race = λ e. formed;
+  of_soak = λ other e. formed;
+  complete = λ world is can. complete can;
+}
+  where
+    other : Some (Soak services) ≡ Some Audit → ⊥
+    other e = cc
+
+    unchecked : Some (Soak services) ≡ Some Check → ⊥
+    unchecked e = cc
+
+-- words of no form
+pub usage_promised : (objects : Objects) → Promise None objects objects status.Usage None
+usage_promised objects = record {
+  usage = (λ usage. refl, λ none. refl);
+  ends = λ told tells. usage_ends told objects.taken objects.keeper;
+  read = λ reads. absurd reads;
+  traced = λ e. absurd (some_not_none Audit (sym e));
+  gives = refl;
+  records = λ told tells. tt;
+  faults = refl;
+  unwritten = refl;
+  unkept = refl;
+  audited = λ e. refl;
+  of_check = λ e. absurd (some_not_none Check (sym e));
+  of_run = λ e. absurd (some_not_none Run (sym e));
+  of_race = λ e. absurd (some_not_none Race (sym e));
+  of_soak = λ services e. absurd (some_not_none (Soak services) (sym e));
+  complete = λ world is can. absurd can;
+}
+
+-- Want of memory says nothing of the words, but that they have a form or none, and leaves all as it was.
+pub memory_promised : (asked : Option Form) (objects : Objects) → (asked ≡ None → ⊥) → Promise asked objects objects status.NoMemory None
+memory_promised asked objects formed = record {
+  usage = (λ usage. cc, λ none. absurd (formed none));
+  ends = λ told tells. inl (left_alone objects.taken objects.keeper);
+  read = λ reads. always objects.script _ (λ bytes. tt);
+  traced = λ e. always objects.trace _ (λ bytes. tt);
+  gives = none_given asked;
+  records = λ told tells. none_recorded asked told;
+  faults = refl;
+  unwritten = tt;
+  unkept = tt;
+  audited = λ e. refl;
+  of_check = λ e. tt;
+  of_run = λ e. tt;
+  of_race = λ e. tt;
+  of_soak = λ services e. tt;
+  complete = λ world is can. tt;
+}
+  where
+    none_given : (asked : Option Form) → GivesSeat asked status.NoMemory None
+    none_given None = refl
+    none_given (Some Run) = refl
+    none_given (Some Race) = refl
+    none_given (Some Check) = refl
+    none_given (Some Audit) = refl
+    none_given (Some (Soak services)) = refl
+
+    none_recorded : (asked : Option Form) (told : Told) → Records asked told status.NoMemory (shown_by objects objects) None
+    none_recorded None told = tt
+    none_recorded (Some Run) told = tt
+    none_recorded (Some Race) told = tt
+    none_recorded (Some Check) told = tt
+    none_recorded (Some Audit) told = tt
+    none_recorded (Some (Soak services)) told = tt
