@@ -18,9 +18,7 @@ ghost use Rattle.soak_summary.specs.Summary.{SummaryText};
 use crate::prepare::{Job, prepare};
 use crate::status::Status;
 use crate::verdict::send;
-use init_base::{
-    IoRefusal, List, NoMemory, Sink, SteadyFiles, SteadyKeeper, SteadySource, Text,
-};
+use init_base::{IoRefusal, List, NoMemory, Sink, SteadyFiles, SteadyKeeper, SteadySource, Text};
 use init_driver::count;
 use property_area::WriterSeat;
 use script_lang::{Generated, generate};
@@ -157,11 +155,7 @@ fn soak_boot<K: Sink>(
 }
 
 /// `soak`: generates a boot of so many services, runs it, and writes the summary of its report.
-pub fn soak<K: Sink>(
-    alloc: Global,
-    services: u32,
-    out: &mut K,
-) -> (Status, Option<WriterSeat>)
+pub fn soak<K: Sink>(alloc: Global, services: u32, out: &mut K) -> (Status, Option<WriterSeat>)
     requires some { 1 ≤ services }
     requires few { services ≤ 1000 }
     ensures ends { (told : Told) → TellRun (generated_sources services) told →
