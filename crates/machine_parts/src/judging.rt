@@ -1,10 +1,11 @@
 //! Whether a set of a property is accepted (`set_answer` of `init_machine`'s `specs/Setting.antt`).
 
-ghost use Rattle.std.specs.Prelude.{◌≡◌, None, IfOk, OnOk, false, length, not};
+ghost use Rattle.std.specs.Prelude.{◌≡◌, ℕ, List, None, IfOk, OnOk, false, length, not};
 ghost use Rattle.std.specs.Option.{option_copied};
 ghost use Rattle.init_base.specs.Name.{is_legal_name};
 ghost use Rattle.init_base.specs.Value.{LegalValue, value_fault_under};
 ghost use Rattle.init_machine.specs.Choices.{first_of, only_if};
+ghost use Rattle.init_machine.specs.Policy.{context_of};
 ghost use Rattle.init_machine.specs.Props.{MayBeSet, full_for};
 ghost use Rattle.init_machine.specs.Setting.{bad_value, denied, down, is_control as is_control_lem, no_room, property_refusals, read_only, set_answer};
 ghost use Rattle.machine_parts.specs.Answers.{IsAnswer};
@@ -13,7 +14,7 @@ ghost use Rattle.machine_parts.specs.Parts.{rules_of, state_of};
 use crate::parts::Parts;
 use init_base::{BadValue, PropName, PropValue, Text};
 use init_machine::{Full, PropStore, SetRefusal};
-use prop_contexts::Policy;
+use prop_contexts::{Context, Policy};
 use prop_rules::check_type;
 
 const CONTROL: &[u8] = b"ctl.";
@@ -45,10 +46,20 @@ pub fn check_domain(
 ) -> Result<(), SetRefusal>
     ensures { IsAnswer result (denied policy.now (option_copied by.entry) name.entry.bytes.now) }
 {
+    if by.is_none() {
+        return Ok(());
+    }
+    check_context(policy, by, policy.context_of(name))
+}
+
+/// The same, of a name whose context is known.
+fn check_context(policy: &Policy, by: Option<&Text>, context: &Context) -> Result<(), SetRefusal>
+    ensures { (name : List ℕ) → context.now ≡ context_of policy.now name → IsAnswer result (denied policy.now (option_copied by.entry) name) }
+{
     let Some(domain) = by else {
         return Ok(());
     };
-    let label = &policy.context_of(name).label;
+    let label = &context.label;
     if policy.allows(domain.bytes(), label.bytes()) {
         Ok(())
     } else {
@@ -131,8 +142,9 @@ fn judge_named<'a, S: PropStore>(
     ensures told { S.told store.new ≡ S.told store.old }
     ensures beside { S.Beside store.old store.new }
 {
-    check_domain(policy, by, name)?;
-    if !check_type(&policy.context_of(name).kind, value) {
+    let context = policy.context_of(name);
+    check_context(policy, by, context)?;
+    if !check_type(&context.kind, value) {
         return Err(SetRefusal::InvalidType);
     }
     let legal = legal_value(name, value)?;

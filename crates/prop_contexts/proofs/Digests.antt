@@ -1,16 +1,17 @@
 -- The digests of texts and of the fronts of a text, and which names have a line.
-use Rattle.std.proofs.Common.{◌≡◌, ℕ, ◌+◌, ◌<◌, ◌≤◌, Bool, true, false, ◌||◌, nat_eq, List, [], ◌∷◌, ◌++◌, take, refl, ap, sym, ◌∙◌, Vec, if◌then◌else◌, arith}
+use Rattle.std.proofs.Common.{◌≡◌, ℕ, ◌+◌, ◌%◌, ◌<◌, ◌≤◌, Bool, length, slice_set, subst, Result, Ok, Err, OnOk, OnErr, true, false, ◌||◌, nat_eq, List, [], ◌∷◌, ◌++◌, take, refl, ap, sym, ◌∙◌, Vec, if◌then◌else◌, arith}
 use Rattle.std.proofs.lemmas.Grind.{common_steps}
 use Rattle.std.proofs.lemmas.Bool.{eqb-true, eq-eqb, false_from_ne_true, true≢false}
+use Rattle.std.proofs.lemmas.List.{get_or-set_same, get_or-set_other}
 use Rattle.std.proofs.lemmas.List.Folds.{list_any-append}
 use Rattle.std.specs.Cmp.Lexicographic.{bytes_decides}
-use Rattle.std.specs.List.{list_any}
+use Rattle.std.specs.List.{list_any, slice_index_or}
 use Rattle.std.specs.Str.{bytes_eq}
 use Rattle.indexmap.specs.IndexMap.{insert_entry}
 use Rattle.indexmap.specs.IndexSet.{insert_key}
 use Rattle.init_machine.specs.Policy.{ContextLine}
 use Rattle.init_machine.specs.declared.policy.Context.{Context}
-use Rattle.prop_contexts.specs.Digests.{digest_of, HaveDigests}
+use Rattle.prop_contexts.specs.Digests.{digest_of, AreMarked, HaveDigests}
 use Rattle.prop_contexts.specs.NameLines.{has_name}
 use Rattle.prop_contexts.proofs.Entries.{entry_lines}
 
@@ -56,6 +57,12 @@ still_there digests digest other there =
       | false ↦ list_any-append (nat_eq other) digests (digest ∷ []) ∙ ap (λ b. b || (nat_eq other digest || false)) there
     ]
 
+swapped : (a b : Bool) → (a || b) ≡ (b || (a || false))
+swapped true true = refl
+swapped true false = refl
+swapped false true = refl
+swapped false false = refl
+
 or_true : (b : Bool) → (b || true) ≡ true
 or_true true = refl
 or_true false = refl
@@ -87,6 +94,14 @@ line_more lines new digests more key have is names name there = by (bytes_eq nam
         ∙ now_there digests (digest_of key)
     by false differ h = digest_more lines digests more (digest_of key) is have name h
 
+-- a line is put, or memory runs out
+pub line_put : {A E : Type 0} (result : Result A E) (lines new : List ContextLine) (digests more : List ℕ) (key : List ℕ) → HaveDigests lines digests
+    → more ≡ insert_key nat_eq digests (digest_of key) → OnOk result ((other : List ℕ) → has_name new other ≡ (bytes_eq other key || has_name lines other))
+    → OnErr result (new ≡ lines) → HaveDigests new more
+line_put (Ok fresh) lines new digests more key have is names same = line_more lines new digests more key have is names
+line_put (Err why) lines new digests more key have is names same =
+    subst (λ these. HaveDigests these more) (sym same) (digest_more lines digests more (digest_of key) is have)
+
 -- a name whose digest isn't there has no line
 no_line : (lines : List ContextLine) (digests : List ℕ) (name : List ℕ) (digest : ℕ) → HaveDigests lines digests → digest ≡ digest_of name
     → list_any (nat_eq digest) digests ≡ false → has_name lines name ≡ false
@@ -114,3 +129,51 @@ front_more lines digests name i known digest have is within longest n = by (list
     by : (v : Bool) → list_any (nat_eq digest) digests ≡ v → (if v then i + 1 else known) < n → n ≤ i + 1 → has_name lines (take n name) ≡ false
     by true there more less = absurd (omega (arith, more, less))
     by false none more less = last none (nat_eq n (i + 1)) refl more less
+
+-- ---- marks
+
+one_of : (digests : List ℕ) (digest other : ℕ) → list_any (nat_eq other) (insert_key nat_eq digests digest) ≡ true
+    → (nat_eq other digest || list_any (nat_eq other) digests) ≡ true
+one_of digests digest other there = by (list_any (nat_eq digest) digests) there
+  where
+    by : (v : Bool) → list_any (nat_eq other) (if v then digests else digests ++ digest ∷ []) ≡ true → (nat_eq other digest || list_any (nat_eq other) digests) ≡ true
+    by true h = ap (λ b. nat_eq other digest || b) h ∙ or_true (nat_eq other digest)
+    by false h =
+        swapped (nat_eq other digest) (list_any (nat_eq other) digests)
+        ∙ sym (list_any-append (nat_eq other) digests (digest ∷ []))
+        ∙ h
+
+-- no digest is there
+pub none_marked : (marks : List Bool) → AreMarked [] marks
+none_marked marks digest there = absurd (true≢false (sym there))
+
+set_here : (marks : List Bool) (at : ℕ) → at < length marks → slice_index_or (slice_set marks at true) at false ≡ true
+set_here marks at within = get_or-set_same marks at true false within
+
+set_elsewhere : (marks : List Bool) (at k : ℕ) → at < length marks → slice_index_or marks k false ≡ true
+    → slice_index_or (slice_set marks at true) k false ≡ true
+set_elsewhere marks at k within there = by (nat_eq k at) refl
+  where
+    by : (v : Bool) → nat_eq k at ≡ v → slice_index_or (slice_set marks at true) k false ≡ true
+    by true same = ap (λ n. slice_index_or (slice_set marks at true) n false) (eqb-true k at same) ∙ set_here marks at within
+    by false differ =
+        get_or-set_other marks at k true false (λ same. true≢false (sym (eq-eqb k at same) ∙ differ)) ∙ there
+
+-- a digest more, whose last byte is marked
+pub marked_more : (digests more : List ℕ) (marks after : List Bool) (digest : ℕ) → length marks ≡ 256 → AreMarked digests marks
+    → more ≡ insert_key nat_eq digests digest → after ≡ slice_set marks (digest % 256) true → AreMarked more after
+marked_more digests more marks after digest wide marked is set other there =
+    let here : list_any (nat_eq other) (insert_key nat_eq digests digest) ≡ true = ap (list_any (nat_eq other)) (sym is) ∙ there in
+    subst (λ these. slice_index_or these (other % 256) false ≡ true) (sym set) (by (nat_eq other digest) refl (one_of digests digest other here))
+  where
+    by : (v : Bool) → nat_eq other digest ≡ v → (v || list_any (nat_eq other) digests) ≡ true → slice_index_or (slice_set marks (digest % 256) true) (other % 256) false ≡ true
+    by true same h =
+        subst (λ d. slice_index_or (slice_set marks (digest % 256) true) (d % 256) false ≡ true) (sym (eqb-true other digest same))
+        (set_here marks (digest % 256) (omega (arith, wide)))
+    by false differ h = set_elsewhere marks (digest % 256) (other % 256) (omega (arith, wide)) (marked other h)
+
+-- a digest whose last byte isn't marked isn't there
+pub unmarked : (digests : List ℕ) (marks : List Bool) (digest : ℕ) → AreMarked digests marks → slice_index_or marks (digest % 256) false ≡ false
+    → list_any (nat_eq digest) digests ≡ false
+unmarked digests marks digest marked is =
+    false_from_ne_true (list_any (nat_eq digest) digests) (λ there. true≢false (sym (marked digest there) ∙ is))

@@ -10,6 +10,7 @@ mod allowances;
 mod allows;
 mod context_line;
 mod contexts;
+mod digest_set;
 mod laws;
 mod line;
 mod names;

@@ -11,8 +11,8 @@ ghost use Rattle.init_machine.specs.Policy.{is_prefix_for, longest};
 ghost use Rattle.prop_contexts.specs.NameLines.{has_name, named};
 ghost use Rattle.prop_contexts.specs.Digests.{digest_of as digest_of_lem, with_byte as with_byte_lem};
 
+use crate::digest_set::DigestSet;
 use crate::names::{Names, put};
-use indexmap::IndexSet;
 use init_base::NoMemory;
 use init_machine::Context;
 use std::alloc::Global;
@@ -23,7 +23,7 @@ use std::marker::Model;
 pub struct Prefixes {
     names: Names,
     /// The digests of the names.
-    digests: IndexSet<u64>,
+    digests: DigestSet,
 }
 
 impl Model for Prefixes {
@@ -36,7 +36,7 @@ impl Model for Prefixes {
 
     ghost view = { λ p. lines_in p.names };
 
-    ghost invariant = { λ p. HaveDigests (lines_in p.names) p.digests.keys };
+    ghost invariant = { λ p. HaveDigests (lines_in p.names) p.digests };
 }
 
 impl Prefixes {
@@ -45,7 +45,7 @@ impl Prefixes {
     {
         Prefixes {
             names: Names::new(alloc),
-            digests: IndexSet::new(alloc),
+            digests: DigestSet::new(alloc),
         }
     }
 
@@ -89,14 +89,10 @@ impl Prefixes {
 }
 
 /// The length of a front where a line has its digest, and else that of the longest known one.
-fn last_known(digests: &IndexSet<u64>, digest: u64, length: usize, known: usize) -> usize
-    ensures { result ≡ (if list_any (nat_eq digest) digests.now.keys then length else known) }
+fn last_known(digests: &DigestSet, digest: u64, length: usize, known: usize) -> usize
+    ensures { result ≡ (if list_any (nat_eq digest) digests.now then length else known) }
 {
-    if digests.contains(&digest) {
-        length
-    } else {
-        known
-    }
+    if digests.has(digest) { length } else { known }
 }
 
 /// The digest of a text.
