@@ -1,5 +1,5 @@
 -- The digests of texts and of the fronts of a text, and which names have a line.
-use Rattle.std.proofs.Common.{◌≡◌, ℕ, ◌+◌, ◌%◌, ◌<◌, ◌≤◌, Bool, length, slice_set, subst, Result, Ok, Err, OnOk, OnErr, true, false, ◌||◌, nat_eq, List, [], ◌∷◌, ◌++◌, take, refl, ap, sym, ◌∙◌, Vec, if◌then◌else◌, arith}
+use Rattle.std.proofs.Common.{◌≡◌, ℕ, ◌+◌, ◌%◌, ◌<◌, ◌≤◌, Bool, length, slice_set, subst, Result, Ok, Err, OnOk, OnErr, true, false, ◌||◌, nat_eq, List, [], ◌∷◌, ◌++◌, take, refl, ap, sym, ◌∙◌, if◌then◌else◌, arith}
 use Rattle.std.proofs.lemmas.Grind.{common_steps}
 use Rattle.std.proofs.lemmas.Bool.{eqb-true, eq-eqb, false_from_ne_true, true≢false}
 use Rattle.std.proofs.lemmas.List.{get_or-set_same, get_or-set_other}
@@ -30,23 +30,23 @@ twice true rest = refl
 twice false rest = refl
 
 -- the names that have a line, when a line more is put
-pub names_put : {A : Type 0} (entries : List (Vec ℕ A × Context)) (key : Vec ℕ A) (context : Context) (other : List ℕ)
-    → has_name (entry_lines (insert_entry (λ x y. bytes_eq x.items y.items) entries key context)) other ≡ (bytes_eq other key.items || has_name (entry_lines entries) other)
+pub names_put : (entries : List (List ℕ × Context)) (key : List ℕ) (context : Context) (other : List ℕ)
+    → has_name (entry_lines (insert_entry (λ x y. bytes_eq x y) entries key context)) other ≡ (bytes_eq other key || has_name (entry_lines entries) other)
 names_put [] key context other = refl
-names_put {A} (entry ∷ entries) key context other = by (bytes_eq key.items entry.0.items) refl (names_put entries key context other)
+names_put (entry ∷ entries) key context other = by (bytes_eq key entry.0) refl (names_put entries key context other)
   where
-    rest : List (Vec ℕ A × Context)
-    rest = insert_entry (λ x y. bytes_eq x.items y.items) entries key context
+    rest : List (List ℕ × Context)
+    rest = insert_entry (λ x y. bytes_eq x y) entries key context
 
-    by : (v : Bool) → bytes_eq key.items entry.0.items ≡ v → has_name (entry_lines rest) other ≡ (bytes_eq other key.items || has_name (entry_lines entries) other)
-        → has_name (entry_lines (if v then (entry.0, context) ∷ entries else entry ∷ rest)) other ≡ (bytes_eq other key.items || has_name (entry_lines (entry ∷ entries)) other)
+    by : (v : Bool) → bytes_eq key entry.0 ≡ v → has_name (entry_lines rest) other ≡ (bytes_eq other key || has_name (entry_lines entries) other)
+        → has_name (entry_lines (if v then (entry.0, context) ∷ entries else entry ∷ rest)) other ≡ (bytes_eq other key || has_name (entry_lines (entry ∷ entries)) other)
     by true same more =
-        let key_is : bytes_eq other key.items ≡ bytes_eq other entry.0.items = ap (bytes_eq other) (same_name key.items entry.0.items same) in
-        twice (bytes_eq other entry.0.items) (has_name (entry_lines entries) other)
-        ∙ ap (λ b. b || (bytes_eq other entry.0.items || has_name (entry_lines entries) other)) (sym key_is)
+        let key_is : bytes_eq other key ≡ bytes_eq other entry.0 = ap (bytes_eq other) (same_name key entry.0 same) in
+        twice (bytes_eq other entry.0) (has_name (entry_lines entries) other)
+        ∙ ap (λ b. b || (bytes_eq other entry.0 || has_name (entry_lines entries) other)) (sym key_is)
     by false differ more =
-        ap (λ b. bytes_eq other entry.0.items || b) more
-        ∙ shuffled (bytes_eq other entry.0.items) (bytes_eq other key.items) (has_name (entry_lines entries) other)
+        ap (λ b. bytes_eq other entry.0 || b) more
+        ∙ shuffled (bytes_eq other entry.0) (bytes_eq other key) (has_name (entry_lines entries) other)
 
 -- ---- digests
 

@@ -1,5 +1,5 @@
 -- The longest name that is a front of another, by looking up each front.
-use Rattle.std.proofs.Common.{◌≡◌, ℕ, suc, zero, ◌+◌, ◌-◌, ◌<◌, ◌≤◌, inl, inr, ◌⊎◌, ◌||◌, Bool, true, false, cond, nat_lt, Option, Some, None, List, [], ◌∷◌, ◌++◌, length, length-append, take, take-take, refl, ap, sym, ◌∙◌, find, filter, Vec, arith}
+use Rattle.std.proofs.Common.{◌≡◌, ℕ, suc, zero, ◌+◌, ◌-◌, ◌<◌, ◌≤◌, inl, inr, ◌⊎◌, ◌||◌, Bool, true, false, cond, nat_lt, Option, Some, None, List, [], ◌∷◌, ◌++◌, length, length-append, take, take-take, refl, ap, sym, ◌∙◌, find, filter, arith}
 use Rattle.std.proofs.Math.Seq.{take-append_seam}
 use Rattle.std.proofs.lemmas.Bool.{cases_lt, ltb-true, lt-ltb, false_from_ne_true}
 use Rattle.std.proofs.lemmas.List.{length-take}
@@ -166,12 +166,12 @@ unfolding below
 down-here name lines zero = or_none (find (is_line_for []) lines)
 down-here name lines (suc n) = refl
 
-pub lookup-is : {A : Type 0} (entries : List (Vec ℕ A × Context)) (name : List ℕ)
-    → lookup (λ k. bytes_eq name k.items) entries ≡ option_map (λ line. line.context) (find (is_line_for name) (entry_lines entries))
+pub lookup-is : (entries : List (List ℕ × Context)) (name : List ℕ)
+    → lookup (λ k. bytes_eq name k) entries ≡ option_map (λ line. line.context) (find (is_line_for name) (entry_lines entries))
 lookup-is [] name = refl
 lookup-is (entry ∷ entries) name =
-    elim (bytes_eq name entry.0.items) as (λ v. cond v (Some entry.1) (lookup (λ k. bytes_eq name k.items) entries)
-    ≡ option_map (λ line. line.context) (cond v (Some (named entry.0.items entry.1)) (find (is_line_for name) (entry_lines entries)))) [
+    elim (bytes_eq name entry.0) as (λ v. cond v (Some entry.1) (lookup (λ k. bytes_eq name k) entries)
+    ≡ option_map (λ line. line.context) (cond v (Some (named entry.0 entry.1)) (find (is_line_for name) (entry_lines entries)))) [
       | true ↦ refl
       | false ↦ lookup-is entries name
     ]

@@ -1,5 +1,5 @@
 -- The context of a name, by what was looked up; and why two texts are no policy.
-use Rattle.std.proofs.Common.{◌≡◌, ℕ, ◌≤◌, Option, Some, None, List, [], ◌∷◌, length, filter, find, refl, ap, sym, ◌∙◌, true, false, Vec, arith}
+use Rattle.std.proofs.Common.{◌≡◌, ℕ, ◌≤◌, Option, Some, None, List, [], ◌∷◌, length, filter, find, refl, ap, sym, ◌∙◌, true, false, arith}
 use Rattle.std.specs.Map.{lookup}
 use Rattle.std.specs.Option.{option_map, option_map_or}
 use Rattle.std.specs.Str.{bytes_eq}
@@ -28,22 +28,22 @@ not_here : (other : Context) (found : Option ContextLine) → None ≡ option_ma
 not_here other None h = refl
 not_here other (Some line) h = absurd (cc h)
 
-pub exact_found : {A : Type 0} (policy : PolicyLines) (name : List ℕ) (entries : List (Vec ℕ A × Context)) (context : Context) → policy.exact ≡ entry_lines entries
-    → Some context ≡ lookup (λ k. bytes_eq name k.items) entries → context ≡ context_of policy name
+pub exact_found : (policy : PolicyLines) (name : List ℕ) (entries : List (List ℕ × Context)) (context : Context) → policy.exact ≡ entry_lines entries
+    → Some context ≡ lookup (λ k. bytes_eq name k) entries → context ≡ context_of policy name
 unfolding context_of
 exact_found policy name entries context is found =
     here context _ (find (is_line_for name) policy.exact) (found ∙ lookup-is entries name ∙ ap (λ lines. option_map (λ line. line.context) (find (is_line_for name) lines)) (sym is))
 
-pub prefix_found : {A : Type 0} (policy : PolicyLines) (name : List ℕ) (entries : List (Vec ℕ A × Context)) (context : Context) → policy.exact ≡ entry_lines entries
-    → None ≡ lookup (λ k. bytes_eq name k.items) entries
+pub prefix_found : (policy : PolicyLines) (name : List ℕ) (entries : List (List ℕ × Context)) (context : Context) → policy.exact ≡ entry_lines entries
+    → None ≡ lookup (λ k. bytes_eq name k) entries
     → Some context ≡ option_map (λ line. line.context) (longest (filter (is_prefix_for name) policy.prefixes)) → context ≡ context_of policy name
 unfolding context_of
 prefix_found policy name entries context is none found =
     here context policy.default (longest (filter (is_prefix_for name) policy.prefixes)) found
     ∙ not_here _ (find (is_line_for name) policy.exact) (none ∙ lookup-is entries name ∙ ap (λ lines. option_map (λ line. line.context) (find (is_line_for name) lines)) (sym is))
 
-pub default_used : {A : Type 0} (policy : PolicyLines) (name : List ℕ) (entries : List (Vec ℕ A × Context)) → policy.exact ≡ entry_lines entries
-    → None ≡ lookup (λ k. bytes_eq name k.items) entries
+pub default_used : (policy : PolicyLines) (name : List ℕ) (entries : List (List ℕ × Context)) → policy.exact ≡ entry_lines entries
+    → None ≡ lookup (λ k. bytes_eq name k) entries
     → None ≡ option_map (λ line. line.context) (longest (filter (is_prefix_for name) policy.prefixes)) → policy.default ≡ context_of policy name
 unfolding context_of
 default_used policy name entries is none no_prefix =

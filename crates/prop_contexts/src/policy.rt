@@ -14,6 +14,7 @@ use init_base::PropName;
 use init_machine::{Context, PolicyView};
 use std::alloc::Global;
 use std::marker::Model;
+use text_index::Spelled;
 
 /// The policy of property sets.
 #[derive(Drop)]
@@ -70,7 +71,7 @@ impl Policy {
         ensures { result.now ≡ context_of self.now name.entry.bytes.now }
     {
         let name = name.bytes();
-        if let Some(context) = self.exact.get(name) {
+        if let Some(context) = self.exact.get(Spelled { bytes: name }) {
             return context;
         }
         match self.prefixes.longest(name) {

@@ -17,6 +17,7 @@ use init_base::NoMemory;
 use init_machine::Context;
 use std::alloc::Global;
 use std::marker::Model;
+use text_index::Spelled;
 
 /// The contexts of prefixes by their names, in the order of the lines.
 #[derive(Drop)]
@@ -64,7 +65,7 @@ impl Prefixes {
     {
         let mut front = self.longest_known(name);
         loop {
-            if let Some(context) = self.names.get(front) {
+            if let Some(context) = self.names.get(Spelled { bytes: front }) {
                 return Some(context);
             }
             let (_, shorter) = front.split_last()?;

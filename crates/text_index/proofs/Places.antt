@@ -1,6 +1,6 @@
 -- The places of texts: what they are in another list, and when a text is added.
 use Rattle.std.proofs.Common.{suc, eqb, ◌≡◌, ℕ, ◌+◌, ◌≤◌, Bool, true, false, cond, not, nat_lt, List, [], ◌∷◌, ◌++◌, map, length, Some, None, refl, sym, ap, ◌∙◌, ◌||◌, if◌then◌else◌, arith, add-zero}
-use Rattle.std.proofs.lemmas.List.{length-map, map-append}
+use Rattle.std.proofs.lemmas.List.{length-map}
 use Rattle.std.proofs.lemmas.List.Folds.{position_or_len_push}
 use Rattle.std.proofs.lemmas.List.Sums.{prefix_len-le-length}
 use Rattle.std.specs.Cmp.Lexicographic.{nat_list_eq_equiv}
@@ -52,18 +52,6 @@ held_stays texts text i e = sym (ap (λ b. if b then texts else texts ++ text �
 -- another one is added
 pub absent_added : (texts : List (List ℕ)) (text : List ℕ) → position (bytes_eq text) texts ≡ None → texts ++ text ∷ [] ≡ with_text texts text
 absent_added texts text e = sym (ap (λ b. if b then texts else texts ++ text ∷ []) (none_at (bytes_eq text) texts e))
-
-any_of_map : {A B : Type 0} (f : A → B) (p : B → Bool) (xs : List A) → list_any p (map f xs) ≡ list_any (λ x. p (f x)) xs
-any_of_map f p [] = refl
-any_of_map f p (x ∷ xs) = ap (λ b. p (f x) || b) (any_of_map f p xs)
-
--- a key is inserted behind those of other texts
-pub key_inserted : {A : Type 0} (f : A → List ℕ) (keys : List A) (key : A) (text : List ℕ) → f key ≡ text → position (bytes_eq text) (map f keys) ≡ None
-    → map f (if list_any (λ other. bytes_eq (f key) (f other)) keys then keys else keys ++ key ∷ []) ≡ map f keys ++ text ∷ []
-key_inserted f keys key text same none =
-    let absent : list_any (λ other. bytes_eq (f key) (f other)) keys ≡ false =
-    sym (any_of_map f (bytes_eq (f key)) keys) ∙ none_at (bytes_eq (f key)) (map f keys) (ap (λ t. position (bytes_eq t) (map f keys)) same ∙ none) in
-    ap (λ b. map f (if b then keys else keys ++ key ∷ [])) absent ∙ map-append f keys (key ∷ []) ∙ ap (λ t. map f keys ++ t ∷ []) same
 
 none_places : (n l : ℕ) → nat_lt n l ≡ false → n ≤ l → eqb n l ≡ true
 none_places n l off within = grind (arith, common_steps)

@@ -5,23 +5,26 @@ ghost use Rattle.std.specs.Prelude.{◌≡◌, [], ◌∷◌, ◌++◌, length, 
 ghost use Rattle.std.specs.Str.{bytes_eq};
 ghost use Rattle.text_index.specs.Texts.{with_text};
 
+mod key;
+
 use indexmap::IndexSet;
 use init_base::NoMemory;
+pub use key::{Spelled, TextKey};
 use std::alloc::Global;
 use std::marker::Model;
 
 /// Texts that differ, in the order in which they were added. It keeps the allocator that its constructor was given.
 #[derive(Drop)]
 pub struct TextIndex {
-    texts: IndexSet<Vec<u8>>,
+    texts: IndexSet<TextKey>,
 }
 
 impl Model for TextIndex {
-    ghost use Rattle.std.specs.Prelude.{ℕ, List, map};
+    ghost use Rattle.std.specs.Prelude.{ℕ, List};
 
     ghost Value = { List (List ℕ) };
 
-    ghost view = { λ index. map (λ text. text.items) index.texts.keys };
+    ghost view = { λ index. index.texts.keys };
 }
 
 impl TextIndex {
@@ -42,11 +45,10 @@ impl TextIndex {
     }
 
     /// The place of a text. None exactly where it isn't there.
-    #[tactic(auto, using(crate::proofs::Places::position_of_map))]
     pub fn place(&self, text: &[u8]) -> Option<usize>
         ensures { result ≡ position (bytes_eq text.now) self.now }
     {
-        self.texts.get_index_of(text)
+        self.texts.get_index_of(Spelled { bytes: text })
     }
 
     /// Adds a text at the end, unless it is there, and answers its place.
@@ -61,7 +63,7 @@ impl TextIndex {
         }
         let alloc = *self.texts.allocator();
         let place = self.texts.len();
-        self.texts.insert(Vec::from_slice(alloc, text)?)?;
+        self.texts.insert(TextKey::of(alloc, text)?)?;
         Ok(place)
     }
 }
