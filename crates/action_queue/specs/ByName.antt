@@ -7,4 +7,4 @@ use Rattle.action_queue.specs.declared.by_name.PlacesByName.{PlacesByName}
 
 -- the places under a name
 abbrev pub places_of : PlacesByName → List ℕ → List ℕ
-places_of places name = option_map_or (λ found. found.items) (get_by (λ key. bytes_eq name key.items) places.map) []
+places_of places name = option_map_or (λ found. found.items) (get_by (bytes_eq name) places.map) []

@@ -4,14 +4,15 @@ ghost use Rattle.std.specs.Prelude.{◌≡◌, ◌++◌, ◌∷◌, [], ℕ, Lis
 ghost use Rattle.std.specs.Str.{bytes_eq};
 ghost use Rattle.action_queue.specs.ByName.{places_of};
 
+use indexmap::IndexMap;
 use init_base::NoMemory;
 use std::alloc::Global;
-use std::collections::HashMap;
+use text_index::{Spelled, TextKey};
 
 /// Lists of places, each under a name. A name without one has the empty list.
 #[derive(Drop)]
 pub struct PlacesByName {
-    pub map: HashMap<Vec<u8>, Vec<usize>>,
+    pub map: IndexMap<TextKey, Vec<usize>>,
 }
 
 /// No place under any name.
@@ -19,7 +20,7 @@ pub fn no_places(alloc: Global) -> PlacesByName
     ensures { (name : Items ℕ) → places_of result name ≡ [] }
 {
     PlacesByName {
-        map: HashMap::new(alloc),
+        map: IndexMap::new(alloc),
     }
 }
 
@@ -27,7 +28,7 @@ pub fn no_places(alloc: Global) -> PlacesByName
 pub fn find<'a>(places: &'a PlacesByName, name: &[u8]) -> &'a [usize]
     ensures { result.now ≡ places_of places.entry.now name.now }
 {
-    match places.map.get(name) {
+    match places.map.get(Spelled { bytes: name }) {
         Some(found) => found.as_slice(),
         None => &[],
     }
@@ -39,7 +40,7 @@ pub fn add(alloc: Global, places: &mut PlacesByName, name: &[u8], at: usize) -> 
 {
     let mut found = take(alloc, places, name);
     found.push(at)?;
-    places.map.insert(Vec::from_slice(alloc, name)?, found)?;
+    places.map.insert(TextKey::of(alloc, name)?, found)?;
     Ok(())
 }
 
@@ -48,7 +49,7 @@ fn take(alloc: Global, places: &mut PlacesByName, name: &[u8]) -> Vec<usize>
     ensures found { result.items ≡ places_of places.old name.now }
     ensures others { (other : Items ℕ) → bytes_eq name.now other ≡ false → places_of places.new other ≡ places_of places.old other }
 {
-    match places.map.remove(name) {
+    match places.map.swap_remove(Spelled { bytes: name }) {
         Some(found) => found,
         None => Vec::new(alloc),
     }

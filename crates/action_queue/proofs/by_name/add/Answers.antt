@@ -7,7 +7,7 @@ use Rattle.action_queue.proofs.by_name.add.Goals as goal
 pub returns : goal.returns
 returns c = λ other.
     let name = c.args.name.now in
-    put_at (λ key. key.items) (λ places. places.items) c.take-found.new.places.map c.insert.new.self c.in_ok-from_slice.field-0 c.push.new.self name (places_of c.args.places.now)
-    c.in_ok-insert.ensures.updates c.in_ok-from_slice.ensures.items c.take-found.ensures.others other
+    put_at (λ key. key) (λ places. places.items) c.take-found.new.places.map c.insert.new.self c.in_ok-of.field-0 c.push.new.self name (places_of c.args.places.now)
+    c.in_ok-insert.ensures.updates c.in_ok-of.ensures c.take-found.ensures.others other
     ∙ ap (λ (found : List ℕ). if bytes_eq name other then found else places_of c.args.places.now other)
     (c.in_ok-push.ensures.items ∙ ap (λ (found : List ℕ). found ++ c.args.at ∷ []) c.take-found.ensures.found)
