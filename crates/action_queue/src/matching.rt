@@ -114,8 +114,8 @@ fn holds_now<S: PropStore>(store: &mut S, test: &PropTest) -> bool
     ensures spare { S.spare store.new ≡ S.spare store.old }
     ensures beside { S.Beside store.old store.new }
 {
-    let Some(name) = PropName::of(test.name.bytes()) else {
-        unreachable!()
+    let name = PropName {
+        bytes: test.name.bytes(),
     };
     match &test.value {
         Some(value) => has_value(store, name, value.bytes()),

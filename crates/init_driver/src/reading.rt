@@ -23,8 +23,8 @@ pub fn read(
     ensures told { IfOk result (λ reading. TellsRead reader.old.view name.now reading reader.new.view) }
     ensures reader { IsSameReader reader.old reader.new }
 {
-    let Some(legal) = PropName::of(name.bytes()) else {
-        unreachable!()
+    let legal = PropName {
+        bytes: name.bytes(),
     };
     if legal.is_read_only() {
         read_into(alloc, area, reader, name, legal, ValueBuffer::new().bytes())
