@@ -4,3 +4,4 @@ pub mod AreaSerial
 pub mod Looking
 pub mod Readers
 pub mod Hearing
+pub mod Noting

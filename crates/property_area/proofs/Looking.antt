@@ -1,12 +1,12 @@
 -- What the writer's look at a name, and its set, mean for the store.
-use Rattle.std.proofs.Common.{◌≡◌, ◌≢◌, ◌⊎◌, ℕ, ◌+◌, ◌<◌, ◌≤◌, ◌^◌, List, [], ◌∷◌, ◌++◌, length, take, Option, Some, None, sym, refl, ap, ◌∙◌, subst, inl, inr, ⊎_elim, arith, length-append}
+use Rattle.std.proofs.Common.{◌≡◌, ◌≢◌, ◌⊎◌, ℕ, ◌+◌, ◌<◌, ◌≤◌, ◌^◌, List, [], ◌∷◌, ◌++◌, length, take, Option, Some, None, sym, refl, ap, ◌∙◌, subst, inl, inr, ⊎_elim, arith, length-append, false, not, nat_lt, true}
 use mathlib.Core.Option.{some}
 use lib.ListN.{get_elem?}
 use Rattle.std.proofs.lemmas.Bool.{cond-false}
-use Rattle.init_base.specs.Name.{is_read_only}
+use Rattle.init_base.specs.Name.{is_read_only, LegalName}
 use Rattle.init_machine.specs.Sets.{Set, NoneBetween, LastSet, value_at}
 use Rattle.init_base.specs.Value.{max_value_len}
-use Rattle.init_machine.specs.Props.{Property, lookup_in, number_of, full_for, with_set, used_in, IsLookUp, MayBeSet}
+use Rattle.init_machine.specs.Props.{Property, lookup_in, is_absent, number_of, full_for, with_set, used_in, IsLookUp, MayBeSet}
 use Rattle.init_machine.specs.Words.{cell_words, need_of}
 use Rattle.init_machine.specs.Serial.{top_byte, number_in}
 use Rattle.serial_value.specs.declared.view.CellView.{CellView}
@@ -19,8 +19,10 @@ use Rattle.serial_value.specs.Kept.Sets.{last_at, none_at, at_last_set}
 use Rattle.serial_value.specs.Kept.Bodies.{least_len}
 use Rattle.property_trie.specs.Parts.{parts_of}
 use Rattle.property_trie.specs.Tree.{find, each_once}
-use Rattle.init_machine.specs.Kept.Room.{full_with}
-use Rattle.property_trie.specs.TrieSteps.{tree_of, sizes_of, Finds, HasCellAt, CellInside, Lacks}
+use Rattle.init_machine.specs.Kept.Room.{full_with, numbers_full}
+use Rattle.init_machine.proofs.Ample.{room_for_any}
+use Rattle.init_machine.proofs.LegalNames.{legal_short}
+use Rattle.property_trie.specs.TrieSteps.{tree_of, sizes_of, knowing, Finds, HasCellAt, CellInside, Lacks}
 use Rattle.property_trie.specs.Additions.{mark_of, new_place}
 use Rattle.property_area.specs.declared.view.AreaView.{AreaView}
 use Rattle.property_area.specs.Area.{SetsFit, with_cell, with_trie, noted}
@@ -32,12 +34,17 @@ use Rattle.atomic_table.specs.Seated.{TableId}
 use Rattle.property_trie.specs.TrieSteps.{IsAtRest}
 use Rattle.property_trie.specs.declared.view.TrieView.{TrieView}
 use Rattle.property_area.specs.Seats.{sets_in, settled_view, store_of, IsSet, IsWriterView}
-use Rattle.property_area.proofs.Meaning.{room_is, short_there, props_count, props_more, props_used, lookup_last, lookup_none, room_number, room_fits, mark_kept, mark_added}
+use Rattle.property_area.proofs.Meaning.{room_is, short_there, props_capacity, props_count, props_more, props_used, lookup_last, no_cell, room_number, room_fits, mark_kept, mark_added}
 
 module _ (v : AreaView) (sets : List Set) (is : v.cell ≡ Writer sets None) (name : List ℕ) (after : AreaView) where
   -- the name has no cell
   pub found_none : Finds with_trie noted v.words v.cell v.trie v name None after → (find (tree_of sets) (parts_of name) ≡ 0) × (after ≡ v)
   found_none f = subst (λ (c : CellView). Lacks with_trie noted c v name after) is f
+
+  -- and which cell the seat has found
+  pub found_at : (place : ℕ) → Finds with_trie noted v.words v.cell v.trie v name (Some place) after
+      → CellInside v.words place × (find (tree_of sets) (parts_of name) ≡ place) × (after ≡ with_trie v (knowing v.trie name place))
+  found_at place f = (f.0, subst (λ (c : CellView). HasCellAt c name place) is f.1, f.2)
 
   pub found_some : (place : ℕ) → Finds with_trie noted v.words v.cell v.trie v name (Some place) after
       → CellInside v.words place × (find (tree_of sets) (parts_of name) ≡ place) × (after ≡ with_trie v after.trie)
@@ -47,8 +54,18 @@ module _ (v : AreaView) (sets : List Set) (is : v.cell ≡ Writer sets None) (na
     f.2 ∙ (λ i. with_trie v (sym f.2 i).trie),
   )
 
-  pub look_none : (words : ℕ) (out : List ℕ) → Finds with_trie noted v.words v.cell v.trie v name None after → IsLookUp (lookup_in (props_of words sets).held name) None out
-  look_none words out f = subst (λ (o : Option Property). IsLookUp o None out) (sym (lookup_none words sets name (found_none f).0)) refl
+-- a name whose cell was found is held
+pub held_at : (words : ℕ) (sets : List Set) (name : List ℕ) (place : ℕ) → find (tree_of sets) (parts_of name) ≡ place → 16 ≤ place
+    → is_absent (lookup_in (props_of words sets).held name) ≡ false
+held_at words sets name place found high = of (lookup_in (props_of words sets).held name) refl
+  where
+    of : (o : Option Property) → lookup_in (props_of words sets).held name ≡ o → is_absent o ≡ false
+    of None e = let none = no_cell words sets name e in absurd (omega (arith, none, found, high))
+    of (Some h) e = refl
+
+-- a name that isn't held is looked up so
+pub absent_look : (v : AreaView) (name out : List ℕ) → lookup_in (store_of v).held name ≡ None → IsLookUp (lookup_in (store_of v).held name) None out
+absent_look v name out none = subst (λ (o : Option Property). IsLookUp o None out) (sym none) refl
 
 -- the value that was found is the one that the store has
 pub look_found : (v : AreaView) (sets : List Set) → v.cell ≡ Writer sets None → (name : List ℕ) (after : AreaView) (words len number : ℕ) (before out : List ℕ)
@@ -67,9 +84,6 @@ number_found words v sets is name place word after begins =
     let b = (subst (λ (c : CellView). Begins words c name place word after) is begins).1 in
     let number : number_in word ≡ b.number = ap number_in b.serial ∙ (layout (top_byte b.value) b.number b.small).1 in
     ap Some number ∙ sym (ap number_of (lookup_last v.words sets name b.number b.value b.last))
-
-pub number_none : (v : AreaView) (sets : List Set) (name : List ℕ) (words : ℕ) → find (tree_of sets) (parts_of name) ≡ 0 → None ≡ number_of (lookup_in (props_of words sets).held name)
-number_none v sets name words none = sym (ap number_of (lookup_none words sets name none))
 
 -- a name is in no set, or one of its sets is the last
 some_last : (sets : List Set) (name : List ℕ) → NoneBetween sets name 0 (length sets) ⊎ ((number : ℕ) × (value : List ℕ) × LastSet sets (length sets) name number value)
@@ -110,10 +124,10 @@ module _ (v w : AreaView) (same : sets_in w ≡ sets_in v) (words : ℕ) (name :
   pub new_fits : SetsFit (sets_in v) → find (tree_of (sets_in v)) (parts_of name) ≡ 0 → new_place (sets_in w) name + cell_words len ≤ words
   new_fits fit none = subst (λ (s : List Set). new_place s name + cell_words len ≤ words) (sym same) (room_fits words (sets_in v) name len fit room none)
 
-pub used_kept : (v w after : AreaView) (name value : List ℕ) (place used : ℕ) → sets_in w ≡ sets_in v → find (tree_of (sets_in v)) (parts_of name) ≡ place → 16 ≤ place
+pub used_kept : (v w after : AreaView) (name value : List ℕ) (used : ℕ) → sets_in w ≡ sets_in v → find (tree_of (sets_in v)) (parts_of name) ≢ 0
     → used ≡ mark_of (sets_in v) → IsSet w name value after → used ≡ mark_of (sets_in after)
-used_kept v w after name value place used same found high is set =
-    is ∙ sym (ap mark_of (sets_after w name value after set ∙ ap (λ (s : List Set). s ++ (name, value) ∷ []) same) ∙ mark_kept (sets_in v) name value (λ e. omega arith))
+used_kept v w after name value used same there is set =
+    is ∙ sym (ap mark_of (sets_after w name value after set ∙ ap (λ (s : List Set). s ++ (name, value) ∷ []) same) ∙ mark_kept (sets_in v) name value there)
 
 pub used_more : (v w after : AreaView) (name value : List ℕ) (used : ℕ) → sets_in w ≡ sets_in v → find (tree_of (sets_in v)) (parts_of name) ≡ 0
     → used ≡ new_place (sets_in w) name + cell_words (length value) → IsSet w name value after → used ≡ mark_of (sets_in after)
@@ -129,6 +143,16 @@ store_after v name value after is = ap store_of is ∙ props_more (record { held
 
 pub store_used : (v : AreaView) → SetsFit (sets_in v) → used_in (store_of v) ≡ mark_of (sets_in v)
 store_used v fit = props_used v.words (sets_in v) fit
+
+-- with words left for any name only the numbers count
+pub room_ample : (v : AreaView) (name : List ℕ) (len used words count : ℕ) → SetsFit (sets_in v) → LegalName name
+    → used ≡ mark_of (sets_in v) → words ≡ v.words → count ≡ length (sets_in v) → not (nat_lt words (used + (9472 + cell_words len))) ≡ true
+    → numbers_full count ≡ full_for (store_of v) name len
+room_ample v name len used words count fit legal a b c ample =
+    let left : not (nat_lt (store_of v).capacity (used + (9472 + cell_words len))) ≡ true =
+    ap (λ (w : ℕ). not (nat_lt w (used + (9472 + cell_words len)))) (props_capacity (record { held = []; count = 0; capacity = v.words }) (sets_in v) ∙ sym b) ∙ ample in
+    let full = room_for_any (store_of v) used name len (legal_short name legal) (a ∙ sym (store_used v fit)) left in
+    ap numbers_full (c ∙ sym (store_count v)) ∙ sym full
 
 -- what the test of room says
 pub room_told : (v : AreaView) (name : List ℕ) (len need used words count : ℕ) → SetsFit (sets_in v) → need ≡ need_of (each_once (sizes_of (sets_in v))) name len

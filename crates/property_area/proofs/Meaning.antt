@@ -21,7 +21,9 @@ use Rattle.init_machine.specs.Kept.Room.{full_with}
 use Rattle.init_machine.specs.declared.store.Full.{Full}
 use Rattle.init_machine.specs.declared.store.Full.TheVariants.{Words, Numbers}
 use Rattle.std.proofs.lemmas.Bool.Decides.{nat_tests}
+use Rattle.atomic_table.specs.Seated.{TableId}
 use Rattle.serial_value.specs.Cell.{HasShortCell}
+use Rattle.serial_value.specs.Steps.{HasCell}
 use Rattle.serial_value.specs.Kept.Places.{at_below}
 use Rattle.serial_value.specs.Kept.Sets.{last_once, last_at}
 use Rattle.property_trie.specs.Parts.{parts_of}
@@ -73,7 +75,7 @@ props_names p once (s ∷ sets) same =
 pub names_are : (words : ℕ) (sets : List Set) → held_names (props_of words sets).held ≡ names_in (each_once (sizes_of sets))
 names_are words sets = props_names (record { held = []; count = 0; capacity = words }) [] sets refl
 
-lookup-put : (held : List Property) (new : Property) (q : List ℕ) → lookup_in (put_in held new) q ≡ (if bytes_eq new.name q then Some new else lookup_in held q)
+pub lookup-put : (held : List Property) (new : Property) (q : List ℕ) → lookup_in (put_in held new) q ≡ (if bytes_eq new.name q then Some new else lookup_in held q)
 lookup-put [] new q = refl
 lookup-put (h ∷ held) new q = ⊎_elim
     (λ (same : h.name ≡ new.name).
@@ -190,6 +192,18 @@ lookup_none words sets name none =
 held_found : (words : ℕ) (sets : List Set) (name : List ℕ) → is_absent (lookup_in (props_of words sets).held name) ≡ not (is_among (names_in (each_once (sizes_of sets))) name)
 held_found words sets name = absent-among (props_of words sets).held name ∙ ap (λ (n : List (List ℕ)). not (is_among n name)) (names_are words sets)
 
+-- a name that isn't held has no cell, and one that is held has one
+pub no_cell : (words : ℕ) (sets : List Set) (name : List ℕ) → lookup_in (props_of words sets).held name ≡ None → find (tree_of sets) (parts_of name) ≡ 0
+no_cell words sets name none =
+    (finds_its_names (sizes_of sets) name).1 (not_so (is_among (names_in (each_once (sizes_of sets))) name) (sym (held_found words sets name) ∙ ap is_absent none))
+  where
+    not_so : (b : Bool) → not b ≡ true → b ≡ false
+    not_so true e = absurd (cc)
+    not_so false e = refl
+
+pub has_cell : (words : ℕ) (sets : List Set) (name : List ℕ) → is_absent (lookup_in (props_of words sets).held name) ≡ false → find (tree_of sets) (parts_of name) ≢ 0
+has_cell words sets name held none = let absent = ap is_absent (lookup_none words sets name none) in absurd (cc)
+
 -- the words that a name needs hang on the names alone
 need_same : (words : ℕ) (sets : List Set) (name : List ℕ) (len : ℕ) → need_of (held_sizes (props_of words sets).held) name len ≡ need_of (each_once (sizes_of sets)) name len
 need_same words sets name len =
@@ -217,6 +231,14 @@ need_is sets name len absent =
 -- the first free word after a set
 pub mark_added : (sets : List Set) (name value : List ℕ) → find (tree_of sets) (parts_of name) ≡ 0 → mark_of (sets ++ (name, value) ∷ []) ≡ new_place sets name + cell_words (length value)
 mark_added sets name value none = ap (λ (t : Trie). t.mark) (trie_more sets name value none)
+
+-- where a new cell comes to lie, there is room for it
+pub new_cell_fits : (table : TableId) (sets : List Set) (name : List ℕ) (place len : ℕ) → table.words ≤ 1048576 → place ≡ new_place sets name
+    → new_place sets name + cell_words len ≤ table.words → HasCell table place
+new_cell_fits table sets name place len small is room =
+    let above = (trie_is (sizes_of sets)).above in
+    let wide = cell_wide len in
+    (omega (arith, above, is), omega (arith, room, wide, is), omega (arith, room, small, is))
 
 pub mark_kept : (sets : List Set) (name value : List ℕ) → find (tree_of sets) (parts_of name) ≢ 0 → mark_of (sets ++ (name, value) ∷ []) ≡ mark_of sets
 mark_kept sets name value there = ap (λ (t : Trie). t.mark) (trie_same sets name value there)

@@ -4,3 +4,4 @@ pub mod Readers
 pub mod Meaning
 pub mod Room
 pub mod Kept
+pub mod Places

@@ -9,6 +9,7 @@
 mod area;
 mod handing;
 mod head;
+mod places;
 mod reader;
 mod room;
 mod rule;

@@ -1,8 +1,8 @@
 //! The writer's looks at a name, and its sets, at its own seat.
 
-ghost use Rattle.std.specs.Prelude.{◌≡◌, ◌<◌, ◌≤◌, ◌+◌, ◌^◌, [], length, None, Some};
+ghost use Rattle.std.specs.Prelude.{◌≡◌, ◌<◌, ◌≤◌, ◌+◌, ◌^◌, [], length, false, None, Some, IfNone, IfSome};
 ghost use Rattle.init_base.specs.Value.{LegalValue, max_value_len};
-ghost use Rattle.init_machine.specs.Props.{lookup_in, number_of as number_in, full_for, IsLookUp, MayBeSet};
+ghost use Rattle.init_machine.specs.Props.{is_absent, lookup_in, number_of as number_in, full_for, IsLookUp, MayBeSet};
 ghost use Rattle.init_machine.specs.Words.{cell_words as cell_words_of, need_of};
 ghost use Rattle.serial_value.specs.Cell.{HasShortCell};
 ghost use Rattle.serial_value.specs.Steps.{IsSameSeat, HasCell};
@@ -11,10 +11,12 @@ ghost use Rattle.property_trie.specs.Parts.{parts_of};
 ghost use Rattle.property_trie.specs.Tree.{each_once, find as find_in};
 ghost use Rattle.property_trie.specs.TrieSteps.{sizes_of, tree_of};
 ghost use Rattle.property_area.specs.Area.{Linked};
+ghost use Rattle.property_area.specs.Places.{AreNoted};
 ghost use Rattle.property_area.specs.Seats.{sets_in, IsWriterView, IsBeside, IsSet, store_of};
 
 use crate::area::Area;
 use crate::head::store_serial;
+use crate::places::Places;
 use crate::rule::WordArea;
 use crate::view::AreaView;
 use atomic_table::Seat;
@@ -24,21 +26,51 @@ use property_trie::{add, find, need};
 use serial_value::{Asked, CellAnswer, first_serial, parts, read_cell, write_cell};
 use std::marker::Brand;
 
+/// The place of the name's cell, as it is noted, or else by a walk, and noted then. None exactly where the name is absent.
+fn find_cell(
+    area: &Area,
+    seat: &mut Seat<(), AreaView>,
+    places: &mut Places,
+    name: PropName<'_>,
+) -> Option<usize>
+    requires writer { (seat.old.table_id ≡ area.now) × (seat.old.me.1 ≡ []) × IsWriterView seat.old.table_id seat.old.me.0 }
+    requires noted { AreNoted area.now seat.old.me.0.trie.known (store_of seat.old.me.0).held places.old }
+    ensures seat { IsSameSeat seat.old seat.new × (seat.new.me.1 ≡ []) × IsWriterView seat.new.table_id seat.new.me.0 }
+    ensures view { IsBeside seat.old.me.0 seat.new.me.0 }
+    ensures noted { AreNoted area.now seat.new.me.0.trie.known (store_of seat.new.me.0).held places.new }
+    ensures cell { IfSome result (λ place. HasCell area.now place × Linked seat.new.me.0 name.entry.bytes.now place) }
+    ensures held { IfSome result (λ place. is_absent (lookup_in (store_of seat.old.me.0).held name.entry.bytes.now) ≡ false) }
+    ensures absent { IfNone result (lookup_in (store_of seat.old.me.0).held name.entry.bytes.now ≡ None) }
+{
+    if let Some(place) = places.find(name.bytes) {
+        return Some(place);
+    }
+    if places.whole {
+        return None;
+    }
+    let place = find(&area.table, seat, name)?;
+    places.note(name.bytes, place);
+    Some(place)
+}
+
 /// None exactly where the name is absent; else the length of its value, which stands at the front of `out`, and the number of
 /// the set that gave it.
 pub(crate) fn look_up(
     area: &Area,
     seat: &mut Seat<(), AreaView>,
+    places: &mut Places,
     name: PropName<'_>,
     out: &mut [u8],
 ) -> Option<(usize, u64)>
     requires writer { (seat.old.table_id ≡ area.now) × (seat.old.me.1 ≡ []) × IsWriterView seat.old.table_id seat.old.me.0 }
+    requires noted { AreNoted area.now seat.old.me.0.trie.known (store_of seat.old.me.0).held places.old }
     requires wide { max_value_len name.bytes.now ≤ length out.old }
     ensures seat { IsSameSeat seat.old seat.new × (seat.new.me.1 ≡ []) × IsWriterView seat.new.table_id seat.new.me.0 }
     ensures view { IsBeside seat.old.me.0 seat.new.me.0 }
+    ensures noted { AreNoted area.now seat.new.me.0.trie.known (store_of seat.new.me.0).held places.new }
     ensures found { IsLookUp (lookup_in (store_of seat.old.me.0).held name.entry.bytes.now) result out.new }
 {
-    let at = find(&area.table, seat, name)?;
+    let at = find_cell(area, seat, places, name)?;
     match read_cell(&area.table, seat, at, name, out) {
         CellAnswer::Found { len, number } => Some((len as usize, number)),
         CellAnswer::Again { .. } => unreachable!(),
@@ -62,14 +94,17 @@ fn number_at<Q: Asked>(area: &Area, seat: &mut Seat<(), AreaView>, at: usize, na
 pub(crate) fn number_of(
     area: &Area,
     seat: &mut Seat<(), AreaView>,
+    places: &mut Places,
     name: PropName<'_>,
 ) -> Option<u64>
     requires writer { (seat.old.table_id ≡ area.now) × (seat.old.me.1 ≡ []) × IsWriterView seat.old.table_id seat.old.me.0 }
+    requires noted { AreNoted area.now seat.old.me.0.trie.known (store_of seat.old.me.0).held places.old }
     ensures seat { IsSameSeat seat.old seat.new × (seat.new.me.1 ≡ []) × IsWriterView seat.new.table_id seat.new.me.0 }
     ensures view { IsBeside seat.old.me.0 seat.new.me.0 }
+    ensures noted { AreNoted area.now seat.new.me.0.trie.known (store_of seat.new.me.0).held places.new }
     ensures number { result ≡ number_in (lookup_in (store_of seat.old.me.0).held name.entry.bytes.now) }
 {
-    let at = find(&area.table, seat, name)?;
+    let at = find_cell(area, seat, places, name)?;
     Some(number_at::<Brand>(area, seat, at, name.bytes))
 }
 
@@ -77,12 +112,15 @@ pub(crate) fn number_of(
 pub(crate) fn words_needed(
     area: &Area,
     seat: &mut Seat<(), AreaView>,
+    places: &Places,
     name: PropName<'_>,
     len: usize,
 ) -> u64
     requires writer { (seat.old.table_id ≡ area.now) × (seat.old.me.1 ≡ []) × IsWriterView seat.old.table_id seat.old.me.0 }
+    requires noted { AreNoted area.now seat.old.me.0.trie.known (store_of seat.old.me.0).held places.now }
     ensures seat { IsSameSeat seat.old seat.new × (seat.new.me.1 ≡ []) × IsWriterView seat.new.table_id seat.new.me.0 }
     ensures view { IsBeside seat.old.me.0 seat.new.me.0 }
+    ensures noted { AreNoted area.now seat.new.me.0.trie.known (store_of seat.new.me.0).held places.now }
     ensures need { result ≡ need_of (each_once (sizes_of (sets_in seat.old.me.0))) name.entry.bytes.now len }
 {
     need(&area.table, seat, name, len)
@@ -103,6 +141,7 @@ fn set_at(
     requires number { (number ≡ length (sets_in seat.old.me.0) + 1) × (number < 2 ^ 55) }
     ensures seat { IsSameSeat seat.old seat.new × (seat.new.me.1 ≡ []) × IsWriterView seat.new.table_id seat.new.me.0 }
     ensures view { IsSet seat.old.me.0 name.entry.bytes.now value.entry.bytes.now seat.new.me.0 }
+    ensures trie { seat.new.me.0.trie ≡ seat.old.me.0.trie }
 {
     write_cell(&area.table, seat, at, name, number, value);
     store_serial(area, seat, number);
@@ -112,12 +151,14 @@ fn set_at(
 fn set_new(
     area: &Area,
     seat: &mut Seat<(), AreaView>,
+    places: &mut Places,
     name: PropName<'_>,
     number: u64,
     value: PropValue<'_>,
     used: usize,
 ) -> usize
     requires writer { (seat.old.table_id ≡ area.now) × (seat.old.me.1 ≡ []) × IsWriterView seat.old.table_id seat.old.me.0 }
+    requires noted { AreNoted area.now seat.old.me.0.trie.known (store_of seat.old.me.0).held places.old }
     requires absent { find_in (tree_of (sets_in seat.old.me.0)) (parts_of name.bytes.now) ≡ 0 }
     requires legal { LegalValue name.bytes.now value.bytes.now }
     requires room { new_place (sets_in seat.old.me.0) name.bytes.now
@@ -126,10 +167,12 @@ fn set_new(
     requires used { used ≡ mark_of (sets_in seat.old.me.0) }
     ensures seat { IsSameSeat seat.old seat.new × (seat.new.me.1 ≡ []) × IsWriterView seat.new.table_id seat.new.me.0 }
     ensures view { IsSet seat.old.me.0 name.entry.bytes.now value.entry.bytes.now seat.new.me.0 }
+    ensures noted { AreNoted area.now seat.new.me.0.trie.known (store_of seat.new.me.0).held places.new }
     ensures used { result ≡ new_place (sets_in seat.old.me.0) name.entry.bytes.now + cell_words_of (length value.entry.bytes.now) }
 {
     let place = add(&area.table, seat, name, number, value, used);
     store_serial(area, seat, number);
+    places.note(name.bytes, place);
     place + cell_words(value.bytes.len()) as usize
 }
 
@@ -138,12 +181,14 @@ fn set_new(
 pub(crate) fn set(
     area: &Area,
     seat: &mut Seat<(), AreaView>,
+    places: &mut Places,
     name: PropName<'_>,
     number: u64,
     value: PropValue<'_>,
     used: usize,
 ) -> usize
     requires writer { (seat.old.table_id ≡ area.now) × (seat.old.me.1 ≡ []) × IsWriterView seat.old.table_id seat.old.me.0 }
+    requires noted { AreNoted area.now seat.old.me.0.trie.known (store_of seat.old.me.0).held places.old }
     requires legal { LegalValue name.bytes.now value.bytes.now }
     requires room { full_for (store_of seat.old.me.0) name.bytes.now (length value.bytes.now) ≡ None }
     requires once { MayBeSet (store_of seat.old.me.0) name.bytes.now }
@@ -151,13 +196,14 @@ pub(crate) fn set(
     requires used { used ≡ mark_of (sets_in seat.old.me.0) }
     ensures seat { IsSameSeat seat.old seat.new × (seat.new.me.1 ≡ []) × IsWriterView seat.new.table_id seat.new.me.0 }
     ensures view { IsSet seat.old.me.0 name.entry.bytes.now value.entry.bytes.now seat.new.me.0 }
+    ensures noted { AreNoted area.now seat.new.me.0.trie.known (store_of seat.new.me.0).held places.new }
     ensures used { result ≡ mark_of (sets_in seat.new.me.0) }
 {
-    match find(&area.table, seat, name) {
+    match find_cell(area, seat, places, name) {
         Some(at) => {
             set_at(area, seat, at, name, number, value);
             used
         }
-        None => set_new(area, seat, name, number, value, used),
+        None => set_new(area, seat, places, name, number, value, used),
     }
 }

@@ -4,8 +4,9 @@ ghost use Rattle.std.specs.Prelude.{◌≡◌};
 
 use crate::area::{Area, WriterSeat};
 use crate::handing::{join_in, open_log, put_in_place, record_entry, split_off, tell_count};
+use crate::places::Places;
 use crate::reader::Reader;
-use crate::room::check_room;
+use crate::room::{check_numbers, check_room, has_room_for_any};
 use crate::store::{look_up, number_of, set, words_needed};
 use crate::view::AreaView;
 use atomic_table::Seat;
@@ -14,11 +15,13 @@ use init_machine::{Config, Entry, Full, PolicyView, PropStore};
 use std::alloc::Global;
 use std::marker::{Brand, Model};
 
-/// The writer of an area. Each of its sets is seen by the readers while it is made, and takes no memory.
+/// The writer of an area. Each of its sets is seen by the readers while it is made, and none fails for want of memory.
 #[derive(Drop)]
 pub struct AreaWriter<'a> {
     area: &'a Area,
     seat: Seat<(), AreaView>,
+    /// Where cells lie.
+    places: Places,
     used: usize,
     count: u64,
 }
@@ -26,14 +29,16 @@ pub struct AreaWriter<'a> {
 impl<'a> Model for AreaWriter<'a> {
     ghost use Rattle.std.specs.Prelude.{◌≡◌, [], length};
     ghost use Rattle.property_trie.specs.Additions.{mark_of};
-    ghost use Rattle.property_area.specs.Seats.{Seated, sets_in, IsWriterView};
+    ghost use Rattle.property_area.specs.Places.{AreNoted};
+    ghost use Rattle.property_area.specs.Seats.{Seated, sets_in, store_of, IsWriterView};
 
     ghost Value = { Seated };
 
     ghost view = { λ s. record { table = s.seat.table_id; id = s.seat.id; view = s.seat.me.0 } };
 
     ghost invariant = { λ s. (s.seat.table_id ≡ s.area.now) × (s.seat.me.1 ≡ []) × IsWriterView s.seat.table_id s.seat.me.0
-        × (s.used ≡ mark_of (sets_in s.seat.me.0)) × (s.count ≡ length (sets_in s.seat.me.0)) };
+        × (s.used ≡ mark_of (sets_in s.seat.me.0)) × (s.count ≡ length (sets_in s.seat.me.0))
+        × AreNoted s.area.now s.seat.me.0.trie.known (store_of s.seat.me.0).held s.places };
 }
 
 impl<'a> AreaWriter<'a> {
@@ -46,6 +51,7 @@ impl<'a> AreaWriter<'a> {
         AreaWriter {
             area,
             seat,
+            places: Places::new(count == 0),
             used,
             count,
         }
@@ -58,6 +64,7 @@ impl<'a> AreaWriter<'a> {
         let AreaWriter {
             area: _,
             seat,
+            places: _,
             used,
             count,
         } = self;
@@ -156,11 +163,11 @@ impl<'a> PropStore for AreaWriter<'a> {
     ghost Beside = { IsSameBeside };
 
     fn get(&mut self, name: PropName<'_>, out: &mut [u8]) -> Option<(usize, u64)> {
-        look_up(self.area, &mut self.seat, name, out)
+        look_up(self.area, &mut self.seat, &mut self.places, name, out)
     }
 
     fn number_of(&mut self, name: PropName<'_>) -> Option<u64> {
-        number_of(self.area, &mut self.seat, name)
+        number_of(self.area, &mut self.seat, &mut self.places, name)
     }
 
     fn count(&self) -> u64 {
@@ -172,24 +179,38 @@ impl<'a> PropStore for AreaWriter<'a> {
     }
 
     fn room(&mut self, name: PropName<'_>, len: usize) -> Result<(), Full> {
-        let need = words_needed(self.area, &mut self.seat, name, len);
+        let used = self.used as u64;
         let words = self.area.words() as u64;
-        check_room(need, self.used as u64, words, self.count)
+        if has_room_for_any(used, len, words) {
+            return check_numbers(self.count);
+        }
+        let need = words_needed(self.area, &mut self.seat, &self.places, name, len);
+        check_room(need, used, words, self.count)
     }
 
-    fn reserve(&mut self, _: Global) -> Result<(), NoMemory>
+    fn reserve(&mut self, alloc: Global) -> Result<(), NoMemory>
         ensures always { IsOk result }
         ensures spare { OnOk result (1 ≤ 1) }
         ensures same { store_of self.new.view ≡ store_of self.old.view }
         ensures told { Some (sets_in self.new.view) ≡ Some (sets_in self.old.view) }
         ensures beside { IsSameBeside self.old self.new }
     {
+        self.places.prepare(alloc);
         Ok(())
     }
 
     fn put(&mut self, name: PropName<'_>, value: PropValue<'_>) -> u64 {
         let number = self.count + 1;
-        self.used = set(self.area, &mut self.seat, name, number, value, self.used);
+        let places = &mut self.places;
+        self.used = set(
+            self.area,
+            &mut self.seat,
+            places,
+            name,
+            number,
+            value,
+            self.used,
+        );
         self.count = number;
         number
     }
