@@ -9,6 +9,7 @@
 mod area;
 mod handing;
 mod head;
+mod index;
 mod places;
 mod reader;
 mod room;

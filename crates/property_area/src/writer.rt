@@ -4,7 +4,7 @@ ghost use Rattle.std.specs.Prelude.{◌≡◌};
 
 use crate::area::{Area, WriterSeat};
 use crate::handing::{join_in, open_log, put_in_place, record_entry, split_off, tell_count};
-use crate::places::Places;
+use crate::index::Index;
 use crate::reader::Reader;
 use crate::room::{check_numbers, check_room, has_room_for_any};
 use crate::store::{look_up, number_of, set, words_needed};
@@ -20,8 +20,7 @@ use std::marker::{Brand, Model};
 pub struct AreaWriter<'a> {
     area: &'a Area,
     seat: Seat<(), AreaView>,
-    /// Where cells lie.
-    places: Places,
+    index: Index,
     used: usize,
     count: u64,
 }
@@ -29,8 +28,8 @@ pub struct AreaWriter<'a> {
 impl<'a> Model for AreaWriter<'a> {
     ghost use Rattle.std.specs.Prelude.{◌≡◌, [], length};
     ghost use Rattle.property_trie.specs.Additions.{mark_of};
-    ghost use Rattle.property_area.specs.Places.{AreNoted};
-    ghost use Rattle.property_area.specs.Seats.{Seated, sets_in, store_of, IsWriterView};
+    ghost use Rattle.property_area.specs.Places.{IsIndex};
+    ghost use Rattle.property_area.specs.Seats.{Seated, sets_in, IsWriterView};
 
     ghost Value = { Seated };
 
@@ -38,7 +37,7 @@ impl<'a> Model for AreaWriter<'a> {
 
     ghost invariant = { λ s. (s.seat.table_id ≡ s.area.now) × (s.seat.me.1 ≡ []) × IsWriterView s.seat.table_id s.seat.me.0
         × (s.used ≡ mark_of (sets_in s.seat.me.0)) × (s.count ≡ length (sets_in s.seat.me.0))
-        × AreNoted s.area.now s.seat.me.0.trie.known (store_of s.seat.me.0).held s.places };
+        × IsIndex s.area.now s.seat.me.0 s.index };
 }
 
 impl<'a> AreaWriter<'a> {
@@ -51,7 +50,7 @@ impl<'a> AreaWriter<'a> {
         AreaWriter {
             area,
             seat,
-            places: Places::new(count == 0),
+            index: Index::of_sets(count),
             used,
             count,
         }
@@ -64,7 +63,7 @@ impl<'a> AreaWriter<'a> {
         let AreaWriter {
             area: _,
             seat,
-            places: _,
+            index: _,
             used,
             count,
         } = self;
@@ -163,11 +162,11 @@ impl<'a> PropStore for AreaWriter<'a> {
     ghost Beside = { IsSameBeside };
 
     fn get(&mut self, name: PropName<'_>, out: &mut [u8]) -> Option<(usize, u64)> {
-        look_up(self.area, &mut self.seat, &mut self.places, name, out)
+        look_up(self.area, &mut self.seat, &mut self.index.places, name, out)
     }
 
     fn number_of(&mut self, name: PropName<'_>) -> Option<u64> {
-        number_of(self.area, &mut self.seat, &mut self.places, name)
+        number_of(self.area, &mut self.seat, &mut self.index.places, name)
     }
 
     fn count(&self) -> u64 {
@@ -184,7 +183,7 @@ impl<'a> PropStore for AreaWriter<'a> {
         if has_room_for_any(used, len, words) {
             return check_numbers(self.count);
         }
-        let need = words_needed(self.area, &mut self.seat, &self.places, name, len);
+        let need = words_needed(self.area, &mut self.seat, &self.index.places, name, len);
         check_room(need, used, words, self.count)
     }
 
@@ -195,17 +194,17 @@ impl<'a> PropStore for AreaWriter<'a> {
         ensures told { Some (sets_in self.new.view) ≡ Some (sets_in self.old.view) }
         ensures beside { IsSameBeside self.old self.new }
     {
-        self.places.prepare(alloc);
+        self.index.prepare(alloc);
         Ok(())
     }
 
     fn put(&mut self, name: PropName<'_>, value: PropValue<'_>) -> u64 {
         let number = self.count + 1;
-        let places = &mut self.places;
+        let index = &mut self.index;
         self.used = set(
             self.area,
             &mut self.seat,
-            places,
+            index,
             name,
             number,
             value,

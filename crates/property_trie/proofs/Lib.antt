@@ -22,3 +22,6 @@ pub mod Standing
 pub mod Loads
 pub mod Stored
 pub mod Placed
+pub mod Ends
+pub mod Fronts
+pub mod Grown

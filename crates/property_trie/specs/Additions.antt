@@ -18,6 +18,8 @@ use Rattle.property_trie.specs.Walk.{EndsAt}
 use Rattle.property_trie.specs.declared.view.Adding.{Adding}
 use Rattle.property_trie.specs.declared.view.TrieView.{TrieView}
 use Rattle.property_trie.specs.declared.addition.NewCell.{NewCell}
+use Rattle.property_trie.specs.declared.lacking.Missing.{Missing}
+use Rattle.property_trie.specs.declared.lacking.Missing.TheVariants.{Cell as MissingCell, Nodes as MissingNodes}
 use Rattle.property_trie.specs.declared.walk.SearchEnd.{SearchEnd}
 use Rattle.property_trie.specs.declared.walk.SearchEnd.TheVariants.{Cell, NoCell, NoNode}
 
@@ -113,6 +115,13 @@ abbrev pub EndsAbsent : ℕ → List Set → List ℕ → SearchEnd → Type 0
 EndsAbsent words sets name (Cell place) = ⊥
 EndsAbsent words sets name (NoCell link) = EndsAt (tree_of sets) (parts_of name) link × (link < words)
 EndsAbsent words sets name (NoNode link from) =
+    (link ≡ link_at 1 (tree_of sets) (parts_of name)) × (parts_of (drop from name) ≡ missing_parts (tree_of sets) (parts_of name))
+    × (from ≤ length name) × (link < words)
+
+-- what a name misses that is in no set, and where the link stands to the first of it
+abbrev pub IsMissing : ℕ → List Set → List ℕ → Missing → Type 0
+IsMissing words sets name (MissingCell link) = EndsAt (tree_of sets) (parts_of name) link × (link < words)
+IsMissing words sets name (MissingNodes link from) =
     (link ≡ link_at 1 (tree_of sets) (parts_of name)) × (parts_of (drop from name) ≡ missing_parts (tree_of sets) (parts_of name))
     × (from ≤ length name) × (link < words)
 

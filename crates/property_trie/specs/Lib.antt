@@ -8,3 +8,4 @@ pub mod Laws
 pub mod TrieSteps
 pub mod Additions
 pub mod Held
+pub mod Levels

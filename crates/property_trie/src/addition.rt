@@ -12,12 +12,13 @@ ghost use Rattle.property_trie.specs.Tree.{find as find_in};
 ghost use Rattle.property_trie.specs.TreeWords.{link_at};
 ghost use Rattle.property_trie.specs.TrieSteps.{SitsAt, IsAtRest, tree_of, missing_parts};
 ghost use Rattle.property_trie.specs.Additions.{mark_of, new_place, free_place, missing_count, new_node_word, new_node};
-ghost use Rattle.property_trie.specs.Additions.{new_cell_word, new_cell, IsAdding, adding, with_added, HasPath, EndsAbsent};
+ghost use Rattle.property_trie.specs.Additions.{new_cell_word, new_cell, IsAdding, adding, with_added, HasPath, IsMissing};
 
+use crate::lacking::Missing;
 use crate::part::node_size;
 use crate::rule::{Added, Sought, TrieRule};
 use crate::stores::{fresh_word, interior_link, property_link};
-use crate::walk::{SearchEnd, part_len, search};
+use crate::walk::part_len;
 use atomic_table::{Seat, Table};
 use init_base::{PropName, PropValue};
 use init_machine::cell_words;
@@ -171,29 +172,13 @@ fn make_nodes<V, K, R: TrieRule<V, K>, Q: Added>(
     }
 }
 
-/// Searches a name that is in no set, which changes nothing.
-fn search_absent<V, K, R: TrieRule<V, K>, Q: Added>(
-    table: &Table<(), V, K, R, Global>,
-    seat: &mut Seat<(), V>,
-    name: &[u8],
-) -> SearchEnd
-    requires table { SitsAt seat.old table.now.shared.table_id (R.words seat.old.me.0) }
-    requires top { 16 ≤ table.now.shared.table_id.words }
-    requires name { (name.now ≡ Q.name) × (length name.now ≤ 255) }
-    requires adds { IsAdding (R.cell seat.old.me.0) (R.trie seat.old.me.0) Q.name 0 [] }
-    requires rests { IsAtRest (R.trie seat.old.me.0) }
-    ensures seat { IsSameSeat seat.old seat.new × (seat.new.me ≡ seat.old.me) }
-    ensures ends { EndsAbsent table.now.shared.table_id.words (sets_of (R.cell seat.old.me.0)) Q.name result }
-{
-    search::<V, K, R, Brand>(table, seat, name)
-}
-
 /// Makes the nodes that a name misses, if any.
 fn make_path<V, K, R: TrieRule<V, K>, Q: Added>(
     table: &Table<(), V, K, R, Global>,
     seat: &mut Seat<(), V>,
     name: &[u8],
     mark: usize,
+    missing: Missing,
 ) -> NewCell
     requires table { SitsAt seat.old table.now.shared.table_id (R.words seat.old.me.0) }
     requires top { 16 ≤ table.now.shared.table_id.words }
@@ -201,6 +186,7 @@ fn make_path<V, K, R: TrieRule<V, K>, Q: Added>(
     requires adds { R.Settled seat.old.me.0
         × IsAdding (R.cell seat.old.me.0) (R.trie seat.old.me.0) Q.name 0 [] }
     requires rests { IsAtRest (R.trie seat.old.me.0) }
+    requires missing { IsMissing table.now.shared.table_id.words (sets_of (R.cell seat.old.me.0)) Q.name missing }
     requires mark { mark ≡ mark_of (sets_of (R.cell seat.old.me.0)) }
     requires room { new_place (sets_of (R.cell seat.old.me.0)) Q.name ≤ table.now.shared.table_id.words }
     ensures seat { IsSameSeat seat.old seat.new }
@@ -212,10 +198,9 @@ fn make_path<V, K, R: TrieRule<V, K>, Q: Added>(
         ) }
     ensures path { HasPath table.now.shared.table_id.words (sets_of (R.cell seat.old.me.0)) Q.name result }
 {
-    match search_absent::<V, K, R, Q>(table, seat, name) {
-        SearchEnd::Cell(_) => unreachable!(),
-        SearchEnd::NoCell(link) => NewCell { link, place: mark },
-        SearchEnd::NoNode(link, from) => {
+    match missing {
+        Missing::Cell { link } => NewCell { link, place: mark },
+        Missing::Nodes { link, from } => {
             make_nodes::<V, K, R, Q>(table, seat, name, link, from, mark)
         }
     }
@@ -228,6 +213,7 @@ fn add_as<V, K, R: TrieRule<V, K>, Q: Added>(
     number: u64,
     value: &[u8],
     mark: usize,
+    missing: Missing,
 ) -> usize
     requires table { SitsAt seat.old table.now.shared.table_id (R.words seat.old.me.0) }
     requires top { 16 ≤ table.now.shared.table_id.words }
@@ -237,6 +223,7 @@ fn add_as<V, K, R: TrieRule<V, K>, Q: Added>(
         × IsAdding (R.cell seat.old.me.0) (R.trie seat.old.me.0) Q.name 0 [] }
     requires rests { IsAtRest (R.trie seat.old.me.0) }
     requires number { (number ≡ length (sets_of (R.cell seat.old.me.0)) + 1) × (number < 2 ^ 55) }
+    requires missing { IsMissing table.now.shared.table_id.words (sets_of (R.cell seat.old.me.0)) Q.name missing }
     requires mark { mark ≡ mark_of (sets_of (R.cell seat.old.me.0)) }
     requires room { new_place (sets_of (R.cell seat.old.me.0)) Q.name + cell_words_lem (length value.now) ≤ table.now.shared.table_id.words }
     ensures seat { IsSameSeat seat.old seat.new }
@@ -248,7 +235,7 @@ fn add_as<V, K, R: TrieRule<V, K>, Q: Added>(
           seat.old.me.1,
         ) }
 {
-    let new = make_path::<V, K, R, Q>(table, seat, name, mark);
+    let new = make_path::<V, K, R, Q>(table, seat, name, mark, missing);
     store_cell::<V, K, R, Brand>(table, seat, new.place, number, value);
     property_link::<V, K, R, Brand>(table, seat, new.link, new.place);
     new.place
@@ -256,8 +243,8 @@ fn add_as<V, K, R: TrieRule<V, K>, Q: Added>(
 
 /// Adds a name that is in no set, with its first value, and answers where its cell lies. Each missing node is made, its
 /// words before the link to it, from the first part on; then the cell, and last the link to it, with which the set is
-/// accepted. `mark` is the first free word, which is afterwards the one behind the cell. It takes no memory, and waits for
-/// nothing.
+/// accepted. `mark` is the first free word, which is afterwards the one behind the cell, and `missing` what the name misses. It
+/// takes no memory, and waits for nothing.
 pub fn add<V, K, R: TrieRule<V, K>>(
     table: &Table<(), V, K, R, Global>,
     seat: &mut Seat<(), V>,
@@ -265,6 +252,7 @@ pub fn add<V, K, R: TrieRule<V, K>>(
     number: u64,
     value: PropValue<'_>,
     mark: usize,
+    missing: Missing,
 ) -> usize
     requires table { SitsAt seat.old table.now.shared.table_id (R.words seat.old.me.0) }
     requires top { 16 ≤ table.now.shared.table_id.words }
@@ -273,6 +261,7 @@ pub fn add<V, K, R: TrieRule<V, K>>(
     requires absent { find_in (tree_of (sets_of (R.cell seat.old.me.0))) (parts_of name.bytes.now) ≡ 0 }
     requires legal { LegalValue name.bytes.now value.bytes.now }
     requires number { (number ≡ length (sets_of (R.cell seat.old.me.0)) + 1) × (number < 2 ^ 55) }
+    requires missing { IsMissing table.now.shared.table_id.words (sets_of (R.cell seat.old.me.0)) name.bytes.now missing }
     requires mark { mark ≡ mark_of (sets_of (R.cell seat.old.me.0)) }
     requires room { new_place (sets_of (R.cell seat.old.me.0)) name.bytes.now
         + cell_words_lem (length value.bytes.now) ≤ table.now.shared.table_id.words }
@@ -286,5 +275,5 @@ pub fn add<V, K, R: TrieRule<V, K>>(
         ) }
     ensures linked { R.Linked seat.new.me.0 name.entry.bytes.now result }
 {
-    add_as::<V, K, R, Brand>(table, seat, name.bytes, number, value.bytes, mark)
+    add_as::<V, K, R, Brand>(table, seat, name.bytes, number, value.bytes, mark, missing)
 }

@@ -9,7 +9,9 @@
 
 mod addition;
 mod compare;
+mod lacking;
 mod laws;
+mod levels;
 mod part;
 mod room;
 mod rule;
@@ -19,10 +21,12 @@ mod view;
 mod walk;
 
 pub use addition::add;
+pub use lacking::{Missing, search_missing};
 pub use laws::{
     always_lies_well, finds_its_names, has_its_prefixes, mark_is_words_used, only_extends,
     parts_tell_names,
 };
+pub use levels::{LevelEnd, Levels};
 pub use part::{compare_parts, node_size};
 pub use room::need;
 pub use rule::{Added, Sought, TrieRule};

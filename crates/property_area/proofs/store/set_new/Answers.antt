@@ -1,16 +1,13 @@
-use Rattle.std.proofs.Common.{◌≡◌, ◌+◌, ◌≤◌, ◌∷◌, length, sym, refl, ap, ◌∙◌, subst, arith}
+use Rattle.std.proofs.Common.{◌≡◌, ◌≤◌, length, sym, refl, ap, ◌∙◌, subst, arith}
 use Rattle.atomic_table.specs.Seated.{TableId}
 use Rattle.init_machine.proofs.LegalNames.{legal_len}
 use Rattle.serial_value.specs.Cell.{accepted}
 use Rattle.property_trie.specs.Additions.{linking}
 use Rattle.property_area.specs.declared.view.AreaView.{AreaView}
 use Rattle.property_area.specs.Area.{with_cell, with_trie}
-use Rattle.property_area.specs.Seats.{sets_in, settled_view, store_of, IsWriterView}
-use Rattle.init_machine.specs.Props.{Property, Props}
-use Rattle.property_area.specs.Places.{AreNoted}
-use Rattle.property_area.proofs.Looking.{fit_new, set_view, store_after}
+use Rattle.property_area.specs.Seats.{sets_in, settled_view, IsWriterView}
+use Rattle.property_area.proofs.Looking.{fit_new, set_view}
 use Rattle.property_area.proofs.Meaning.{new_cell_fits}
-use Rattle.property_area.proofs.Noting.{noted_new}
 use Rattle.property_area.proofs.store.set_new.Goals as goal
 
 pub returns-clause-seat : goal.returns-clause-seat
@@ -33,19 +30,13 @@ returns-clause-seat c =
       subst (λ (x : TableId × AreaView). IsWriterView x.0 x.1) (λ i. (sym table i, sym (ap (λ m. m.0) me) i)) view,
     )
 
-pub returns-clause-noted : goal.returns-clause-noted
-returns-clause-noted c =
+pub returns-clause-known : goal.returns-clause-known
+returns-clause-known c =
     let v = c.args.seat.now.me.0 in
-    let name = c.args.name.bytes.now in
-    let value = c.args.value.bytes.now in
-    let place = c.add-place.result in
     let first = c.add-place.ensures.view in
-    let table = c.args.area.now in
-    let trie = linking v.trie name place in
-    let after : AreaView = settled_view (with_cell (with_trie v trie) (accepted v.cell name value)) in
-    let is : c.store_serial.new.seat.me.0 ≡ after = ap (λ m. m.0) c.store_serial.ensures.view ∙ (λ i. settled_view (first i).0) in
-    let new : Property = record { name = name; value = value; number = (store_of v).count + 1 } in
-    let cell = new_cell_fits table (sets_in v) name place (length value) (subst (λ (t : TableId). t.words ≤ 1048576) c.area.view_is c.area.invariant.1) c.add-place.ensures.place c.requires.room in
-    subst (λ (x : AreaView). AreNoted table x.trie.known (store_of x).held c.note.new.self) (sym is)
-    (subst (λ (p : Props). AreNoted table ((name, place) ∷ v.trie.known) p.held c.note.new.self) (sym (store_after v name value after refl))
-    (noted_new table v.trie.known (store_of v).held c.args.places.now c.note.new.self new place cell c.note.ensures c.requires.noted))
+    ap (λ m. m.0.trie.known) c.store_serial.ensures.view ∙ (λ i. (settled_view (first i).0).trie.known)
+
+pub returns-clause-cell : goal.returns-clause-cell
+returns-clause-cell c =
+    new_cell_fits c.args.area.now (sets_in c.args.seat.now.me.0) c.args.name.bytes.now c.add-place.result (length c.args.value.bytes.now)
+    (subst (λ (t : TableId). t.words ≤ 1048576) c.area.view_is c.area.invariant.1) c.add-place.ensures.place c.requires.room

@@ -2,7 +2,7 @@ use Rattle.std.proofs.Common.{sym, ◌∙◌, ap, subst}
 use Rattle.serial_value.specs.Cell.{IsWriter}
 use Rattle.property_trie.proofs.Additional.{absent_ends}
 use Rattle.property_trie.proofs.Walking.{rested_same}
-use Rattle.property_trie.proofs.addition.search_absent.Goals as goal
+use Rattle.property_trie.proofs.lacking.search_absent.Goals as goal
 
 pub returns-clause-seat : goal.returns-clause-seat
 returns-clause-seat g c =
