@@ -32,7 +32,7 @@ def milliseconds(program, image, size, few, many):
 def many_of(program, image, size):
     """How many replaces take long enough to be timed."""
     many = 12
-    while elapsed([program, image, str(size), str(many)])[0] < SECONDS and many < 1 << 18:
+    while many < 1 << 18 and min(elapsed([program, image, str(size), str(many)])[0] for _ in range(3)) < SECONDS:
         many *= 4
     return many
 
