@@ -177,6 +177,23 @@ fn store_over_a_file(rt: HostRuntime) -> Result<(), Fail> {
 }
 
 #[test]
+fn long_texts_over_a_file(rt: HostRuntime) -> Result<(), Fail> {
+    let alloc = rt.alloc();
+    let disk = StdDisk::at(&rt, alloc, &Text::of(alloc, b"long.img")?)?;
+    let mut store = DiskKeeper::new(disk, 16384, SteadyKeeper::new(Text::empty()));
+    // The system is given more than one write of it.
+    let mut text = vec![in alloc; b'a'; 4095]?;
+    text.extend_from_slice(&[b'b'; 905])?;
+    assert!(rt; store.replace(alloc, &text).is_ok());
+    assert!(rt; store.load(alloc, 16376).is_ok_and(|held| held.is(&text)));
+    // The other slot gets a text that ends where the first write does.
+    let text = vec![in alloc; b'c'; 4096]?;
+    assert!(rt; store.replace(alloc, &text).is_ok());
+    assert!(rt; store.load(alloc, 16376).is_ok_and(|held| held.is(&text)));
+    Ok(())
+}
+
+#[test]
 fn late_store_writes_nothing_before_a_text(rt: HostRuntime) -> Result<(), Fail> {
     let alloc = rt.alloc();
     let former = SteadyKeeper::new(Text::of(alloc, b"persist 2\n")?);

@@ -1,7 +1,6 @@
 -- What looking for a store answers is what opening it answers, where it refuses.
-use Rattle.std.proofs.Common.{ℕ, Bool, List, Option, Err}
-use Rattle.persist_disk.specs.Keeping.{FindsAs, OpensAs, IsOpenAfter, IsOpenAfterFind}
-use Rattle.persist_disk.specs.declared.layout.Chosen.{Chosen}
+use Rattle.std.proofs.Common.{ℕ, List, Option, Err}
+use Rattle.persist_disk.specs.Keeping.{FindsAs, OpensAs}
 use Rattle.persist_disk.specs.declared.refusal.OpenRefusal.{OpenRefusal}
 use Rattle.persist_disk.specs.declared.refusal.OpenRefusal.TheVariants.{Failed, TooLarge, BadSlot, NoMemory}
 

@@ -1,12 +1,13 @@
 //! Disks.
 
-ghost use Rattle.std.specs.Prelude.{◌≡◌, ◌≤◌, ◌↔◌, ℕ, List, Option, OnOk, length};
+ghost use Rattle.std.specs.Prelude.{◌≡◌, ◌≤◌, ◌↔◌, ◌++◌, ℕ, List, Option, IfOk, OnOk, length};
 ghost use Rattle.std.specs.Io.{ReadsAtMost};
 ghost use Rattle.init_base.specs.Crash.{LeavesNoOther, ReachesBack};
 ghost use Rattle.init_base.specs.Faults.{Counted, source_failed, write_failed};
 ghost use Rattle.persist_disk.specs.DiskModel.{LeavesRead, LeavesTorn, MayLeaveRead, ReadsFrom, WritesAt};
 
-use init_base::{Failed, IoRefusal};
+use init_base::{Failed, IoRefusal, NoMemory};
+use std::alloc::Global;
 
 /// Bytes at places from 0.
 ///
@@ -50,6 +51,26 @@ pub trait Disk {
             → LeavesTorn (moment self.old) (MayLeave self.old) (MayLeave self.new) at (length bytes.now) }
         ensures tells { TellsCrash self.old ↔ TellsCrash self.new };
 
+    /// Writes two parts, one behind the other, as one write of both. A disk that can write them where they stand needs no memory
+    /// for a copy.
+    fn write_parts(
+        &mut self,
+        alloc: Global,
+        at: u64,
+        front: &[u8],
+        behind: &[u8],
+    ) -> Result<(), IoRefusal>
+        ensures bytes { WritesAt (content self.old) (content self.new) result at (front.now ++ behind.now) }
+        ensures cause { Counted (write_failed result) (fault_count self.old) (fault_count self.new) }
+        ensures moment { TellsCrash self.old → moment self.old ≤ moment self.new }
+        ensures leaves { TellsCrash self.old
+            → LeavesTorn (moment self.old) (MayLeave self.old) (MayLeave self.new) at (length (front.now ++ behind.now)) }
+        ensures tells { TellsCrash self.old ↔ TellsCrash self.new }
+    {
+        let bytes = joined(alloc, front, behind)?;
+        self.write_at(at, &bytes)
+    }
+
     /// Waits until what was written is safe: a crash from then on leaves what a read gives.
     fn sync(&mut self) -> Result<(), IoRefusal>
         ensures content { content self.new ≡ content self.old }
@@ -64,4 +85,14 @@ pub trait Disk {
 
     /// A disk that tells what a crash leaves tells what a read gives, which a crash now may leave.
     ghost given: { (d : Self) → TellsCrash d → MayLeaveRead (content d) (MayLeave d (moment d)) };
+}
+
+/// Bytes, one part behind the other.
+pub(crate) fn joined(alloc: Global, front: &[u8], behind: &[u8]) -> Result<Vec<u8>, NoMemory>
+    ensures { IfOk result (λ bytes. bytes.items ≡ front.now ++ behind.now) }
+{
+    let mut bytes = Vec::with_capacity(alloc, front.len() + behind.len())?;
+    bytes.extend_from_slice(front)?;
+    bytes.extend_from_slice(behind)?;
+    Ok(bytes)
 }

@@ -1,16 +1,15 @@
 //! What is read and written of a store on its disk.
 
 ghost use Rattle.std.specs.Prelude.{◌≡◌, ◌≢◌, ◌↔◌, ◌+◌, ◌-◌, ◌<◌, ◌≤◌, ◌^◌};
-ghost use Rattle.std.specs.Prelude.{length, min, is_err, Err, IfOk, IfSome, IsTrue, OnOk};
+ghost use Rattle.std.specs.Prelude.{◌++◌, length, min, replicate, is_err, Err, IfOk, IfSome, IsTrue, OnOk};
 ghost use Rattle.init_base.specs.Faults.{Counted, read_failed, write_failed};
 ghost use Rattle.persist_disk.specs.DiskModel.{LeavesRead, LeavesTorn, OnlyReads, WritesAt};
 ghost use Rattle.persist_disk.specs.Finding.{IsFound, IsGate, IsPart};
-ghost use Rattle.persist_disk.specs.Image.{length_at, slot_bytes as slot_bytes_lem, IsStore};
-ghost use Rattle.persist_disk.specs.Replacing.{formatted as formatted_lem, Formats, LeavesEither, Puts};
-ghost use Rattle.persist_disk.specs.Image.{chosen_slot};
+ghost use Rattle.persist_disk.specs.Image.{chosen_slot, eight_bytes, length_at, IsStore};
+ghost use Rattle.persist_disk.specs.Replacing.{Formats, LeavesEither, Puts};
 ghost use Rattle.persist_disk.specs.Keeping.{open_failed, FormatsAs, StandsOn};
 
-use crate::disk::Disk;
+use crate::disk::{Disk, joined};
 use crate::layout::{Chosen, LENGTH, Slot};
 use crate::refusal::OpenRefusal;
 use init_base::{Failed, IoRefusal, Keeper, NoMemory, ReadRefusal, Text};
@@ -140,22 +139,39 @@ fn write_synced<D: Disk>(disk: &mut D, at: u64, bytes: &[u8]) -> Result<(), IoRe
     disk.sync()
 }
 
-/// What a slot with a text begins with.
-fn slot_bytes(alloc: Global, text: &[u8]) -> Result<Vec<u8>, NoMemory>
-    ensures { IfOk result (λ bytes. bytes.items ≡ slot_bytes_lem text.now) }
+/// Writes two parts at a place, one behind the other, and waits until they are safe.
+fn write_parts_synced<D: Disk>(
+    disk: &mut D,
+    alloc: Global,
+    at: u64,
+    front: &[u8],
+    behind: &[u8],
+) -> Result<(), IoRefusal>
+    ensures bytes { WritesAt (D.content disk.old) (D.content disk.new) result at (front.now ++ behind.now) }
+    ensures cause { Counted (write_failed result) (D.fault_count disk.old) (D.fault_count disk.new) }
+    ensures moment { D.TellsCrash disk.old → D.moment disk.old ≤ D.moment disk.new }
+    ensures leaves { D.TellsCrash disk.old
+        → LeavesTorn (D.moment disk.old) (D.MayLeave disk.old) (D.MayLeave disk.new) at (length (front.now ++ behind.now)) }
+    ensures safe { D.TellsCrash disk.old → OnOk result (LeavesRead (D.content disk.new) (D.MayLeave disk.new (D.moment disk.new))) }
+    ensures tells { D.TellsCrash disk.old ↔ D.TellsCrash disk.new }
 {
-    let mut bytes = Vec::from_slice(alloc, &(text.len() as u64).to_le_bytes())?;
-    bytes.extend_from_slice(text)?;
-    Ok(bytes)
+    disk.write_parts(alloc, at, front, behind)?;
+    disk.sync()
 }
 
-/// The disk of a store that was formatted with a text.
-fn formatted(alloc: Global, text: &[u8]) -> Result<Vec<u8>, NoMemory>
-    ensures { IfOk result (λ bytes. bytes.items ≡ formatted_lem text.now) }
+/// The length of a text, as its slot begins.
+fn length_bytes(text: &[u8]) -> [u8; 8]
+    ensures { result ≡ eight_bytes (length text.now) }
 {
-    let mut bytes = Vec::from_slice(alloc, &[0; 8])?;
-    bytes.extend_from_slice(&slot_bytes(alloc, text)?)?;
-    Ok(bytes)
+    (text.len() as u64).to_le_bytes()
+}
+
+/// What stands before a text on the disk of a store that was formatted with it.
+fn formatted_head(alloc: Global, text: &[u8]) -> Result<Vec<u8>, NoMemory>
+    ensures { IfOk result (λ head. head.items ≡ replicate 8 0 ++ eight_bytes (length text.now)) }
+{
+    let length = length_bytes(text);
+    joined(alloc, &[0; 8], &length)
 }
 
 /// Writes a store with a text on a disk of fewer than 16 bytes.
@@ -166,7 +182,8 @@ fn format<D: Disk>(disk: &mut D, alloc: Global, text: &[u8]) -> Result<(), IoRef
     ensures safe { D.TellsCrash disk.old → OnOk result (LeavesRead (D.content disk.new) (D.MayLeave disk.new (D.moment disk.new))) }
     ensures tells { D.TellsCrash disk.old ↔ D.TellsCrash disk.new }
 {
-    write_synced(disk, 0, &formatted(alloc, text)?)
+    let head = formatted_head(alloc, text)?;
+    write_parts_synced(disk, alloc, 0, &head, text)
 }
 
 /// Formats a disk of fewer than 16 bytes with the text of another keeper.
@@ -215,8 +232,8 @@ pub(crate) fn put<D: Disk>(
     ensures safe { D.TellsCrash disk.old → OnOk result (LeavesRead (D.content disk.new) (D.MayLeave disk.new (D.moment disk.new))) }
     ensures tells { D.TellsCrash disk.old ↔ D.TellsCrash disk.new }
 {
-    let bytes = slot_bytes(alloc, text)?;
     let next = chosen.other();
-    write_synced(disk, next.place(size), &bytes)?;
+    let length = length_bytes(text);
+    write_parts_synced(disk, alloc, next.place(size), &length, text)?;
     write_synced(disk, 0, &[next.number()])
 }

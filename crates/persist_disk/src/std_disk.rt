@@ -4,7 +4,7 @@ ghost use Rattle.std.specs.Prelude.{◌≡◌, ◌≤◌, true, None, ℕ, List,
 ghost use Rattle.std.specs.Io.{ReadsAtMost};
 ghost use Rattle.init_base.specs.Faults.{Counted, write_failed};
 
-use crate::disk::Disk;
+use crate::disk::{Disk, joined};
 use crate::finding::{make_whole, open_found};
 use init_base::{Failed, Fault, IoRefusal, NoMemory, Text};
 use std::alloc::Global;
@@ -15,6 +15,9 @@ use std::marker::Model;
 
 /// How often a read is tried again that a signal interrupted.
 const MAX_TRIES: usize = 64;
+
+/// How many bytes of a second part are written together with the first one, at most.
+const TOGETHER: usize = 4096;
 
 /// The bytes of a file below a folder of the machine, its root. The file's path is resolved as on a device whose root directory
 /// that folder is: no link and no `..` leads out of it. It is opened at the first call, and to be written at the first write.
@@ -59,7 +62,7 @@ impl<'a, R: fs::Files> StdDisk<'a, R> {
                 rt,
                 alloc,
                 &Text::of(alloc, b".")?,
-                &joined(alloc, b"/", bytes)?,
+                &joined_text(alloc, b"/", bytes)?,
             ),
         }
     }
@@ -137,25 +140,26 @@ impl<'a, R: fs::Files> StdDisk<'a, R> {
     }
 
     /// Writes without counting a fault.
-    fn try_write(&mut self, at: u64, bytes: &[u8]) -> Result<(), Error>
+    fn try_write(&mut self, at: u64, front: &[u8], behind: &[u8]) -> Result<(), Error>
         ensures { self.new ≡ self.old }
     {
         let Some(mut file) = self.take_written()? else {
-            return self.make(at, bytes);
+            return self.make(at, front, behind);
         };
         file.seek(SeekFrom::Start(at))?;
-        file.write_all(bytes)?;
+        write_both(self.alloc, &mut file, front, behind)?;
         self.is_written = true;
         self.file = Some(file);
         Ok(())
     }
 
-    /// Makes the file with these bytes at a place, up to which zeros lead.
-    fn make(&mut self, at: u64, bytes: &[u8]) -> Result<(), Error>
+    /// Makes the file with two parts at a place, one behind the other. Zeros lead up to it.
+    fn make(&mut self, at: u64, front: &[u8], behind: &[u8]) -> Result<(), Error>
         ensures { self.new ≡ self.old }
     {
         let mut content = Vec::from_elem(self.alloc, 0, at as usize)?;
-        content.extend_from_slice(bytes)?;
+        content.extend_from_slice(front)?;
+        content.extend_from_slice(behind)?;
         self.is_absent = false;
         make_whole(self.rt, self.alloc, &self.root, &self.path, &content)
     }
@@ -192,7 +196,7 @@ impl<'a, R: fs::Files> StdDisk<'a, R> {
         ensures { Counted true self.old self.new }
     {
         self.faults = self.faults.saturating_add(1);
-        self.last_fault = match joined(self.alloc, self.root.bytes(), self.path.bytes()) {
+        self.last_fault = match joined_text(self.alloc, self.root.bytes(), self.path.bytes()) {
             Ok(path) => Some(Fault { path, error }),
             Err(NoMemory) => None,
         };
@@ -225,7 +229,18 @@ impl<R: fs::Files> Disk for StdDisk<'_, R> {
     }
 
     fn write_at(&mut self, at: u64, bytes: &[u8]) -> Result<(), IoRefusal> {
-        let outcome = self.try_write(at, bytes);
+        let outcome = self.try_write(at, &[], bytes);
+        self.answer(outcome)
+    }
+
+    fn write_parts(
+        &mut self,
+        _alloc: Global,
+        at: u64,
+        front: &[u8],
+        behind: &[u8],
+    ) -> Result<(), IoRefusal> {
+        let outcome = self.try_write(at, front, behind);
         self.answer(outcome)
     }
 
@@ -240,10 +255,26 @@ impl<R: fs::Files> Disk for StdDisk<'_, R> {
 }
 
 /// Two paths, one behind the other.
-fn joined(alloc: Global, front: &[u8], behind: &[u8]) -> Result<Text, NoMemory> {
-    let mut bytes = Vec::from_slice(alloc, front)?;
-    bytes.extend_from_slice(behind)?;
-    Text::from_vec(bytes)
+fn joined_text(alloc: Global, front: &[u8], behind: &[u8]) -> Result<Text, NoMemory> {
+    Text::from_vec(joined(alloc, front, behind)?)
+}
+
+/// Writes two parts, one behind the other. The first bytes of both are written together, and the others where they stand.
+fn write_both<W: Write>(
+    alloc: Global,
+    file: &mut W,
+    front: &[u8],
+    behind: &[u8],
+) -> Result<(), Error> {
+    if front.is_empty() {
+        return file.write_all(behind);
+    }
+    let near = behind.len().min(TOGETHER);
+    let Ok(first) = joined(alloc, front, &behind[..near]) else {
+        return Err(Error::from(ErrorKind::OutOfMemory));
+    };
+    file.write_all(&first)?;
+    file.write_all(&behind[near..])
 }
 
 /// Reads until the buffer is full or nothing is left.
