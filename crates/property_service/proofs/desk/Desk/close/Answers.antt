@@ -114,10 +114,8 @@ returns-clause-parts g c =
     let h = c.self.invariant spent in
     let store = c.into_ended.ensures.store in
     let is : recorded_service v false ≡ c.args.self = ap (λ (b : Bool). recorded_service v b) (sym spent) ∙ c.self.view_is in
-    on_ok (All (HasPart c.into_ended.result.store.view) readers) (All (HasItsPart c.args.self) readers) c.close_all.result
-    (λ parts. subst (λ (t : ServiceView). All (HasItsPart t) readers) is
-    (own_parts v readers seats h.agrees h.wide (subst (λ (x : Seated). All (HasPart x.view) readers) store parts)))
-    c.close_all.ensures.parts
+    subst (λ (t : ServiceView). All (HasItsPart t) readers) is
+    (own_parts v readers seats h.agrees h.wide (subst (λ (x : Seated). All (HasPart x.view) readers) store c.close_all.ensures.parts))
 
 pub returns-clause-whole : goal.returns-clause-whole
 returns-clause-whole g c =

@@ -57,6 +57,20 @@ returns-clause-missing g c who refusal =
     } in t) ∙ c.self.view_is in
     subst (λ (t : ServiceView). IsFirstMissing t readers who) is (c.finish.ensures.missing who ((c.with_history.ensures.refused (refused.Missing who)).0 refusal))
 
+pub returns-clause-given : goal.returns-clause-given
+returns-clause-given g c who refusal =
+    let desk = c.self.inside.desk in
+    let readers = c.args.readers in
+    let spent = ap (λ (t : ServiceView). t.spent) c.self.view_is ∙ c.requires.ready in
+    let kept = c.self.invariant spent in
+    let is : desk ≡ c.args.self = (λ j. let t : ServiceView = record {
+      opening = desk.opening;
+      history = sym kept.1 j;
+      seat = desk.seat;
+      spent = (kept.0 ∙ sym spent) j;
+    } in t) ∙ c.self.view_is in
+    subst (λ (t : ServiceView). All (HasItsPart t) readers) is (c.finish.ensures.given who ((c.with_history.ensures.refused (refused.Missing who)).0 refusal))
+
 pub returns-clause-spent : goal.returns-clause-spent
 returns-clause-spent g c refusal =
     let desk = c.self.inside.desk in
