@@ -1,12 +1,12 @@
 -- Among the readers that come back none is missing.
-use Rattle.std.proofs.Common.{◌≡◌, ℕ, zero, suc, ◌+◌, ◌≤◌, ◌<◌, ◌⊎◌, inl, inr, ⊎_elim, All, List, [], ◌∷◌, ◌++◌, length, map-append, Result, Ok, Err, IfOk, sym, ap, ◌∙◌, subst, arith}
+use Rattle.std.proofs.Common.{◌≡◌, ℕ, zero, suc, ◌+◌, ◌≤◌, ◌<◌, inl, inr, ⊎_elim, All, List, [], ◌∷◌, ◌++◌, length, Result, Ok, Err, IfOk, sym, ap, ◌∙◌, subst, arith}
+use Rattle.std.proofs.lemmas.List.{map-append}
 use Rattle.atomic_table.specs.Seated.{TableId}
 use Rattle.init_base.specs.declared.memory.NoMemory.{NoMemory}
 use Rattle.init_machine.specs.State.{Opening}
 use Rattle.init_machine.specs.declared.report.ClientPart.{ClientPart}
 use Rattle.property_area.specs.Seats.{Seated}
 use Rattle.property_service.specs.Ending.{HasItsPart, HasReader}
-use Rattle.property_service.specs.Service.{ServiceView}
 use Rattle.script_lang.specs.declared.script.Script.{Script}
 use Rattle.init_race.specs.Ended.{AreAll, ComeBack, readers_of}
 use Rattle.init_race.specs.Seating.{AllSeated, EachSeated}
