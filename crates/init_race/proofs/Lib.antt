@@ -8,6 +8,7 @@ pub mod Gathered
 pub mod Seats
 pub mod Parting
 pub mod Through
+pub mod Returning
 pub mod Storing
 pub mod Kept
 pub mod Readings

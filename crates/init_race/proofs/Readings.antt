@@ -1,5 +1,5 @@
 -- A reading as an item of a client's list.
-use Rattle.std.proofs.Common.{◌≡◌, List, [], ◌∷◌, ◌++◌, ℕ, Bool, true, false, Result, Ok, Err, ap, sym, subst, refl}
+use Rattle.std.proofs.Common.{◌≡◌, List, [], ◌∷◌, ℕ, true, false, Result, Ok, Err, sym, subst, refl}
 use Rattle.std.specs.Prelude.{IfOk, bytes_eq}
 use Rattle.std.specs.Cmp.Lexicographic.{other_text}
 use Rattle.init_base.specs.declared.memory.NoMemory.{NoMemory}

@@ -38,14 +38,14 @@ use Rattle.init_race.proofs.Parting.{told_first, told_same}
 use Rattle.init_race.proofs.Whole.{race_is_audited}
 
 -- the clients that are through, and behind them the main actor
-record Split (script : Script) (seated : List Seated) (main : Seated) (acted : List Acted) : Type 0 where
-  clients : List Acted
-  last : Acted
-  all : acted ≡ clients ++ last ∷ []
-  each : EachThrough script seated clients
-  through : IsThrough script main last.reader last.readings
+pub record Split (script : Script) (seated : List Seated) (main : Seated) (acted : List Acted) : Type 0 where
+  pub clients : List Acted
+  pub last : Acted
+  pub all : acted ≡ clients ++ last ∷ []
+  pub each : EachThrough script seated clients
+  pub through : IsThrough script main last.reader last.readings
 
-split_through : (script : Script) (seated : List Seated) (main : Seated) (acted : List Acted) → EachThrough script (seated ++ main ∷ []) acted → Split script seated main acted
+pub split_through : (script : Script) (seated : List Seated) (main : Seated) (acted : List Acted) → EachThrough script (seated ++ main ∷ []) acted → Split script seated main acted
 split_through script [] main [] through = absurd through
 split_through script [] main (last ∷ []) through = record { clients = []; last = last; all = refl; each = tt; through = through.0 }
 split_through script [] main (one ∷ last ∷ acted) through = absurd through.1
@@ -140,11 +140,11 @@ all_left : {T : Type 0} (P : T → Type 0) (xs ys : List T) → All P (xs ++ ys)
 all_left P [] ys all = All-nil P
 all_left P (x ∷ xs) ys all = All-cons P x xs (All-head P x (xs ++ ys) all) (all_left P xs ys (All-tail P x (xs ++ ys) all))
 
-all_last : {T : Type 0} (P : T → Type 0) (xs : List T) (y : T) → All P (xs ++ y ∷ []) → P y
+pub all_last : {T : Type 0} (P : T → Type 0) (xs : List T) (y : T) → All P (xs ++ y ∷ []) → P y
 all_last P [] y all = All-head P y [] all
 all_last P (x ∷ xs) y all = all_last P xs y (All-tail P x (xs ++ y ∷ []) all)
 
-same_opening : (o p : Opening) → Some (recorded p) ≡ Some (recorded o) → p ≡ o
+pub same_opening : (o p : Opening) → Some (recorded p) ≡ Some (recorded o) → p ≡ o
 same_opening o p is = sym (opening_read p) ∙ ap (λ (x : Option LogOpening). opening_in x) is ∙ opening_read o
 
 pub are_raced : (area : TableId) (o : Opening) (script : Script) (readers : List Seated) (acted : List Acted) (back : List Seated) (finished : Finished) (parts : List ClientPart)

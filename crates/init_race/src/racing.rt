@@ -6,7 +6,7 @@ ghost use Rattle.init_core.specs.Core.{opening_of};
 ghost use Rattle.init_driver.specs.Keeper.{seen_by};
 ghost use Rattle.init_driver.specs.Run.{AsksAreMet, keeper_failed};
 ghost use Rattle.init_machine.specs.WellFormed.{IsWellFormed};
-ghost use Rattle.init_race.specs.Ended.{ComeBack, next_part, readers_of, told_to};
+ghost use Rattle.init_race.specs.Ended.{AreAll, ComeBack, next_part, readers_of, told_to};
 ghost use Rattle.init_race.specs.Keeping.{Gives, given_behind, stored_in};
 ghost use Rattle.init_race.specs.Race.{AreRaced, HasEnded, HasRecorded, KeepsRace};
 ghost use Rattle.init_race.specs.Threads.{MayAct};
@@ -98,14 +98,16 @@ fn part_off(
     }
 }
 
-/// The service ends, with the readers of all actors given back. That none is missing is known of the area alone.
+/// The service ends, with the readers of all actors given back.
 fn end<N: AreaName>(service: Service<'_, N>, readers: List<Reader>) -> Result<Finished, NoMemory>
-    requires { All (λ (reader : Seated). reader.table ≡ N.area) readers }
+    requires area { All (λ (reader : Seated). reader.table ≡ N.area) readers }
+    requires all { AreAll readers }
     ensures { IfOk result (HasEnded readers) }
 {
     match service.finish(readers) {
         Ok(finished) => Ok(finished),
-        Err(FinishRefusal::Spent | FinishRefusal::Missing { .. }) => Err(NoMemory),
+        Err(FinishRefusal::Spent) => Err(NoMemory),
+        Err(FinishRefusal::Missing { .. }) => unreachable!(),
     }
 }
 
@@ -167,7 +169,8 @@ fn end_with<N: AreaName>(
     service: Service<'_, N>,
     came: Result<(List<Reader>, List<ClientPart>), NoMemory>,
 ) -> Result<Ended, NoMemory>
-    requires { IfOk came (λ back. All (λ (reader : Seated). reader.table ≡ N.area) back.0) }
+    requires area { IfOk came (λ back. All (λ (reader : Seated). reader.table ≡ N.area) back.0) }
+    requires all { IfOk came (λ back. AreAll back.0) }
     ensures { IfOk result (λ ended. IsOkAnd came (λ back. HasEnded back.0 ended.finished × (ended.parts ≡ back.1))) }
 {
     match came {

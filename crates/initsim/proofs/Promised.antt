@@ -1,5 +1,5 @@
 -- The promise of the top call, form by form.
-use Rattle.std.proofs.Common.{◌≡◌, ◌↔◌, ℕ, Option, Some, None, refl, sym, subst, inl}
+use Rattle.std.proofs.Common.{◌≡◌, ◌↔◌, ℕ, ⊤, Option, Some, None, refl, sym, subst, inl}
 use Rattle.std.specs.Prelude.{IfSome}
 use Rattle.init_words.specs.declared.form.Form.{Form}
 use Rattle.init_words.specs.declared.form.Form.TheVariants.{Run, Race, Check, Audit, Soak}
@@ -8,11 +8,11 @@ use Rattle.rc_import.specs.World.{World}
 use Rattle.initsim.specs.Check.{IsCheckStatus}
 use Rattle.initsim.specs.Counts.{AreCounted, IsDoneUnlessRisen}
 use Rattle.initsim.specs.Endings.{IsAuditStatus, IsRunStatus}
-use Rattle.initsim.specs.Outcome.{Ends, Tell, TellRun, Told, generated_sources}
+use Rattle.initsim.specs.Outcome.{Ends, Tell, Told}
 use Rattle.initsim.specs.Promise.{Objects, Promise, shown_by, told_by}
 use Rattle.initsim.specs.Script.{ScriptSays}
 use Rattle.initsim.specs.Seats.{GivesSeat, Records}
-use Rattle.initsim.specs.Top.{CanBeDone, CanRun, CanSoak, IsAsBefore}
+use Rattle.initsim.specs.Top.{CanBeDone, IsAsBefore, ReadsScript}
 use Rattle.initsim.specs.Trace.{TraceSays}
 use Rattle.initsim.specs.Tree.{IsWorldOf}
 use Rattle.initsim.specs.declared.status.Status.{Status}
@@ -30,68 +30,60 @@ always : {T : Type 0} (o : Option T) (P : T → Type 0) → ((x : T) → P x) �
 always None P h = tt
 always (Some x) P h = h x
 
+-- a form whose call runs a script
+abbrev pub Runs : Form → Type 0
+Runs Run = ⊤
+Runs Race = ⊤
+Runs Check = ⊥
+Runs Audit = ⊥
+Runs (Soak services) = ⊤
+
+no_audit : (form : Form) → Runs form → Some form ≡ Some Audit → ⊥
+no_audit Run runs e = cc
+no_audit Race runs e = cc
+no_audit Check runs e = runs
+no_audit Audit runs e = runs
+no_audit (Soak services) runs e = cc
+
+no_check : (form : Form) → Runs form → Some form ≡ Some Check → ⊥
+no_check Run runs e = cc
+no_check Race runs e = cc
+no_check Check runs e = runs
+no_check Audit runs e = runs
+no_check (Soak services) runs e = cc
+
 module _ (before after : Objects) (how : Status) (seat : Option Seated) where
-  -- what a run and a race say of their objects
+  -- what a call that runs a script says of its objects
   pub record Said (form : Form) : Type 0 where
-    pub ends : (told : Told) → TellRun (told_by before) told → Ends (Some form) told how (shown_by before after)
-    pub read : IfSome before.script (λ bytes. ScriptSays bytes after.script how)
+    pub ends : (told : Told) → Tell (Some form) (told_by before) told → Ends (Some form) told how (shown_by before after)
+    pub read : ReadsScript (Some form) → IfSome before.script (λ bytes. ScriptSays bytes after.script how)
     pub gives : GivesSeat (Some form) how seat
-    pub records : (told : Told) → TellRun (told_by before) told → Records (Some form) told how (shown_by before after) seat
+    pub records : (told : Told) → Tell (Some form) (told_by before) told → Records (Some form) told how (shown_by before after) seat
     pub faults : AreCounted how before.counts after.counts
     pub unwritten : IsAsBefore before.taken after.taken how before.counts.keeper after.counts.keeper
     pub unkept : IsAsBefore before.keeper.held after.keeper.held how before.counts.keeper after.counts.keeper
     pub formed : IsRunStatus how
-    pub complete : (world : World) → IsWorldOf before.tree world → CanRun (told_by before) world → IsDoneUnlessRisen how before.counts after.counts
+    pub complete : (world : World) → IsWorldOf before.tree world → CanBeDone (Some form) (told_by before) world
+        → IsDoneUnlessRisen how before.counts after.counts
 
-  pub run_promised : Said Run → Promise (Some Run) before after how seat
-  run_promised said = record {
-    usage = no_usage IsRunStatus Run how (λ no. no) said.formed;
+  pub run_promised : (form : Form) → Runs form → Said form → Promise (Some form) before after how seat
+  run_promised form runs said = record {
+    usage = no_usage IsRunStatus form how (λ no. no) said.formed;
     ends = said.ends;
-    read = λ reads. said.read;
-    traced = λ e. absurd (other e);
+    read = said.read;
+    traced = λ e. absurd (no_audit form runs e);
     gives = said.gives;
     records = said.records;
     faults = said.faults;
     unwritten = said.unwritten;
     unkept = said.unkept;
-    audited = λ e. absurd (other e);
-    of_check = λ e. absurd (unchecked e);
+    audited = λ e. absurd (no_audit form runs e);
+    of_check = λ e. absurd (no_check form runs e);
     of_run = λ e. said.formed;
     of_race = λ e. said.formed;
     of_soak = λ services e. said.formed;
     complete = said.complete;
   }
-    where
-      other : Some Run ≡ Some Audit → ⊥
-      other e = cc
-
-      unchecked : Some Run ≡ Some Check → ⊥
-      unchecked e = cc
-
-  pub race_promised : Said Race → Promise (Some Race) before after how seat
-  race_promised said = record {
-    usage = no_usage IsRunStatus Race how (λ no. no) said.formed;
-    ends = said.ends;
-    read = λ reads. said.read;
-    traced = λ e. absurd (other e);
-    gives = said.gives;
-    records = said.records;
-    faults = said.faults;
-    unwritten = said.unwritten;
-    unkept = said.unkept;
-    audited = λ e. absurd (other e);
-    of_check = λ e. absurd (unchecked e);
-    of_run = λ e. said.formed;
-    of_race = λ e. said.formed;
-    of_soak = λ services e. said.formed;
-    complete = said.complete;
-  }
-    where
-      other : Some Race ≡ Some Audit → ⊥
-      other e = cc
-
-      unchecked : Some Race ≡ Some Check → ⊥
-      unchecked e = cc
 
 -- a check, which leaves the keeper alone and gives no seat
 pub check_promised : (before after : Objects) (how : Status)
@@ -173,41 +165,6 @@ audit_promised before after how ends read traced faults unwritten unkept held fo
 
     unsoaked : (services : ℕ) → Some Audit ≡ Some (Soak services) → ⊥
     unsoaked services e = cc
-
--- a soak, which leaves all alone but the sink
-pub soak_promised : (services : ℕ) (before after : Objects) (how : Status) (seat : Option Seated)
-    → ((told : Told) → TellRun (generated_sources services) told → Ends (Some (Soak services)) told how (shown_by before after))
-    → GivesSeat (Some (Soak services)) how seat
-    → ((told : Told) → TellRun (generated_sources services) told → Records (Some (Soak services)) told how (shown_by before after) seat)
-    → AreCounted how before.counts after.counts
-    → IsAsBefore before.taken after.taken how before.counts.keeper after.counts.keeper
-    → IsAsBefore before.keeper.held after.keeper.held how before.counts.keeper after.counts.keeper
-    → IsRunStatus how
-    → (CanSoak services → IsDoneUnlessRisen how before.counts after.counts)
-    → Promise (Some (Soak services)) before after how seat
-soak_promised services before after how seat ends gives records faults unwritten unkept formed complete = record {
-  usage = no_usage IsRunStatus (Soak services) how (λ no. no) formed;
-  ends = ends;
-  read = λ reads. absurd reads;
-  traced = λ e. absurd (other e);
-  gives = gives;
-  records = records;
-  faults = faults;
-  unwritten = unwritten;
-  unkept = unkept;
-  audited = λ e. absurd (other e);
-  of_check = λ e. absurd (unchecked e);
-  of_run = λ e. formed;
-  of_race = λ e. formed;
-  of_soak = λ other e. formed;
-  complete = λ world is can. complete can;
-}
-  where
-    other : Some (Soak services) ≡ Some Audit → ⊥
-    other e = cc
-
-    unchecked : Some (Soak services) ≡ Some Check → ⊥
-    unchecked e = cc
 
 -- words of no form
 pub usage_promised : (objects : Objects) → Promise None objects objects status.Usage None

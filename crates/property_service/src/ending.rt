@@ -50,7 +50,7 @@ impl<'a, N: AreaName> Desk<'a, N> {
     /// Takes all readers in and ends the desk. It takes no memory. After a refusal the desk and the readers are gone.
     ///
     /// `Spent` comes exactly where an earlier call answered `NoMemory`; else `Missing` exactly where a client that entered has no
-    /// reader among those that are given, with the least such client.
+    /// reader among those that are given, with the least such client. At `Missing` too those that are given have their parts.
     pub fn finish(self, readers: List<Reader>) -> Result<Closed, FinishRefusal>
         requires area { All (λ reader. reader.table ≡ N.area) readers }
         ensures seat { IfOk result (λ closed. (closed.seat.table ≡ N.area) × (closed.seat.view ≡ taking_all self.entry.seat readers)) }
@@ -61,6 +61,7 @@ impl<'a, N: AreaName> Desk<'a, N> {
         ensures parts { OnOk result (All (HasItsPart self.entry) readers) }
         ensures whole { OnOk result ((who : ℕ) → ¬ IsMissing self.entry readers who) }
         ensures missing { (who : Who) → result ≡ Err (refused.Missing who) → IsFirstMissing self.entry readers who }
+        ensures given { (who : Who) → result ≡ Err (refused.Missing who) → All (HasItsPart self.entry) readers }
         ensures spent { (result ≡ Err refused.Spent) ↔ (self.entry.spent ≡ true) }
     {
         if self.is_spent() {
@@ -79,7 +80,7 @@ impl<'a, N: AreaName> Desk<'a, N> {
             × (closed.saving ≡ (state_after self.entry).saving)) }
         ensures policy { IfOk result (λ closed. closed.policy ≡ self.entry.opening.policy) }
         ensures agrees { OnOk result (Agrees self.entry) }
-        ensures parts { OnOk result (All (HasItsPart self.entry) readers) }
+        ensures parts { All (HasItsPart self.entry) readers }
         ensures whole { OnOk result ((who : ℕ) → ¬ IsMissing self.entry readers who) }
         ensures missing { (who : Who) → result ≡ Err (refused.Missing who) → IsFirstMissing self.entry readers who }
         ensures spent { ¬ (result ≡ Err refused.Spent) }
@@ -102,7 +103,7 @@ fn close_all(
     ensures closed { IfOk result (λ closed. (closed.saved ≡ ended.entry.saved) × (closed.saving ≡ ended.entry.saving)
         × (closed.policy ≡ ended.entry.policy)
         × (closed.seat.table ≡ ended.entry.store.table) × (closed.seat.view ≡ taking_all ended.entry.store.view readers)) }
-    ensures parts { OnOk result (All (HasPart ended.entry.store.view) readers) }
+    ensures parts { All (HasPart ended.entry.store.view) readers }
     ensures nobody { OnOk result ((who : ℕ) → has_seat (taking_all ended.entry.store.view readers) who ≡ false) }
     ensures missing { (who : Who) → result ≡ Err (refused.Missing who)
         → (has_seat (taking_all ended.entry.store.view readers) who.0 ≡ true)
@@ -131,7 +132,7 @@ impl<'a, N: AreaName> Service<'a, N> {
     /// Takes all readers in and ends the service. It takes no memory. After a refusal the service and the readers are gone.
     ///
     /// `Spent` comes exactly where an earlier call answered `NoMemory`; else `Missing` exactly where a client that entered has no
-    /// reader among those that are given, with the least such client.
+    /// reader among those that are given, with the least such client. At `Missing` too those that are given have their parts.
     pub fn finish(self, readers: List<Reader>) -> Result<Finished, FinishRefusal>
         requires area { All (λ reader. reader.table ≡ N.area) readers }
         ensures history { IfOk result (λ finished. finished.history ≡ self.entry.history) }
@@ -144,6 +145,7 @@ impl<'a, N: AreaName> Service<'a, N> {
         ensures parts { OnOk result (All (HasItsPart self.entry) readers) }
         ensures whole { OnOk result ((who : ℕ) → ¬ IsMissing self.entry readers who) }
         ensures missing { (who : Who) → result ≡ Err (refused.Missing who) → IsFirstMissing self.entry readers who }
+        ensures given { (who : Who) → result ≡ Err (refused.Missing who) → All (HasItsPart self.entry) readers }
         ensures spent { (result ≡ Err refused.Spent) ↔ (self.entry.spent ≡ true) }
     {
         if self.is_spent() {
@@ -167,6 +169,7 @@ impl<'a, N: AreaName> Service<'a, N> {
         ensures parts { OnOk result (All (HasItsPart self.entry) readers) }
         ensures whole { OnOk result ((who : ℕ) → ¬ IsMissing self.entry readers who) }
         ensures missing { (who : Who) → result ≡ Err (refused.Missing who) → IsFirstMissing self.entry readers who }
+        ensures given { (who : Who) → result ≡ Err (refused.Missing who) → All (HasItsPart self.entry) readers }
         ensures spent { ¬ (result ≡ Err refused.Spent) }
     {
         let desk = self.desk;

@@ -10,7 +10,7 @@ use Rattle.initsim.specs.declared.status.Status.TheVariants as status
 use Rattle.initsim.proofs.Complete.{complete_audit, complete_check, complete_run}
 use Rattle.initsim.proofs.Ends.{check_ends}
 use Rattle.initsim.proofs.Judged.{same_as_before}
-use Rattle.initsim.proofs.Promised.{audit_promised, check_promised, memory_promised, race_promised, run_promised, soak_promised, usage_promised}
+use Rattle.initsim.proofs.Promised.{audit_promised, check_promised, memory_promised, run_promised, usage_promised}
 use Rattle.initsim.proofs.Soaked.{soak_ends, soak_in_range, soak_records}
 use Rattle.initsim.proofs.top.initsim.Goals as goal
 
@@ -25,9 +25,9 @@ returns-in-Ok-Run-clause-promise g c =
     let after = objects_of (g.F.Files.tree c.run_script.new.files) (g.S.Source.left c.run_script.new.script) trace (seen c.run_script.new.keeper) (g.K.Sink.taken c.run_script.new.out)
     (counts_of (g.F.Files.fault_count c.run_script.new.files) (g.S.Source.fault_count c.run_script.new.script) count (g.P.Keeper.fault_count c.run_script.new.keeper) (g.K.Sink.fault_count c.run_script.new.out)) in
     subst (λ (f : Option Form). Promise f before after c.run_script.result.0 c.run_script.result.1) (sym form)
-    (run_promised before after c.run_script.result.0 c.run_script.result.1 record {
+    (run_promised before after c.run_script.result.0 c.run_script.result.1 Run tt record {
       ends = c.run_script.ensures.ends trace;
-      read = c.run_script.ensures.script;
+      read = λ reads. c.run_script.ensures.script;
       gives = c.run_script.ensures.seat;
       records = c.run_script.ensures.recorded trace;
       faults = c.run_script.ensures.counts count;
@@ -49,9 +49,9 @@ returns-in-Ok-Race-clause-promise g c =
     let after = objects_of (g.F.Files.tree c.race_script.new.files) (g.S.Source.left c.race_script.new.script) trace (seen c.race_script.new.keeper) (g.K.Sink.taken c.race_script.new.out)
     (counts_of (g.F.Files.fault_count c.race_script.new.files) (g.S.Source.fault_count c.race_script.new.script) count (g.P.Keeper.fault_count c.race_script.new.keeper) (g.K.Sink.fault_count c.race_script.new.out)) in
     subst (λ (f : Option Form). Promise f before after c.race_script.result.0 c.race_script.result.1) (sym form)
-    (race_promised before after c.race_script.result.0 c.race_script.result.1 record {
+    (run_promised before after c.race_script.result.0 c.race_script.result.1 Race tt record {
       ends = c.race_script.ensures.ends trace;
-      read = c.race_script.ensures.script;
+      read = λ reads. c.race_script.ensures.script;
       gives = c.race_script.ensures.seat;
       records = c.race_script.ensures.recorded trace;
       faults = c.race_script.ensures.counts count;
@@ -129,15 +129,17 @@ returns-in-Ok-Soak-clause-promise g c =
     let after = objects_of (g.F.Files.tree c.args.files.now) (g.S.Source.left c.args.script.now) (g.T.Source.left c.args.trace.now) seen new
     (counts_of files scripts traces keepers (g.K.Sink.fault_count c.soak.new.out)) in
     subst (λ (f : Option Form). Promise f before after c.soak.result.0 c.soak.result.1) (sym form)
-    (soak_promised services before after c.soak.result.0 c.soak.result.1
-    (λ told tells. soak_ends services told old new seen c.soak.result.0 c.soak.result.1 (c.soak.ensures.ends told tells))
-    c.soak.ensures.seat
-    (λ told tells. soak_records services told old new seen c.soak.result.0 c.soak.result.1 (c.soak.ensures.ends told tells))
-    (c.soak.ensures.counts files scripts traces keepers)
-    (c.soak.ensures.unwritten keepers)
-    (same_as_before c.soak.result.0 _ _ _ _ refl)
-    c.soak.ensures.formed
-    (λ can. c.soak.ensures.complete can files scripts traces keepers))
+    (run_promised before after c.soak.result.0 c.soak.result.1 (Soak services) tt record {
+      ends = λ told tells. soak_ends services told old new seen c.soak.result.0 c.soak.result.1 (c.soak.ensures.ends told tells);
+      read = λ reads. absurd reads;
+      gives = c.soak.ensures.seat;
+      records = λ told tells. soak_records services told old new seen c.soak.result.0 c.soak.result.1 (c.soak.ensures.ends told tells);
+      faults = c.soak.ensures.counts files scripts traces keepers;
+      unwritten = c.soak.ensures.unwritten keepers;
+      unkept = same_as_before c.soak.result.0 _ _ _ _ refl;
+      formed = c.soak.ensures.formed;
+      complete = λ world is can. c.soak.ensures.complete can files scripts traces keepers;
+    })
 
 pub returns-in-Err-Usage-clause-promise : goal.returns-in-Err-Usage-clause-promise
 returns-in-Err-Usage-clause-promise g c =
