@@ -2,6 +2,7 @@ pub mod Criticals
 pub mod Firsts
 pub mod Fronts
 pub mod Joins
+pub mod KnownNames
 pub mod NameSets
 pub mod OneName
 pub mod Placed
@@ -12,6 +13,7 @@ pub mod Seen
 pub mod Services
 pub mod Signs
 pub mod Tested
+pub mod Skims
 pub mod Slots
 pub mod Together
 pub mod OneMore

@@ -1,11 +1,12 @@
 //! The options of a service.
 
-ghost use Rattle.std.specs.Prelude.{◌≡◌, ◌*◌};
+ghost use Rattle.std.specs.Prelude.{◌≡◌, ◌*◌, ℕ, List as Items};
+ghost use Rattle.rc_parse.specs.Code.Skimming.{onrestart_word as onrestart_word_lem, overriding};
 ghost use Rattle.rc_parse.specs.Options.{is_waiting_word as is_waiting_word_lem, onrestart_of, option_word as option_word_lem, row_of, seconds_of, setting_of, word_with as word_with_lem};
 ghost use Rattle.rc_parse.specs.Readings.{IsReading};
 ghost use Rattle.rc_parse.specs.Values.{millis as millis_lem};
 
-use crate::command::command;
+use crate::command::{command_with, word_of_command};
 use crate::critical::critical;
 use crate::fault::Fault;
 use crate::number::number_from;
@@ -71,14 +72,22 @@ fn is_waiting_word(text: &[u8]) -> bool
     WAITING.iter().any(|word| text == word.name())
 }
 
-/// The command behind `onrestart`.
-fn onrestart(alloc: Global, file: &Text, line: u32, words: &[Text]) -> Result<Command, Fault>
-    ensures { IsReading result (onrestart_of file.now line words.now) }
+/// The word of the command behind `onrestart`.
+fn onrestart_word(words: &[Text]) -> Result<Word, Fault>
+    ensures { IsReading result (onrestart_word_lem words.now) }
 {
     if is_waiting_word(first_word(words)) {
         return Err(Fault::Bad(DiagKind::BadOption));
     }
-    command(alloc, file, line, words)
+    word_of_command(words)
+}
+
+/// The command behind `onrestart`.
+fn onrestart(alloc: Global, file: &Text, line: u32, words: &[Text]) -> Result<Command, Fault>
+    ensures { IsReading result (onrestart_of file.now line words.now) }
+{
+    let word = onrestart_word(words)?;
+    Ok(command_with(alloc, file, line, word, arguments(words))?)
 }
 
 fn millis(seconds: u32) -> Millis
@@ -116,4 +125,28 @@ pub fn read_setting(alloc: Global, file: &Text, line: u32, words: &[Text]) -> Re
         OptionWord::TimeoutPeriod => Ok(Setting::Timeout(seconds(1, first_word(args))?)),
         OptionWord::Inert(_) => Ok(Setting::Kept(shared(alloc, words)?)),
     }
+}
+
+/// Whether the option of these words is `override`. What it sets isn't kept.
+pub fn judge_setting(alloc: Global, words: &[Text]) -> Result<bool, Fault>
+    ensures { (file : Items ℕ) (line : ℕ) → IsReading result (overriding (setting_of file line words.now)) }
+{
+    let args = arguments(words);
+    match option_word(first_word(words), args.len())? {
+        OptionWord::Override => return Ok(true),
+        OptionWord::Critical => {
+            critical(alloc, args)?;
+        }
+        OptionWord::Onrestart => {
+            onrestart_word(args)?;
+        }
+        OptionWord::RestartPeriod => {
+            seconds(0, first_word(args))?;
+        }
+        OptionWord::TimeoutPeriod => {
+            seconds(1, first_word(args))?;
+        }
+        _ => {}
+    }
+    Ok(false)
 }
