@@ -9,7 +9,7 @@ use crate::gathers::Gathers;
 use init_base::{List, NoMemory, Text};
 use init_machine::Diagnostic;
 use rc_parse::{Import, Names, Skimmed, skim};
-use rc_tokens::lines;
+use rc_tokens::span_lines;
 use std::alloc::Global;
 
 impl Gathers for Names {
@@ -44,7 +44,7 @@ impl Gathers for Names {
 fn skim_of_file(alloc: Global, path: &Text, content: &Text) -> Result<Skimmed, NoMemory>
     ensures { IfOk result (λ skimmed. (parsed : Parsed) → Reads path.now content.now parsed → skimmed ≡ skim_of parsed) }
 {
-    let Ok(tokens) = lines(alloc, content.bytes()) else {
+    let Ok(tokens) = span_lines(alloc, content.bytes()) else {
         return Err(NoMemory);
     };
     skim(alloc, path, &tokens)

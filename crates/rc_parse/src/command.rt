@@ -13,7 +13,7 @@ use std::alloc::Global;
 
 /// The word of a command with so many arguments.
 #[tactic(auto, unfolding(crate::specs::Commands::command_word))]
-fn command_word(word: &[u8], count: usize) -> Result<Word, Fault>
+pub fn command_word(word: &[u8], count: usize) -> Result<Word, Fault>
     ensures { IsReading result (command_word_lem word.now count) }
 {
     let Some(word) = Word::of(word) else {

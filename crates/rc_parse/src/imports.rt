@@ -28,7 +28,7 @@ pub fn add_orphans(
 }
 
 /// Adds the import that these words behind `import` are, or its diagnostic.
-fn add_path(
+pub fn add_path(
     imports: &mut List<Import>,
     diagnostics: &mut List<Diagnostic>,
     file: &Text,

@@ -26,6 +26,7 @@ mod service;
 mod setting;
 mod skimmed;
 mod skimming;
+mod spans;
 mod standing;
 mod table;
 mod trigger;

@@ -1,41 +1,42 @@
 //! Files whose actions and services aren't kept: the same lines are judged as in `sections`, and no value is made of them.
 
-ghost use Rattle.std.specs.Prelude.{◌≡◌, ◌++◌, true, false, IfOk, OnOk};
+ghost use Rattle.std.specs.Prelude.{◌≡◌, ◌++◌, true, false, IfOk, OnOk, map};
 ghost use Rattle.std.specs.List.{list_any};
 ghost use Rattle.rc_parse.specs.Code.Adding.{command_diagnostics, section_of, setting_diagnostics};
 ghost use Rattle.rc_parse.specs.Code.Skimming.{with_skim};
 ghost use Rattle.rc_parse.specs.Lines.{arguments as arguments_lem, is_on as is_on_lem, is_service as is_service_lem};
 ghost use Rattle.rc_parse.specs.Readings.{diagnosed, values};
-ghost use Rattle.rc_parse.specs.Sections.{Sections, action_diagnostics, command_at, setting_at, settings_of};
+ghost use Rattle.rc_parse.specs.Sections.{Sections, action_diagnostics, command_at, orphan, setting_at, settings_of};
 ghost use Rattle.rc_parse.specs.Services.{is_override};
 ghost use Rattle.rc_parse.specs.Skims.{skim_of};
 ghost use Rattle.rc_parse.specs.Triggers.{triggers_of};
 ghost use Rattle.rc_parse.specs.declared.parsed.Parsed.{Parsed};
 
-use crate::command::word_of_command;
+use crate::command::command_word;
 use crate::fault::Fault;
-use crate::imports::{add_cut, add_orphans, read_import};
-use crate::lines::take_section;
+use crate::imports::{add_cut, add_path};
 use crate::parsed::diagnose;
 use crate::service::is_service_header;
 use crate::setting::judge_setting;
 use crate::skimmed::{ServiceMark, Skimmed};
+use crate::spans::{first_of, take_span_section};
 use crate::trigger::read_triggers;
-use crate::words::{arguments, is_on, is_service};
+use crate::words::arguments;
 use init_base::{List, NoMemory, Text};
 use init_machine::{DiagKind, Diagnostic};
-use rc_tokens::{Line, LineSlice, Tokens};
+use rc_tokens::{SpanLine, SpanSlice, SpanTokens};
 use std::alloc::Global;
 
 /// Adds what is wrong in a command's line.
+#[tactic(auto, using(crate::proofs::Firsts::args_count))]
 fn judge_command(
     diagnostics: &mut List<Diagnostic>,
     file: &Text,
-    line: &Line<'_>,
+    line: &SpanLine<'_>,
 ) -> Result<(), NoMemory>
     ensures { OnOk result (diagnostics.new ≡ diagnostics.old ++ diagnosed file.now line.now.number (command_at file.now line.now)) }
 {
-    match word_of_command(line.words()) {
+    match command_word(first_of(line), line.len().saturating_sub(1)) {
         Ok(_) => Ok(()),
         Err(Fault::Bad(kind)) => diagnose(diagnostics, file, line.number(), kind),
         Err(Fault::NoMemory) => Err(NoMemory),
@@ -46,7 +47,7 @@ fn judge_command(
 fn judge_commands(
     diagnostics: &mut List<Diagnostic>,
     file: &Text,
-    mut lines: LineSlice<'_>,
+    mut lines: SpanSlice<'_>,
 ) -> Result<(), NoMemory>
     ensures { OnOk result (diagnostics.new ≡ diagnostics.old ++ command_diagnostics file.now lines.entry) }
 {
@@ -61,13 +62,14 @@ fn judge_action(
     diagnostics: &mut List<Diagnostic>,
     alloc: Global,
     file: &Text,
-    header: &Line<'_>,
-    lines: LineSlice<'_>,
+    header: &SpanLine<'_>,
+    lines: SpanSlice<'_>,
 ) -> Result<(), NoMemory>
     ensures { OnOk result (diagnostics.new ≡ diagnostics.old
         ++ action_diagnostics file.now (section_of header.now lines.entry) (triggers_of (arguments_lem header.now.words))) }
 {
-    match read_triggers(alloc, arguments(header.words())) {
+    let words = header.texts(alloc)?;
+    match read_triggers(alloc, arguments(words.items())) {
         Ok(_) => judge_commands(diagnostics, file, lines),
         Err(Fault::Bad(kind)) => diagnose(diagnostics, file, header.number(), kind),
         Err(Fault::NoMemory) => Err(NoMemory),
@@ -79,12 +81,12 @@ fn judge_option(
     diagnostics: &mut List<Diagnostic>,
     alloc: Global,
     file: &Text,
-    line: &Line<'_>,
+    line: &SpanLine<'_>,
 ) -> Result<bool, NoMemory>
     ensures overrides { IfOk result (λ overrides. overrides ≡ list_any is_override (values (setting_at file.now line.now))) }
     ensures diagnostics { OnOk result (diagnostics.new ≡ diagnostics.old ++ diagnosed file.now line.now.number (setting_at file.now line.now)) }
 {
-    match judge_setting(alloc, line.words()) {
+    match judge_setting(alloc, line) {
         Ok(overrides) => Ok(overrides),
         Err(Fault::Bad(kind)) => {
             diagnose(diagnostics, file, line.number(), kind)?;
@@ -99,7 +101,7 @@ fn judge_options(
     diagnostics: &mut List<Diagnostic>,
     alloc: Global,
     file: &Text,
-    mut lines: LineSlice<'_>,
+    mut lines: SpanSlice<'_>,
 ) -> Result<bool, NoMemory>
     ensures overrides { IfOk result (λ overrides. overrides ≡ list_any is_override (settings_of file.now lines.entry)) }
     ensures diagnostics { OnOk result (diagnostics.new ≡ diagnostics.old ++ setting_diagnostics file.now lines.entry) }
@@ -117,14 +119,15 @@ fn skim_service(
     skimmed: &mut Skimmed,
     alloc: Global,
     file: &Text,
-    header: &Line<'_>,
-    lines: LineSlice<'_>,
+    header: &SpanLine<'_>,
+    lines: SpanSlice<'_>,
 ) -> Result<(), NoMemory>
     requires other { is_on_lem header.now ≡ false }
     requires service { is_service_lem header.now ≡ true }
     ensures { OnOk result (skimmed.new ≡ with_skim file.now skimmed.old (section_of header.now lines.entry)) }
 {
-    let words = arguments(header.words());
+    let texts = header.texts(alloc)?;
+    let words = arguments(texts.items());
     if !is_service_header(words) {
         let kind = DiagKind::BadService;
         return diagnose(&mut skimmed.diagnostics, file, header.number(), kind);
@@ -143,8 +146,8 @@ fn skim_action(
     skimmed: &mut Skimmed,
     alloc: Global,
     file: &Text,
-    header: &Line<'_>,
-    lines: LineSlice<'_>,
+    header: &SpanLine<'_>,
+    lines: SpanSlice<'_>,
 ) -> Result<(), NoMemory>
     requires { is_on_lem header.now ≡ true }
     ensures { OnOk result (skimmed.new ≡ with_skim file.now skimmed.old (section_of header.now lines.entry)) }
@@ -153,12 +156,27 @@ fn skim_action(
     Ok(())
 }
 
-/// Adds the import of an `import` section.
+/// Adds the diagnostics of lines that belong to no section.
+fn skim_orphans(
+    diagnostics: &mut List<Diagnostic>,
+    file: &Text,
+    mut lines: SpanSlice<'_>,
+) -> Result<(), NoMemory>
+    ensures { OnOk result (diagnostics.new ≡ diagnostics.old ++ map (λ line. orphan file.now line.number) lines.entry) }
+{
+    while let Some(line) = lines.pop() {
+        diagnose(diagnostics, file, line.number(), DiagKind::Orphan)?;
+    }
+    Ok(())
+}
+
+/// Adds the import of an `import` section. The lines behind it belong to no section.
 fn skim_import(
     skimmed: &mut Skimmed,
+    alloc: Global,
     file: &Text,
-    header: &Line<'_>,
-    lines: LineSlice<'_>,
+    header: &SpanLine<'_>,
+    lines: SpanSlice<'_>,
 ) -> Result<(), NoMemory>
     requires other { is_on_lem header.now ≡ false }
     requires import { is_service_lem header.now ≡ false }
@@ -169,7 +187,10 @@ fn skim_import(
         diagnostics,
         ..
     } = skimmed;
-    read_import(imports, diagnostics, file, header, lines)?;
+    let texts = header.texts(alloc)?;
+    let words = arguments(texts.items());
+    add_path(imports, diagnostics, file, header.number(), words)?;
+    skim_orphans(diagnostics, file, lines)?;
     Ok(())
 }
 
@@ -178,29 +199,34 @@ fn skim_section(
     skimmed: &mut Skimmed,
     alloc: Global,
     file: &Text,
-    header: &Line<'_>,
-    lines: LineSlice<'_>,
+    header: &SpanLine<'_>,
+    lines: SpanSlice<'_>,
 ) -> Result<(), NoMemory>
     ensures { OnOk result (skimmed.new ≡ with_skim file.now skimmed.old (section_of header.now lines.entry)) }
 {
-    if is_on(header) {
+    let word = first_of(header);
+    if word == b"on".as_slice() {
         skim_action(skimmed, alloc, file, header, lines)
-    } else if is_service(header) {
+    } else if word == b"service".as_slice() {
         skim_service(skimmed, alloc, file, header, lines)
     } else {
-        skim_import(skimmed, file, header, lines)
+        skim_import(skimmed, alloc, file, header, lines)
     }
 }
 
 /// What the lines of a file mean, without what its actions do and its services are.
-pub fn skim(alloc: Global, file: &Text, tokens: &Tokens) -> Result<Skimmed, NoMemory>
+pub fn skim(alloc: Global, file: &Text, tokens: &SpanTokens) -> Result<Skimmed, NoMemory>
     ensures { IfOk result (λ skimmed. (parsed : Parsed) → Sections file.now tokens.now parsed → skimmed ≡ skim_of parsed) }
 {
     let mut skimmed = Skimmed::new(alloc);
     let mut lines = tokens.lines();
-    add_orphans(&mut skimmed.diagnostics, file, take_section(&mut lines))?;
+    skim_orphans(
+        &mut skimmed.diagnostics,
+        file,
+        take_span_section(&mut lines),
+    )?;
     while let Some(header) = lines.pop() {
-        let body = take_section(&mut lines);
+        let body = take_span_section(&mut lines);
         skim_section(&mut skimmed, alloc, file, &header, body)?;
     }
     add_cut(&mut skimmed.diagnostics, file, tokens.dropped())?;

@@ -1,6 +1,7 @@
 //! Words, and what a line is by its first one.
 
-ghost use Rattle.std.specs.Prelude.{◌≡◌, ◌≤◌, IfOk, drop, length};
+ghost use Rattle.std.specs.Prelude.{◌≡◌, ◌≤◌, ◌||◌, IfOk, codes, drop, length};
+ghost use Rattle.std.specs.Str.{bytes_eq};
 ghost use Rattle.init_base.specs.Name.{is_legal_name as is_legal_name_lem};
 ghost use Rattle.rc_parse.specs.Lines.{arguments as arguments_lem, first_word as first_word_lem, is_header as is_header_lem, is_on as is_on_lem, is_service as is_service_lem};
 
@@ -42,12 +43,18 @@ pub fn is_service(line: &Line<'_>) -> bool
     first_word(line.words()) == b"service".as_slice()
 }
 
+/// Whether a line that begins with this word begins a section.
+pub fn is_header_word(word: &[u8]) -> bool
+    ensures { result ≡ (bytes_eq word.now (codes "on") || bytes_eq word.now (codes "service") || bytes_eq word.now (codes "import")) }
+{
+    word == b"on".as_slice() || word == b"service".as_slice() || word == b"import".as_slice()
+}
+
 /// Whether a line begins a section.
 pub fn is_header(line: &Line<'_>) -> bool
     ensures { result ≡ is_header_lem line.now }
 {
-    let word = first_word(line.words());
-    word == b"on".as_slice() || word == b"service".as_slice() || word == b"import".as_slice()
+    is_header_word(first_word(line.words()))
 }
 
 /// Whether a text is the name of a property.

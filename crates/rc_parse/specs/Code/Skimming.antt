@@ -1,12 +1,12 @@
 -- What the code adds, section by section, where actions and services aren't kept.
-use Rattle.std.specs.Prelude.{ℕ, Bool, if◌then◌else◌, List, ◌++◌, length, map, Result, Ok, Err}
+use Rattle.std.specs.Prelude.{ℕ, Bool, if◌then◌else◌, List, ◌++◌, map, Result, Ok, Err}
 use Rattle.std.specs.List.{flat_map}
 use Rattle.init_machine.specs.declared.diagnostic.DiagKind.{DiagKind}
 use Rattle.init_machine.specs.declared.diagnostic.DiagKind.TheVariants.{BadOption}
 use Rattle.init_machine.specs.declared.diagnostic.Diagnostic.{Diagnostic}
 use Rattle.init_machine.specs.declared.word.Word.{Word}
 use Rattle.rc_parse.specs.Commands.{command_word}
-use Rattle.rc_parse.specs.Lines.{Section, arguments, first_word}
+use Rattle.rc_parse.specs.Lines.{Section}
 use Rattle.rc_parse.specs.Options.{is_waiting_word}
 use Rattle.rc_parse.specs.Sections.{services_of, imports_of, diagnostics_of}
 use Rattle.rc_parse.specs.Services.{is_override}
@@ -19,10 +19,9 @@ abbrev pub overriding : Result Setting DiagKind → Result Bool DiagKind
 overriding (Ok setting) = Ok (is_override setting)
 overriding (Err kind) = Err kind
 
--- the word of the command behind `onrestart`
-abbrev pub onrestart_word : List (List ℕ) → Result Word DiagKind
-onrestart_word words =
-    if is_waiting_word (first_word words) then Err BadOption else command_word (first_word words) (length (arguments words))
+-- the word of the command behind `onrestart`, with so many arguments
+abbrev pub onrestart_word : List ℕ → ℕ → Result Word DiagKind
+onrestart_word text count = if is_waiting_word text then Err BadOption else command_word text count
 
 abbrev pub with_found : Skimmed → List Diagnostic → Skimmed
 with_found skimmed more = record skimmed { diagnostics = skimmed.diagnostics ++ more }
