@@ -1,9 +1,10 @@
 -- The first words of a list.
-use Rattle.std.proofs.Common.{◌≡◌, ℕ, ◌-◌, ◌≤◌, ◌&&◌, nat_le, true, not, ◌==◌, List, [], ◌∷◌, length, get_or, nat_eq, Some, None, take, drop, refl, ap, ◌∙◌, arith}
+use Rattle.std.proofs.Common.{◌≡◌, ℕ, ◌-◌, ◌≤◌, ◌&&◌, nat_le, Bool, true, false, not, ◌==◌, List, [], ◌∷◌, length, get_or, nat_eq, Some, None, take, drop, refl, sym, ap, ◌∙◌, arith}
 use Rattle.std.proofs.lemmas.Bool.{and_parts, leb-true}
 use Rattle.std.proofs.lemmas.List.{length-take, take_rest}
 use Rattle.std.proofs.lemmas.Slice.Eq.{bytes_eq-Decides}
 use Rattle.std.specs.List.{slice_get, slice_range, starts_with}
+use Rattle.std.specs.Str.{bytes_eq}
 use Rattle.rc_parse.specs.Lines.{first_word, arguments}
 use Rattle.rc_parse.specs.Services.{is_service_header, is_service_name}
 
@@ -66,3 +67,11 @@ pub args_args_count : (words : List (List ℕ)) → length (arguments (arguments
 args_args_count [] = refl
 args_args_count (word ∷ []) = omega arith
 args_args_count (word ∷ other ∷ words) = omega arith
+
+-- texts of other lengths differ
+pub other_length : (word text : List ℕ) → ¬ (length word ≡ length text) → false ≡ bytes_eq word text
+other_length word text apart = by (bytes_eq word text) refl
+  where
+    by : (b : Bool) → bytes_eq word text ≡ b → false ≡ bytes_eq word text
+    by true same = absurd (apart (ap length ((bytes_eq-Decides word text).0 same)))
+    by false differ = sym differ

@@ -21,7 +21,7 @@ use crate::setting::judge_setting;
 use crate::skimmed::{ServiceMark, Skimmed};
 use crate::spans::{first_of, take_span_section};
 use crate::trigger::read_triggers;
-use crate::words::arguments;
+use crate::words::{arguments, is_text};
 use init_base::{List, NoMemory, Text};
 use init_machine::{DiagKind, Diagnostic};
 use rc_tokens::{SpanLine, SpanSlice, SpanTokens};
@@ -205,9 +205,9 @@ fn skim_section(
     ensures { OnOk result (skimmed.new ≡ with_skim file.now skimmed.old (section_of header.now lines.entry)) }
 {
     let word = first_of(header);
-    if word == b"on".as_slice() {
+    if is_text(word, b"on") {
         skim_action(skimmed, alloc, file, header, lines)
-    } else if word == b"service".as_slice() {
+    } else if is_text(word, b"service") {
         skim_service(skimmed, alloc, file, header, lines)
     } else {
         skim_import(skimmed, alloc, file, header, lines)

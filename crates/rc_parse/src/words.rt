@@ -33,21 +33,30 @@ pub fn arguments(words: &[Text]) -> &[Text]
 pub fn is_on(line: &Line<'_>) -> bool
     ensures { result ≡ is_on_lem line.now }
 {
-    first_word(line.words()) == b"on".as_slice()
+    is_text(first_word(line.words()), b"on")
 }
 
 /// Whether a line begins a service.
 pub fn is_service(line: &Line<'_>) -> bool
     ensures { result ≡ is_service_lem line.now }
 {
-    first_word(line.words()) == b"service".as_slice()
+    is_text(first_word(line.words()), b"service")
+}
+
+/// Whether a word has this text. Most differ by their length.
+#[inline]
+#[tactic(auto, using(crate::proofs::Firsts::other_length))]
+pub fn is_text(word: &[u8], text: &[u8]) -> bool
+    ensures { result ≡ bytes_eq word.now text.now }
+{
+    word.len() == text.len() && word == text
 }
 
 /// Whether a line that begins with this word begins a section.
 pub fn is_header_word(word: &[u8]) -> bool
     ensures { result ≡ (bytes_eq word.now (codes "on") || bytes_eq word.now (codes "service") || bytes_eq word.now (codes "import")) }
 {
-    word == b"on".as_slice() || word == b"service".as_slice() || word == b"import".as_slice()
+    is_text(word, b"on") || is_text(word, b"service") || is_text(word, b"import")
 }
 
 /// Whether a line begins a section.
