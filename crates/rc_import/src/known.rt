@@ -35,7 +35,7 @@ impl Gathers for Names {
             diagnostics: own,
         } = skim_of_file(alloc, path, content)?;
         diagnostics.append(own)?;
-        names.add_all(alloc, services, diagnostics)?;
+        names.add_all(services, diagnostics)?;
         Ok((names, imports))
     }
 }

@@ -1,20 +1,13 @@
 -- The names of services, one after another.
-use Rattle.std.proofs.Common.{◌≡◌, ℕ, Bool, true, false, ◌||◌, if◌then◌else◌, List, [], ◌∷◌, ◌++◌, map, refl, sym, ap, ◌∙◌, subst, append_assoc}
-use Rattle.std.proofs.Math.Bool.{or-true, or-false}
+use Rattle.std.proofs.Common.{◌≡◌, ℕ, Bool, true, false, ◌||◌, if◌then◌else◌, List, [], ◌∷◌, ◌++◌, map, refl, sym, ap, ◌∙◌, subst, append_assoc, nat_lt, length, length-append, arith, not}
+use Rattle.std.proofs.Math.Bool.{or-false}
+use Rattle.std.proofs.lemmas.Bool.{le-ltb, lt-ltb}
 use Rattle.std.proofs.lemmas.List.{append-nil}
 use Rattle.std.proofs.lemmas.List.Folds.{list_any-append}
-use Rattle.std.proofs.lemmas.Map.Text.{is_eq-slice_cmp}
 use Rattle.std.proofs.lemmas.Slice.Eq.{bytes_eq-Decides}
-use Rattle.std.specs.BTreeMap.{is_at}
-use Rattle.std.specs.BTreeSet.{insert_key}
-use Rattle.std.specs.Cmp.Lexicographic.{slice_cmp}
 use Rattle.std.specs.List.{list_any}
-use Rattle.std.specs.Ordering.{nat_cmp, is_eq, match_ordering}
 use Rattle.std.specs.Str.{bytes_eq}
-use Rattle.std.specs.declared.alloc.Global.{Global}
-use Rattle.std.specs.declared.cmp.Ordering.{Ordering}
-use Rattle.std.specs.declared.cmp.Ordering.TheVariants.{Less, Equal, Greater}
-use Rattle.std.specs.declared.vec.Vec.{Vec}
+use Rattle.text_index.specs.Texts.{with_text}
 use Rattle.init_machine.specs.declared.diagnostic.Diagnostic.{Diagnostic}
 use Rattle.init_machine.specs.declared.diagnostic.DiagKind.TheVariants.{ServiceAgain}
 use Rattle.init_machine.specs.declared.service.ServiceDef.{ServiceDef}
@@ -26,71 +19,51 @@ use Rattle.rc_parse.specs.declared.names.Names.{Names}
 use Rattle.rc_parse.specs.declared.skimmed.ServiceMark.{ServiceMark}
 use Rattle.rc_parse.proofs.Slots.{names_swapped}
 
--- ---- a set with one name more
+-- ---- one name more
 
-abbrev Keys : Type 0
-Keys = List (Vec ℕ Global)
+either : (a b : Bool) → (a || b) ≡ (b || a)
+either true true = refl
+either true false = refl
+either false true = refl
+either false false = refl
 
-abbrev is_in : List ℕ → Keys → Bool
-is_in name keys = list_any (is_at (λ (key : Vec ℕ Global). slice_cmp nat_cmp name key.items)) keys
-
-abbrev put : Keys → Vec ℕ Global → Keys
-put keys key = insert_key (λ (x y : Vec ℕ Global). slice_cmp nat_cmp x.items y.items) keys key
-
-twice : (a b : Bool) → (a || b) ≡ (a || (a || b))
-twice true b = refl
-twice false b = refl
-
-swap : (a b c : Bool) → (a || (b || c)) ≡ (b || (a || c))
-swap true true c = refl
-swap true false c = refl
-swap false b c = refl
-
-here : (name : List ℕ) (key : Vec ℕ Global) → is_eq (slice_cmp nat_cmp name key.items) ≡ bytes_eq key.items name
-here name key = is_eq-slice_cmp name key.items ∙ names_swapped name key.items
-
-in_order : (order : Ordering) (name : List ℕ) (key other : Vec ℕ Global) (keys : Keys) → slice_cmp nat_cmp key.items other.items ≡ order
-    → is_in name (put keys key) ≡ (bytes_eq key.items name || is_in name keys)
-    → is_in name (match_ordering order (key ∷ other ∷ keys) (other ∷ keys) (other ∷ put keys key)) ≡ (bytes_eq key.items name || is_in name (other ∷ keys))
-in_order Less name key other keys is next = ap (λ (b : Bool). b || is_in name (other ∷ keys)) (here name key)
-in_order Equal name key other keys is next =
-    let same : key.items ≡ other.items = (bytes_eq-Decides key.items other.items).0 (sym (is_eq-slice_cmp key.items other.items) ∙ ap is_eq is) in
-    let there : is_eq (slice_cmp nat_cmp name other.items) ≡ bytes_eq key.items name = here name other ∙ ap (λ (n : List ℕ). bytes_eq n name) (sym same) in
-    ap (λ (b : Bool). b || is_in name keys) there
-    ∙ twice (bytes_eq key.items name) (is_in name keys)
-    ∙ ap (λ (b : Bool). bytes_eq key.items name || (b || is_in name keys)) (sym there)
-in_order Greater name key other keys is next =
-    ap (λ (b : Bool). is_eq (slice_cmp nat_cmp name other.items) || b) next
-    ∙ swap (is_eq (slice_cmp nat_cmp name other.items)) (bytes_eq key.items name) (is_in name keys)
-
-in_put : (keys : Keys) (name : List ℕ) (key : Vec ℕ Global) → is_in name (put keys key) ≡ (bytes_eq key.items name || is_in name keys)
-in_put [] name key = ap (λ (b : Bool). b || false) (here name key)
-in_put (other ∷ keys) name key = in_order (slice_cmp nat_cmp key.items other.items) name key other keys refl (in_put keys name key)
-
-pub name_put : (old new : Keys) (key : Vec ℕ Global) (name : List ℕ) → new ≡ put old key → name ≡ key.items
-    → (other : List ℕ) → is_in other new ≡ (bytes_eq name other || is_in other old)
-name_put old new key name are is other =
-    ap (is_in other) are ∙ in_put old other key ∙ ap (λ (n : List ℕ). bytes_eq n other || is_in other old) (sym is)
-
--- ---- one service more
-
--- a name that is known stays the only one of its service
-pub known_still : (names : Names) (service : ServiceMark) (text : List ℕ) → text ≡ service.name → knows names.names text ≡ true
-    → (before : List ServiceDef) (read : ServiceDef) → AreNamesOf names before → service ≡ mark_of read → AreNamesOf names (before ++ read ∷ [])
-known_still names service text text_is known before read are is name = by (bytes_eq read.name name) refl
+there : (names : List (List ℕ)) (name other : List ℕ) → knows names name ≡ true → knows names other ≡ (bytes_eq name other || knows names other)
+there names name other known = by (bytes_eq name other) refl
   where
-    of_read : text ≡ read.name
-    of_read = text_is ∙ ap (λ (m : ServiceMark). m.name) is
+    by : (b : Bool) → bytes_eq name other ≡ b → knows names other ≡ (b || knows names other)
+    by true same = ap (knows names) (sym ((bytes_eq-Decides name other).0 same)) ∙ known
+    by false differ = refl
 
-    by : (b : Bool) → bytes_eq read.name name ≡ b → knows names.names name ≡ list_any (is_named name) (before ++ read ∷ [])
-    by true e =
-        ap (knows names.names) (sym (of_read ∙ (bytes_eq-Decides read.name name).0 e)) ∙ known
-        ∙ sym (list_any-append (is_named name) before (read ∷ [])
-        ∙ ap (λ (b : Bool). list_any (is_named name) before || (b || false)) e ∙ or-true (list_any (is_named name) before))
-    by false e =
-        are name
-        ∙ sym (list_any-append (is_named name) before (read ∷ [])
-        ∙ ap (λ (b : Bool). list_any (is_named name) before || (b || false)) e ∙ or-false (list_any (is_named name) before))
+put_at : (known : Bool) (old : List (List ℕ)) (name other : List ℕ) → knows old name ≡ known
+    → knows (if known then old else old ++ name ∷ []) other ≡ (bytes_eq name other || knows old other)
+put_at true old name other known = there old name other known
+put_at false old name other known =
+    list_any-append (bytes_eq other) old (name ∷ [])
+    ∙ ap (λ (b : Bool). knows old other || b) (or-false (bytes_eq other name) ∙ names_swapped other name)
+    ∙ either (knows old other) (bytes_eq name other)
+
+pub name_put : (old new : List (List ℕ)) (name : List ℕ) → new ≡ with_text old name
+    → (other : List ℕ) → knows new other ≡ (bytes_eq name other || knows old other)
+name_put old new name is other = ap (λ (names : List (List ℕ)). knows names other) is ∙ put_at (knows old name) old name other refl
+
+longer : (known : Bool) (old : List (List ℕ)) (name : List ℕ) → nat_lt (length old) (length (if known then old else old ++ name ∷ [])) ≡ not known
+longer true old name = le-ltb (length old) (length old) (omega arith)
+longer false old name = lt-ltb (length old) (length (old ++ name ∷ [])) (omega (arith, length-append old (name ∷ [])))
+
+pub is_longer : (old new : List (List ℕ)) (name : List ℕ) → new ≡ with_text old name → nat_lt (length old) (length new) ≡ not (knows old name)
+is_longer old new name is = ap (λ (names : List (List ℕ)). nat_lt (length old) (length names)) is ∙ longer (knows old name) old name
+
+-- the names of services and of one more
+pub known_more : (names more : Names) (service : ServiceMark) (text : List ℕ) → text ≡ service.name
+    → ((other : List ℕ) → knows more.names other ≡ (bytes_eq text other || knows names.names other))
+    → (before : List ServiceDef) (read : ServiceDef) → AreNamesOf names before → service ≡ mark_of read → AreNamesOf more (before ++ read ∷ [])
+known_more names more service text text_is put before read are is name =
+    put name
+    ∙ ap (λ (b : Bool). bytes_eq text name || b) (are name)
+    ∙ either (bytes_eq text name) (list_any (is_named name) before)
+    ∙ ap (λ (t : List ℕ). list_any (is_named name) before || bytes_eq t name) (text_is ∙ ap (λ (m : ServiceMark). m.name) is)
+    ∙ ap (λ (b : Bool). list_any (is_named name) before || b) (sym (or-false (bytes_eq read.name name)))
+    ∙ sym (list_any-append (is_named name) before (read ∷ []))
 
 -- ---- services, one after another
 

@@ -1,6 +1,6 @@
 //! The names of the services that were read so far, where the services aren't kept.
 
-ghost use Rattle.std.specs.Prelude.{◌≡◌, [], ◌∷◌, ◌++◌, ◌||◌, ℕ, List as Items, OnOk, map};
+ghost use Rattle.std.specs.Prelude.{◌≡◌, [], ◌∷◌, ◌++◌, ◌||◌, ℕ, not, List as Items, IfOk, OnOk, map};
 ghost use Rattle.std.specs.Str.{bytes_eq};
 ghost use Rattle.init_machine.specs.declared.service.ServiceDef.{ServiceDef};
 ghost use Rattle.rc_parse.specs.Kept.{agains_behind};
@@ -12,12 +12,12 @@ use crate::skimmed::ServiceMark;
 use init_base::{List, NoMemory};
 use init_machine::{DiagKind, Diagnostic};
 use std::alloc::Global;
-use std::collections::BTreeSet;
+use text_index::TextIndex;
 
 /// The names of the services that were read.
 #[derive(Drop)]
 pub struct Names {
-    names: BTreeSet<Vec<u8>>,
+    names: TextIndex,
 }
 
 impl Names {
@@ -26,22 +26,25 @@ impl Names {
         ensures { AreNamesOf result [] }
     {
         Names {
-            names: BTreeSet::new(alloc),
+            names: TextIndex::new(alloc),
         }
     }
 
-    /// Adds a name.
-    fn put(&mut self, alloc: Global, name: &[u8]) -> Result<(), NoMemory>
-        ensures { OnOk result ((other : Items ℕ) → knows self.new.names other ≡ (bytes_eq name.now other || knows self.old.names other)) }
+    /// Adds a name, and answers whether it is a new one.
+    #[tactic(auto, using(crate::proofs::KnownNames::name_put, crate::proofs::KnownNames::is_longer))]
+    fn put(&mut self, name: &[u8]) -> Result<bool, NoMemory>
+        ensures added { IfOk result (λ is_new. is_new ≡ not (knows self.old.names name.now)) }
+        ensures names { OnOk result ((other : Items ℕ) → knows self.new.names other ≡ (bytes_eq name.now other || knows self.old.names other)) }
     {
-        self.names.insert(Vec::from_slice(alloc, name)?)?;
-        Ok(())
+        let count = self.names.len();
+        self.names.add(name)?;
+        Ok(self.names.len() > count)
     }
 
     /// Adds the name of a service, or the diagnostic of a second one of its name without `override`.
+    #[tactic(auto, using(crate::proofs::KnownNames::known_more))]
     fn add(
         &mut self,
-        alloc: Global,
         service: &ServiceMark,
         diagnostics: &mut List<Diagnostic>,
     ) -> Result<(), NoMemory>
@@ -50,10 +53,8 @@ impl Names {
         ensures diagnostics { OnOk result ((before : Items ServiceDef) (read : ServiceDef) → AreNamesOf self.old before → service.now ≡ mark_of read →
             diagnostics.new ≡ diagnostics.old ++ agains_behind before (read ∷ [])) }
     {
-        if !self.names.contains(service.name.bytes()) {
-            return self.put(alloc, service.name.bytes());
-        }
-        if service.overrides {
+        let is_new = self.put(service.name.bytes())?;
+        if is_new || service.overrides {
             return Ok(());
         }
         diagnose(
@@ -68,7 +69,6 @@ impl Names {
     /// `override`, as `Merger::merge` does.
     pub fn add_all(
         &mut self,
-        alloc: Global,
         services: List<ServiceMark>,
         diagnostics: &mut List<Diagnostic>,
     ) -> Result<(), NoMemory>
@@ -78,7 +78,7 @@ impl Names {
             diagnostics.new ≡ diagnostics.old ++ agains_behind before read) }
     {
         for service in services.into_vec() {
-            self.add(alloc, &service, diagnostics)?;
+            self.add(&service, diagnostics)?;
         }
         Ok(())
     }
