@@ -1,3 +1,4 @@
+pub mod Alone
 pub mod Criticals
 pub mod Firsts
 pub mod Fronts

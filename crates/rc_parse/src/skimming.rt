@@ -3,9 +3,9 @@
 ghost use Rattle.std.specs.Prelude.{◌≡◌, ◌++◌, true, false, IfOk, OnOk, map};
 ghost use Rattle.std.specs.List.{list_any};
 ghost use Rattle.rc_parse.specs.Code.Adding.{command_diagnostics, section_of, setting_diagnostics};
-ghost use Rattle.rc_parse.specs.Code.Skimming.{with_skim};
+ghost use Rattle.rc_parse.specs.Code.Skimming.{settled, with_skim};
 ghost use Rattle.rc_parse.specs.Lines.{arguments as arguments_lem, is_on as is_on_lem, is_service as is_service_lem};
-ghost use Rattle.rc_parse.specs.Readings.{diagnosed, values};
+ghost use Rattle.rc_parse.specs.Readings.{IsReading, diagnosed, values};
 ghost use Rattle.rc_parse.specs.Sections.{Sections, action_diagnostics, command_at, orphan, setting_at, settings_of};
 ghost use Rattle.rc_parse.specs.Services.{is_override};
 ghost use Rattle.rc_parse.specs.Skims.{skim_of};
@@ -19,8 +19,8 @@ use crate::parsed::diagnose;
 use crate::service::is_service_header;
 use crate::setting::judge_setting;
 use crate::skimmed::{ServiceMark, Skimmed};
-use crate::spans::{first_of, take_span_section};
-use crate::trigger::read_triggers;
+use crate::spans::{first_of, second_of, take_span_section};
+use crate::trigger::{is_bad_trigger, read_triggers};
 use crate::words::{arguments, is_text};
 use init_base::{List, NoMemory, Text};
 use init_machine::{DiagKind, Diagnostic};
@@ -57,6 +57,22 @@ fn judge_commands(
     Ok(())
 }
 
+/// Whether the triggers of an `on` line are of a good form. Of one alone no value is made.
+#[tactic(auto, using(crate::proofs::Alone::good_alone, crate::proofs::Alone::bad_alone))]
+fn judge_triggers(alloc: Global, header: &SpanLine<'_>) -> Result<(), Fault>
+    ensures { IsReading result (settled (triggers_of (arguments_lem header.now.words))) }
+{
+    if header.len() == 2 {
+        if is_bad_trigger(second_of(header)) {
+            return Err(Fault::Bad(DiagKind::BadTrigger));
+        }
+        return Ok(());
+    }
+    let words = header.texts(alloc)?;
+    read_triggers(alloc, arguments(words.items()))?;
+    Ok(())
+}
+
 /// Adds what is wrong in an `on` section with this header and these lines.
 fn judge_action(
     diagnostics: &mut List<Diagnostic>,
@@ -68,9 +84,8 @@ fn judge_action(
     ensures { OnOk result (diagnostics.new ≡ diagnostics.old
         ++ action_diagnostics file.now (section_of header.now lines.entry) (triggers_of (arguments_lem header.now.words))) }
 {
-    let words = header.texts(alloc)?;
-    match read_triggers(alloc, arguments(words.items())) {
-        Ok(_) => judge_commands(diagnostics, file, lines),
+    match judge_triggers(alloc, header) {
+        Ok(()) => judge_commands(diagnostics, file, lines),
         Err(Fault::Bad(kind)) => diagnose(diagnostics, file, header.number(), kind),
         Err(Fault::NoMemory) => Err(NoMemory),
     }

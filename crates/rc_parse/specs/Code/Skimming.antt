@@ -19,6 +19,11 @@ abbrev pub overriding : Result Setting DiagKind → Result Bool DiagKind
 overriding (Ok setting) = Ok (is_override setting)
 overriding (Err kind) = Err kind
 
+-- whether there is a value
+abbrev pub settled : {A : Type 0} → Result A DiagKind → Result (Unit {0}) DiagKind
+settled (Ok value) = Ok tt
+settled (Err kind) = Err kind
+
 -- the word of the command behind `onrestart`, with so many arguments
 abbrev pub onrestart_word : List ℕ → ℕ → Result Word DiagKind
 onrestart_word text count = if is_waiting_word text then Err BadOption else command_word text count
