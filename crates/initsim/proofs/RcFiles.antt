@@ -9,7 +9,7 @@ use Rattle.init_machine.specs.declared.limit.Limit.TheVariants as limits
 use Rattle.prop_rules.specs.View.{view}
 use Rattle.prop_rules.specs.declared.build.BuildProps.{BuildProps}
 use Rattle.rc_import.specs.Answers.{IsAnswer}
-use Rattle.rc_import.specs.Limits.{SoFar, loaded as rc_files_of, loaded_from, loaded_of, nothing, onward, with_all, with_bytes, with_met}
+use Rattle.rc_import.specs.Limits.{SoFar, diagnostics_of, loaded as rc_files_of, loaded_from, loaded_of, nothing, onward, with_all, with_bytes, with_met}
 use Rattle.rc_import.specs.Order.{Met, Listing, File, Fault, order, root_file}
 use Rattle.rc_import.specs.World.{IsWorld, World}
 use Rattle.rc_import.specs.declared.loaded.Loaded.{Loaded}
@@ -18,7 +18,7 @@ use Rattle.rc_import.specs.declared.loaded.LoadLimit.TheVariants as load_limits
 use Rattle.rc_import.specs.declared.loaded.LoadRefusal.{LoadRefusal}
 use Rattle.rc_import.specs.declared.loaded.LoadRefusal.TheVariants as refusal
 use Rattle.initsim.specs.Check.{IsCheckStatus, IsTreeLimit}
-use Rattle.initsim.specs.Stops.{AreBuildFiles, GivesLoad, load_stop, status_of}
+use Rattle.initsim.specs.Stops.{AreBuildFiles, GivesDiagnostics, GivesLoad, load_stop, status_of}
 use Rattle.initsim.specs.Texts.{Tree, pairs_of}
 use Rattle.initsim.specs.Tree.{AreBuildFilesShort, IsLoadOf, IsTreeTooLarge, IsWorldOf, PassesLimit, TreeLimitSays, limit_of}
 use Rattle.init_words.specs.declared.form.Form.TheVariants.{Check}
@@ -165,3 +165,43 @@ load_read world props rc pairs diagnostics all files same_pairs same_diagnostics
   pairs = same_pairs ∙ files.pairs_are;
   diagnostics_are = both ∙ ap (λ d. d ++ rc.diagnostics) (same_diagnostics ∙ files.diagnostics_are);
 }
+
+-- ---- the diagnostics alone
+
+told_of : (answer : Result Loaded LoadRefusal) (found : List Diagnostic) → diagnostics_of answer ≡ Ok found
+    → (rc : Loaded) × (answer ≡ Ok rc) × (found ≡ rc.diagnostics)
+told_of (Ok rc) found is = (rc, refl, let same : found ≡ rc.diagnostics = cc in same)
+told_of (Err why) found is = cc
+
+refused_of : (answer : Result Loaded LoadRefusal) (why : LoadRefusal) → diagnostics_of answer ≡ Err why → answer ≡ Err why
+refused_of (Ok rc) why is = cc
+refused_of (Err other) why is = let same : other ≡ why = cc in ap (λ w. Err w) same
+
+refusal_of : (world : World) (why : LoadRefusal) → IsAnswer (Err why) (diagnostics_of (rc_files_of world)) → IsAnswer (Err why) (rc_files_of world)
+refusal_of world refusal.NoInit answer = refused_of (rc_files_of world) refusal.NoInit answer
+refusal_of world refusal.ReadFault answer = tt
+refusal_of world (refusal.TooLarge path limit number) answer = refused_of (rc_files_of world) (refusal.TooLarge path limit number) answer
+refusal_of world (refusal.TooMany path number) answer = refused_of (rc_files_of world) (refusal.TooMany path number) answer
+refusal_of world refusal.NoMemory answer = tt
+
+-- refused for its diagnostics as it is to be run
+pub untold : (world : World) (why : LoadRefusal)
+    → AreBuildFilesShort world.tree → IsAnswer (Err why) (diagnostics_of (rc_files_of world)) → GivesDiagnostics world (Err (load_stop why))
+untold world why short answer = load_refused world why short (refusal_of world why answer)
+
+pub told_alone : (world : World) (props : BuildProps) (found diagnostics all : List Diagnostic)
+    → AreBuildFiles world.tree props → diagnostics ≡ props.diagnostics → all ≡ diagnostics ++ found
+    → IsAnswer (Ok found) (diagnostics_of (rc_files_of world)) → GivesDiagnostics world (Ok all)
+told_alone world props found diagnostics all files same both answer =
+    let rc = told_of (rc_files_of world) found answer in (
+      record rc.0.config { pairs = pairs_of world.tree },
+      record {
+        short = files.short;
+        loaded = rc.0;
+        rc_files = rc.1;
+        actions = refl;
+        services = refl;
+        pairs = refl;
+        diagnostics_are = both ∙ ap (λ d. diagnostics ++ d) rc.2 ∙ ap (λ d. d ++ rc.0.diagnostics) (same ∙ files.diagnostics_are);
+      },
+    )

@@ -3,7 +3,9 @@ use Rattle.std.specs.Prelude.{◌≡◌, ℕ, ◌+◌, ◌<◌, ◌≤◌, ⊤, 
 use Rattle.init_base.specs.declared.outside.refusal.ReadRefusal.{ReadRefusal}
 use Rattle.init_base.specs.declared.outside.refusal.ReadRefusal.TheVariants as reading
 use Rattle.init_machine.specs.Policy.{PolicyLines}
+use Rattle.init_machine.specs.declared.config.Config.{Config}
 use Rattle.init_machine.specs.declared.config.Pair.{Pair}
+use Rattle.init_machine.specs.declared.diagnostic.Diagnostic.{Diagnostic}
 use Rattle.init_machine.specs.declared.limit.Limit.{Limit}
 use Rattle.init_machine.specs.declared.limit.Limit.TheVariants as limits
 use Rattle.persist_file.specs.declared.refusal.StoreRefusal.{StoreRefusal}
@@ -140,6 +142,11 @@ GivesPolicy world (Err why) = TreeSays Run world (status_of why)
 abbrev pub GivesLoad : World → Result Loaded Stop → Type 0
 GivesLoad world (Ok loaded) = IsLoadOf world loaded.config loaded.diagnostics
 GivesLoad world (Err why) = TreeSays Check world (status_of why)
+
+-- the diagnostics of what is loaded
+abbrev pub GivesDiagnostics : World → Result (List Diagnostic) Stop → Type 0
+GivesDiagnostics world (Ok diagnostics) = (config : Config) × IsLoadOf world config diagnostics
+GivesDiagnostics world (Err why) = TreeSays Check world (status_of why)
 
 abbrev pub GivesStore : List ℕ → Result (List Pair) Stop → Type 0
 GivesStore held (Ok saved) = IsStoreOf held saved

@@ -4,14 +4,14 @@ ghost use Rattle.std.specs.Prelude.{◌≡◌, IfErr, IfOk};
 ghost use Rattle.init_base.specs.Faults.{Counted};
 ghost use Rattle.init_machine.specs.WellFormed.{IsWellFormed};
 ghost use Rattle.initsim.specs.Check.{IsCheckStatus};
-ghost use Rattle.initsim.specs.Stops.{GivesLoad, has_read_fault, status_of};
+ghost use Rattle.initsim.specs.Stops.{GivesDiagnostics, GivesLoad, has_read_fault, status_of};
 ghost use Rattle.initsim.specs.Tree.{IsWorldOf};
 ghost use Rattle.rc_import.specs.World.{World};
 
 use crate::stop::Stop;
 use crate::texts::read_build_files;
-use init_base::Files;
-use init_machine::Config;
+use init_base::{Files, List};
+use init_machine::{Config, Diagnostic};
 use prop_rules::{BuildProps, boot_view};
 use rc_import::Loaded;
 use std::alloc::Global;
@@ -37,4 +37,20 @@ pub fn load<F: Files>(alloc: Global, files: &mut F) -> Result<Loaded, Stop>
         },
         diagnostics,
     })
+}
+
+/// Reads the same files for what is wrong in them, and keeps nothing else of the rc files but names.
+pub fn diagnose<F: Files>(alloc: Global, files: &mut F) -> Result<List<Diagnostic>, Stop>
+    ensures diagnostics { (world : World) → IsWorldOf (F.tree files.old) world → GivesDiagnostics world result }
+    ensures kind { IfErr result (λ why. IsCheckStatus (status_of why)) }
+    ensures cause { Counted (has_read_fault result) (F.fault_count files.old) (F.fault_count files.new) }
+{
+    let BuildProps {
+        pairs,
+        mut diagnostics,
+    } = read_build_files(alloc, files)?;
+    let mut view = boot_view(alloc, &pairs)?;
+    let found = rc_import::diagnose(alloc, files, &mut view)?;
+    diagnostics.append(found)?;
+    Ok(diagnostics)
 }

@@ -19,7 +19,7 @@ ghost use Rattle.init_words.specs.declared.form.Form.TheVariants as Form;
 ghost use Rattle.rc_import.specs.World.{World};
 
 use crate::auditing::audit_trace;
-use crate::loading::load;
+use crate::loading::diagnose;
 use crate::prepare::{Job, prepare};
 use crate::racing::race_script;
 use crate::soaking::soak;
@@ -115,8 +115,8 @@ fn check<F: Files, K: Sink>(alloc: Global, files: &mut F, out: &mut K) -> Status
     ensures unwritten { (keeper : ℕ) → IsAsBefore (K.taken out.old) (K.taken out.new) result keeper keeper }
     ensures formed { IsCheckStatus result }
 {
-    match load(alloc, files) {
-        Ok(loaded) => write_diagnostics(alloc, &loaded.diagnostics, out),
+    match diagnose(alloc, files) {
+        Ok(diagnostics) => write_diagnostics(alloc, &diagnostics, out),
         Err(stop) => stop.status(),
     }
 }

@@ -1,6 +1,7 @@
 pub mod Files
 pub mod Listed
 pub mod Loads
+pub mod OneFile
 pub mod Places
 pub mod Slashes
 pub mod Sorted

@@ -4,7 +4,7 @@ use Rattle.std.specs.List.{flat_map}
 use Rattle.rc_import.specs.Limits.{SoFar, onward, with_all, with_met}
 use Rattle.rc_import.specs.Order.{Met}
 use Rattle.rc_import.specs.World.{IsWorld, World}
-use Rattle.rc_import.specs.Code.Steps.{Continues, Follows, Reaches, Stops}
+use Rattle.rc_import.specs.Code.Steps.{Continues, Follows, Holds, Reaches, Stops}
 use Rattle.rc_import.specs.declared.loaded.LoadRefusal.{LoadRefusal}
 use Rattle.rc_import.specs.declared.loaded.LoadRefusal.TheVariants.{NoInit, ReadFault, TooLarge, TooMany, NoMemory}
 use Rattle.rc_import.specs.declared.loading.Loading.{Loading}
@@ -36,68 +36,68 @@ stopped NoMemory answer next stops = tt
 
 -- ---- steps
 
-nothing_met : (tree : Option Tree) (look_up : LookUp) (loading : Loading) → Follows tree look_up loading (Ok loading) (λ _. [])
-nothing_met tree look_up loading = λ world is sofar stands. (sofar, refl, stands)
+nothing_met : {G : Type 0} (holds : Holds G) (tree : Option Tree) (look_up : LookUp) (loading : Loading G) → Follows holds tree look_up loading (Ok loading) (λ _. [])
+nothing_met holds tree look_up loading = λ world is sofar stands. (sofar, refl, stands)
 
-behind : (tree : Option Tree) (look_up : LookUp) (loading mid : Loading) (result : Result Loading LoadRefusal) (a b : World → List Met)
-    → Follows tree look_up loading (Ok mid) a → Follows tree look_up mid result b → Follows tree look_up loading result (λ world. a world ++ b world)
-behind tree look_up loading mid result a b first second = λ world is sofar stands.
+behind : {G : Type 0} (holds : Holds G) (tree : Option Tree) (look_up : LookUp) (loading mid : Loading G) (result : Result (Loading G) LoadRefusal) (a b : World → List Met)
+    → Follows holds tree look_up loading (Ok mid) a → Follows holds tree look_up mid result b → Follows holds tree look_up loading result (λ world. a world ++ b world)
+behind holds tree look_up loading mid result a b first second = λ world is sofar stands.
     let reached = first world is sofar stands in
-    subst (Reaches result)
+    subst (Reaches holds result)
     (sym (all_behind world sofar (a world) (b world) ∙ ap (λ r. onward r (λ s. with_all world s (b world))) reached.1))
     (second world is reached.0 reached.2)
 
-stops : (tree : Option Tree) (look_up : LookUp) (loading : Loading) (refusal : LoadRefusal) (a b : World → List Met)
-    → Follows tree look_up loading (Err refusal) a → Follows tree look_up loading (Err refusal) (λ world. a world ++ b world)
-stops tree look_up loading refusal a b first = λ world is sofar stands.
+stopped_behind : {G : Type 0} (holds : Holds G) (tree : Option Tree) (look_up : LookUp) (loading : Loading G) (refusal : LoadRefusal) (a b : World → List Met)
+    → Follows holds tree look_up loading (Err refusal) a → Follows holds tree look_up loading (Err refusal) (λ world. a world ++ b world)
+stopped_behind holds tree look_up loading refusal a b first = λ world is sofar stands.
     subst (Stops refusal) (sym (all_behind world sofar (a world) (b world)))
     (stopped refusal (with_all world sofar (a world)) (λ s. with_all world s (b world)) (first world is sofar stands))
 
 -- the same is met in each world
-pub same_met : (tree : Option Tree) (look_up : LookUp) (loading : Loading) (result : Result Loading LoadRefusal) (a b : World → List Met)
-    → ((world : World) → IsWorld tree look_up world → a world ≡ b world) → Follows tree look_up loading result a → Follows tree look_up loading result b
-same_met tree look_up loading result a b same follows = λ world is sofar stands.
-    subst (λ met. Reaches result (with_all world sofar met)) (same world is) (follows world is sofar stands)
+pub same_met : {G : Type 0} (holds : Holds G) (tree : Option Tree) (look_up : LookUp) (loading : Loading G) (result : Result (Loading G) LoadRefusal) (a b : World → List Met)
+    → ((world : World) → IsWorld tree look_up world → a world ≡ b world) → Follows holds tree look_up loading result a → Follows holds tree look_up loading result b
+same_met holds tree look_up loading result a b same follows = λ world is sofar stands.
+    subst (λ met. Reaches holds result (with_all world sofar met)) (same world is) (follows world is sofar stands)
 
 -- the files and properties are the same
-pub same_world : (tree other : Option Tree) (look_up others : LookUp) (loading : Loading) (result : Result Loading LoadRefusal) (met : World → List Met)
-    → other ≡ tree → others ≡ look_up → Follows other others loading result met → Follows tree look_up loading result met
-same_world tree other look_up others loading result met same_tree same_look_up follows =
-    subst (λ t. Follows t look_up loading result met) same_tree (subst (λ l. Follows other l loading result met) same_look_up follows)
+pub same_world : {G : Type 0} (holds : Holds G) (tree other : Option Tree) (look_up others : LookUp) (loading : Loading G) (result : Result (Loading G) LoadRefusal) (met : World → List Met)
+    → other ≡ tree → others ≡ look_up → Follows holds other others loading result met → Follows holds tree look_up loading result met
+same_world holds tree other look_up others loading result met same_tree same_look_up follows =
+    subst (λ t. Follows holds t look_up loading result met) same_tree (subst (λ l. Follows holds other l loading result met) same_look_up follows)
 
 -- ---- a list of places, one after another
 
-goes_on : (tree : Option Tree) (look_up : LookUp) (loading mid next : Loading) (all a left : World → List Met)
-    → Continues tree look_up loading all mid (λ world. a world ++ left world) → Follows tree look_up mid (Ok next) a → Continues tree look_up loading all next left
-goes_on tree look_up loading mid next all a left so_far step = λ result follows. so_far result (behind tree look_up mid next result a left step follows)
+goes_on : {G : Type 0} (holds : Holds G) (tree : Option Tree) (look_up : LookUp) (loading mid next : Loading G) (all a left : World → List Met)
+    → Continues holds tree look_up loading all mid (λ world. a world ++ left world) → Follows holds tree look_up mid (Ok next) a → Continues holds tree look_up loading all next left
+goes_on holds tree look_up loading mid next all a left so_far step = λ result follows. so_far result (behind holds tree look_up mid next result a left step follows)
 
-breaks_off : (tree : Option Tree) (look_up : LookUp) (loading mid : Loading) (refusal : LoadRefusal) (all a left : World → List Met)
-    → Continues tree look_up loading all mid (λ world. a world ++ left world) → Follows tree look_up mid (Err refusal) a → Follows tree look_up loading (Err refusal) all
-breaks_off tree look_up loading mid refusal all a left so_far step = so_far (Err refusal) (stops tree look_up mid refusal a left step)
+breaks_off : {G : Type 0} (holds : Holds G) (tree : Option Tree) (look_up : LookUp) (loading mid : Loading G) (refusal : LoadRefusal) (all a left : World → List Met)
+    → Continues holds tree look_up loading all mid (λ world. a world ++ left world) → Follows holds tree look_up mid (Err refusal) a → Follows holds tree look_up loading (Err refusal) all
+breaks_off holds tree look_up loading mid refusal all a left so_far step = so_far (Err refusal) (stopped_behind holds tree look_up mid refusal a left step)
 
-ends : (tree : Option Tree) (look_up : LookUp) (loading next : Loading) (all : World → List Met)
-    → Continues tree look_up loading all next (λ _. []) → Follows tree look_up loading (Ok next) all
-ends tree look_up loading next all so_far = so_far (Ok next) (nothing_met tree look_up next)
+ends : {G : Type 0} (holds : Holds G) (tree : Option Tree) (look_up : LookUp) (loading next : Loading G) (all : World → List Met)
+    → Continues holds tree look_up loading all next (λ _. []) → Follows holds tree look_up loading (Ok next) all
+ends holds tree look_up loading next all so_far = so_far (Ok next) (nothing_met holds tree look_up next)
 
 -- ---- the same over a list, where the files and properties are those at its beginning
 
-pub list_on : {A : Type 0} (tree other : Option Tree) (look_up others : LookUp) (loading mid next : Loading) (all : World → List Met) (met : World → A → List Met) (rest left : List A) (x : A)
-    → other ≡ tree → others ≡ look_up → rest ≡ x ∷ left → Continues tree look_up loading all mid (λ world. flat_map (met world) rest)
-    → Follows other others mid (Ok next) (λ world. met world x) → Continues tree look_up loading all next (λ world. flat_map (met world) left)
-list_on tree other look_up others loading mid next all met rest left x same_tree same_look_up parted so_far step =
-    goes_on tree look_up loading mid next all (λ world. met world x) (λ world. flat_map (met world) left)
-    (subst (λ xs. Continues tree look_up loading all mid (λ world. flat_map (met world) xs)) parted so_far)
-    (same_world tree other look_up others mid (Ok next) (λ world. met world x) same_tree same_look_up step)
+pub list_on : {G : Type 0} (holds : Holds G) {A : Type 0} (tree other : Option Tree) (look_up others : LookUp) (loading mid next : Loading G) (all : World → List Met) (met : World → A → List Met) (rest left : List A) (x : A)
+    → other ≡ tree → others ≡ look_up → rest ≡ x ∷ left → Continues holds tree look_up loading all mid (λ world. flat_map (met world) rest)
+    → Follows holds other others mid (Ok next) (λ world. met world x) → Continues holds tree look_up loading all next (λ world. flat_map (met world) left)
+list_on holds tree other look_up others loading mid next all met rest left x same_tree same_look_up parted so_far step =
+    goes_on holds tree look_up loading mid next all (λ world. met world x) (λ world. flat_map (met world) left)
+    (subst (λ xs. Continues holds tree look_up loading all mid (λ world. flat_map (met world) xs)) parted so_far)
+    (same_world holds tree other look_up others mid (Ok next) (λ world. met world x) same_tree same_look_up step)
 
-pub list_off : {A : Type 0} (tree other : Option Tree) (look_up others : LookUp) (loading mid : Loading) (refusal : LoadRefusal) (all : World → List Met) (met : World → A → List Met) (rest left : List A) (x : A)
-    → other ≡ tree → others ≡ look_up → rest ≡ x ∷ left → Continues tree look_up loading all mid (λ world. flat_map (met world) rest)
-    → Follows other others mid (Err refusal) (λ world. met world x) → Follows tree look_up loading (Err refusal) all
-list_off tree other look_up others loading mid refusal all met rest left x same_tree same_look_up parted so_far step =
-    breaks_off tree look_up loading mid refusal all (λ world. met world x) (λ world. flat_map (met world) left)
-    (subst (λ xs. Continues tree look_up loading all mid (λ world. flat_map (met world) xs)) parted so_far)
-    (same_world tree other look_up others mid (Err refusal) (λ world. met world x) same_tree same_look_up step)
+pub list_off : {G : Type 0} (holds : Holds G) {A : Type 0} (tree other : Option Tree) (look_up others : LookUp) (loading mid : Loading G) (refusal : LoadRefusal) (all : World → List Met) (met : World → A → List Met) (rest left : List A) (x : A)
+    → other ≡ tree → others ≡ look_up → rest ≡ x ∷ left → Continues holds tree look_up loading all mid (λ world. flat_map (met world) rest)
+    → Follows holds other others mid (Err refusal) (λ world. met world x) → Follows holds tree look_up loading (Err refusal) all
+list_off holds tree other look_up others loading mid refusal all met rest left x same_tree same_look_up parted so_far step =
+    breaks_off holds tree look_up loading mid refusal all (λ world. met world x) (λ world. flat_map (met world) left)
+    (subst (λ xs. Continues holds tree look_up loading all mid (λ world. flat_map (met world) xs)) parted so_far)
+    (same_world holds tree other look_up others mid (Err refusal) (λ world. met world x) same_tree same_look_up step)
 
-pub list_done : {A : Type 0} (tree : Option Tree) (look_up : LookUp) (loading next : Loading) (all : World → List Met) (met : World → A → List Met) (rest : List A)
-    → rest ≡ [] → Continues tree look_up loading all next (λ world. flat_map (met world) rest) → Follows tree look_up loading (Ok next) all
-list_done tree look_up loading next all met rest none so_far =
-    ends tree look_up loading next all (subst (λ xs. Continues tree look_up loading all next (λ world. flat_map (met world) xs)) none so_far)
+pub list_done : {G : Type 0} (holds : Holds G) {A : Type 0} (tree : Option Tree) (look_up : LookUp) (loading next : Loading G) (all : World → List Met) (met : World → A → List Met) (rest : List A)
+    → rest ≡ [] → Continues holds tree look_up loading all next (λ world. flat_map (met world) rest) → Follows holds tree look_up loading (Ok next) all
+list_done holds tree look_up loading next all met rest none so_far =
+    ends holds tree look_up loading next all (subst (λ xs. Continues holds tree look_up loading all next (λ world. flat_map (met world) xs)) none so_far)

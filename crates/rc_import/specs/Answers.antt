@@ -1,14 +1,13 @@
 -- What a load answers, and when.
 use Rattle.std.specs.Prelude.{◌≡◌, ℕ, ◌<◌, ⊤, Bool, true, false, Result, Ok, Err}
-use Rattle.rc_import.specs.declared.loaded.Loaded.{Loaded}
 use Rattle.rc_import.specs.declared.loaded.LoadLimit.{LoadLimit}
 use Rattle.rc_import.specs.declared.loaded.LoadLimit.TheVariants as limits
 use Rattle.rc_import.specs.declared.loaded.LoadRefusal.{LoadRefusal}
 use Rattle.rc_import.specs.declared.loaded.LoadRefusal.TheVariants.{NoInit, ReadFault, TooLarge, TooMany, NoMemory}
 
 -- an answer of the code is that of the definition, unless a call on the files failed or memory ran out
-abbrev pub IsAnswer : Result Loaded LoadRefusal → Result Loaded LoadRefusal → Type 0
-IsAnswer (Ok loaded) answer = answer ≡ Ok loaded
+abbrev pub IsAnswer : {T : Type 0} → Result T LoadRefusal → Result T LoadRefusal → Type 0
+IsAnswer (Ok value) answer = answer ≡ Ok value
 IsAnswer (Err NoInit) answer = answer ≡ Err NoInit
 IsAnswer (Err ReadFault) answer = ⊤
 IsAnswer (Err (TooLarge path limit number)) answer = answer ≡ Err (TooLarge path limit number)

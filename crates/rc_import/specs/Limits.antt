@@ -73,3 +73,8 @@ loaded_from world (Some bytes) = onward (with_all world nothing (order world)) (
 -- what a tree is loaded as, or why it isn't: without the root file it is not
 abbrev pub loaded : World → Result Loaded LoadRefusal
 loaded world = loaded_from world (file_at world.tree root_file)
+
+-- the diagnostics alone
+abbrev pub diagnostics_of : Result Loaded LoadRefusal → Result (List Diagnostic) LoadRefusal
+diagnostics_of (Ok loaded) = Ok loaded.diagnostics
+diagnostics_of (Err refusal) = Err refusal

@@ -6,13 +6,15 @@ ghost use Rattle.init_base.specs.Faults.{Counted};
 ghost use Rattle.init_machine.specs.Props.{value_in};
 ghost use Rattle.init_machine.specs.WellFormed.{IsWellFormed};
 ghost use Rattle.rc_import.specs.Answers.{HasItsNumber, IsAnswer, is_read_fault};
-ghost use Rattle.rc_import.specs.Limits.{loaded as loaded_lem};
+ghost use Rattle.rc_import.specs.Limits.{diagnostics_of, loaded as loaded_lem};
 ghost use Rattle.rc_import.specs.Order.{at_first, directories, in_directory};
 ghost use Rattle.rc_import.specs.Paths.{file_in as file_in_lem};
 ghost use Rattle.rc_import.specs.Stores.{IsKept};
 ghost use Rattle.rc_import.specs.World.{IsWorld, World};
-ghost use Rattle.rc_import.specs.Code.Steps.{Follows, FollowsFile};
+ghost use Rattle.rc_import.specs.Code.Steps.{Follows, FollowsFile, IsGatheredOf};
 
+use crate::gathered::Gathered;
+use crate::gathers::Gathers;
 use crate::import::follow_file;
 use crate::listing::list;
 use crate::loaded::{LoadRefusal, Loaded};
@@ -20,7 +22,8 @@ use crate::loading::Loading;
 use crate::path::file_in;
 use crate::place::Place;
 use init_base::{Files, List, Text};
-use init_machine::PropStore;
+use init_machine::{Diagnostic, PropStore};
+use rc_parse::Names;
 use std::alloc::Global;
 
 const ROOT_FILE: &[u8] = b"/system/etc/init/hw/init.rc";
@@ -51,23 +54,61 @@ pub fn load<F: Files, S: PropStore>(
     ensures cause { Counted (is_read_fault result) (F.fault_count files.old) (F.fault_count files.new) }
     ensures store { IsKept S.meaning S.told S.spare S.Beside props.old props.new }
 {
+    let (gathered, diagnostics) = gather::<F, S, Gathered>(alloc, files, props)?;
+    Ok(Loaded {
+        config: gathered.into_config(alloc)?,
+        diagnostics,
+    })
+}
+
+/// The diagnostics with which `load` loads a tree, or why it doesn't. Of a file nothing is kept but these, its imports until
+/// they are followed, and the names of its services.
+pub fn diagnose<F: Files, S: PropStore>(
+    alloc: Global,
+    files: &mut F,
+    props: &mut S,
+) -> Result<List<Diagnostic>, LoadRefusal>
+    // The diagnostics of what is loaded, or why nothing is, where the tree is told.
+    ensures diagnostics { (world : World) → IsWorld (F.tree files.old) (value_in (S.meaning props.old)) world →
+        IsAnswer result (diagnostics_of (loaded_lem world)) }
+    ensures number { HasItsNumber result }
+    ensures tree { F.tree files.new ≡ F.tree files.old }
+    ensures cause { Counted (is_read_fault result) (F.fault_count files.old) (F.fault_count files.new) }
+    ensures store { IsKept S.meaning S.told S.spare S.Beside props.old props.new }
+{
+    let (_, diagnostics) = gather::<F, S, Names>(alloc, files, props)?;
+    Ok(diagnostics)
+}
+
+/// Gathers the files of a tree, and their diagnostics.
+fn gather<F: Files, S: PropStore, G: Gathers>(
+    alloc: Global,
+    files: &mut F,
+    props: &mut S,
+) -> Result<(G, List<Diagnostic>), LoadRefusal>
+    ensures gathered { (world : World) → IsWorld (F.tree files.old) (value_in (S.meaning props.old)) world → IsGatheredOf G.holds result (loaded_lem world) }
+    ensures number { HasItsNumber result }
+    ensures tree { F.tree files.new ≡ F.tree files.old }
+    ensures cause { Counted (is_read_fault result) (F.fault_count files.old) (F.fault_count files.new) }
+    ensures store { IsKept S.meaning S.told S.spare S.Beside props.old props.new }
+{
     let root = Text::of(alloc, ROOT_FILE)?;
-    let loading = match follow_first(alloc, files, props, Loading::new(alloc), root)? {
+    let loading = match follow_first(alloc, files, props, Loading::<G>::new(alloc), root)? {
         (loading, true) => loading,
         (_, false) => return Err(LoadRefusal::NoInit),
     };
     let loading = follow_directories(alloc, files, props, loading)?;
-    Ok(loading.finish(alloc)?)
+    Ok(loading.into_parts())
 }
 
 /// Follows the directories whose files are read behind the root file.
-fn follow_directories<F: Files, S: PropStore>(
+fn follow_directories<F: Files, S: PropStore, G: Gathers>(
     alloc: Global,
     files: &mut F,
     props: &mut S,
-    loading: Loading,
-) -> Result<Loading, LoadRefusal>
-    ensures order { Follows (F.tree files.old) (value_in (S.meaning props.old)) loading result (λ world. flat_map (in_directory world) directories) }
+    loading: Loading<G>,
+) -> Result<Loading<G>, LoadRefusal>
+    ensures order { Follows G.holds (F.tree files.old) (value_in (S.meaning props.old)) loading result (λ world. flat_map (in_directory world) directories) }
     ensures number { HasItsNumber result }
     ensures tree { F.tree files.new ≡ F.tree files.old }
     ensures cause { Counted (is_read_fault result) (F.fault_count files.old) (F.fault_count files.new) }
@@ -82,14 +123,14 @@ fn follow_directories<F: Files, S: PropStore>(
 }
 
 /// Follows the files of a directory. One that isn't there is skipped.
-fn follow_directory<F: Files, S: PropStore>(
+fn follow_directory<F: Files, S: PropStore, G: Gathers>(
     alloc: Global,
     files: &mut F,
     props: &mut S,
-    loading: Loading,
+    loading: Loading<G>,
     dir: &Text,
-) -> Result<Loading, LoadRefusal>
-    ensures order { Follows (F.tree files.old) (value_in (S.meaning props.old)) loading result (λ world. in_directory world dir.now) }
+) -> Result<Loading<G>, LoadRefusal>
+    ensures order { Follows G.holds (F.tree files.old) (value_in (S.meaning props.old)) loading result (λ world. in_directory world dir.now) }
     ensures number { HasItsNumber result }
     ensures tree { F.tree files.new ≡ F.tree files.old }
     ensures cause { Counted (is_read_fault result) (F.fault_count files.old) (F.fault_count files.new) }
@@ -102,15 +143,15 @@ fn follow_directory<F: Files, S: PropStore>(
 }
 
 /// Follows the files of these names in a directory.
-fn follow_names<F: Files, S: PropStore>(
+fn follow_names<F: Files, S: PropStore, G: Gathers>(
     alloc: Global,
     files: &mut F,
     props: &mut S,
-    loading: Loading,
+    loading: Loading<G>,
     dir: &Text,
     names: List<Text>,
-) -> Result<Loading, LoadRefusal>
-    ensures order { Follows (F.tree files.old) (value_in (S.meaning props.old)) loading result (λ world. flat_map (λ name. at_first world (file_in_lem dir.now name)) names) }
+) -> Result<Loading<G>, LoadRefusal>
+    ensures order { Follows G.holds (F.tree files.old) (value_in (S.meaning props.old)) loading result (λ world. flat_map (λ name. at_first world (file_in_lem dir.now name)) names) }
     ensures number { HasItsNumber result }
     ensures tree { F.tree files.new ≡ F.tree files.old }
     ensures cause { Counted (is_read_fault result) (F.fault_count files.old) (F.fault_count files.new) }
@@ -125,14 +166,14 @@ fn follow_names<F: Files, S: PropStore>(
 }
 
 /// Follows a file that no import leads to. It answers whether the file is there.
-fn follow_first<F: Files, S: PropStore>(
+fn follow_first<F: Files, S: PropStore, G: Gathers>(
     alloc: Global,
     files: &mut F,
     props: &mut S,
-    loading: Loading,
+    loading: Loading<G>,
     path: Text,
-) -> Result<(Loading, bool), LoadRefusal>
-    ensures order { FollowsFile (F.tree files.old) (value_in (S.meaning props.old)) loading result (λ world. at_first world path) path }
+) -> Result<(Loading<G>, bool), LoadRefusal>
+    ensures order { FollowsFile G.holds (F.tree files.old) (value_in (S.meaning props.old)) loading result (λ world. at_first world path) path }
     ensures number { HasItsNumber result }
     ensures tree { F.tree files.new ≡ F.tree files.old }
     ensures cause { Counted (is_read_fault result) (F.fault_count files.old) (F.fault_count files.new) }

@@ -12,6 +12,7 @@ ghost use Rattle.rc_import.specs.Paths.{file_in as file_in_lem};
 ghost use Rattle.rc_import.specs.Stores.{IsKept};
 ghost use Rattle.rc_import.specs.Code.Steps.{Follows, FollowsFile};
 
+use crate::gathers::Gathers;
 use crate::listing::list;
 use crate::loaded::LoadRefusal;
 use crate::loading::Loading;
@@ -24,14 +25,14 @@ use std::alloc::Global;
 
 /// Reads the file of a place, and all that its imports lead to. It answers whether the file is there.
 #[cycle(imports)]
-pub fn follow_file<F: Files, S: PropStore>(
+pub fn follow_file<F: Files, S: PropStore, G: Gathers>(
     alloc: Global,
     files: &mut F,
     props: &mut S,
-    loading: Loading,
+    loading: Loading<G>,
     place: &Place,
-) -> Result<(Loading, bool), LoadRefusal>
-    ensures order { FollowsFile (F.tree files.old) (value_in (S.meaning props.old)) loading result (λ world. at_file world (at_target world place.now.left place.now.trail place.now.file) [] place.now.file (file_at world.tree place.now.file)) place.now.file }
+) -> Result<(Loading<G>, bool), LoadRefusal>
+    ensures order { FollowsFile G.holds (F.tree files.old) (value_in (S.meaning props.old)) loading result (λ world. at_file world (at_target world place.now.left place.now.trail place.now.file) [] place.now.file (file_at world.tree place.now.file)) place.now.file }
     ensures number { HasItsNumber result }
     ensures tree { F.tree files.new ≡ F.tree files.old }
     ensures cause { Counted (is_read_fault result) (F.fault_count files.old) (F.fault_count files.new) }
@@ -47,15 +48,15 @@ pub fn follow_file<F: Files, S: PropStore>(
 
 /// Follows the imports of a file, one after another.
 #[cycle(imports)]
-fn follow_imports<F: Files, S: PropStore>(
+fn follow_imports<F: Files, S: PropStore, G: Gathers>(
     alloc: Global,
     files: &mut F,
     props: &mut S,
-    loading: Loading,
+    loading: Loading<G>,
     place: &Place,
     imports: List<Import>,
-) -> Result<Loading, LoadRefusal>
-    ensures order { Follows (F.tree files.old) (value_in (S.meaning props.old)) loading result (λ world. flat_map (at_import world place.now.file (at_target world place.now.left place.now.trail place.now.file)) imports) }
+) -> Result<Loading<G>, LoadRefusal>
+    ensures order { Follows G.holds (F.tree files.old) (value_in (S.meaning props.old)) loading result (λ world. flat_map (at_import world place.now.file (at_target world place.now.left place.now.trail place.now.file)) imports) }
     ensures number { HasItsNumber result }
     ensures tree { F.tree files.new ≡ F.tree files.old }
     ensures cause { Counted (is_read_fault result) (F.fault_count files.old) (F.fault_count files.new) }
@@ -70,15 +71,15 @@ fn follow_imports<F: Files, S: PropStore>(
 
 /// Follows an import of a file. Its path is expanded first.
 #[cycle(imports)]
-fn follow_import<F: Files, S: PropStore>(
+fn follow_import<F: Files, S: PropStore, G: Gathers>(
     alloc: Global,
     files: &mut F,
     props: &mut S,
-    loading: Loading,
+    loading: Loading<G>,
     place: &Place,
     import: Import,
-) -> Result<Loading, LoadRefusal>
-    ensures order { Follows (F.tree files.old) (value_in (S.meaning props.old)) loading result (λ world. at_import world place.now.file (at_target world place.now.left place.now.trail place.now.file) import) }
+) -> Result<Loading<G>, LoadRefusal>
+    ensures order { Follows G.holds (F.tree files.old) (value_in (S.meaning props.old)) loading result (λ world. at_import world place.now.file (at_target world place.now.left place.now.trail place.now.file) import) }
     ensures number { HasItsNumber result }
     ensures tree { F.tree files.new ≡ F.tree files.old }
     ensures cause { Counted (is_read_fault result) (F.fault_count files.old) (F.fault_count files.new) }
@@ -92,16 +93,16 @@ fn follow_import<F: Files, S: PropStore>(
 
 /// Follows an import whose path is expanded: to a file, or to the files of a directory.
 #[cycle(imports)]
-fn follow_path<F: Files, S: PropStore>(
+fn follow_path<F: Files, S: PropStore, G: Gathers>(
     alloc: Global,
     files: &mut F,
     props: &mut S,
-    loading: Loading,
+    loading: Loading<G>,
     place: &Place,
     line: u32,
     path: Text,
-) -> Result<Loading, LoadRefusal>
-    ensures order { Follows (F.tree files.old) (value_in (S.meaning props.old)) loading result (λ world. at_expanded world (fault place.now.file line) (at_target world place.now.left place.now.trail place.now.file line) (Ok path)) }
+) -> Result<Loading<G>, LoadRefusal>
+    ensures order { Follows G.holds (F.tree files.old) (value_in (S.meaning props.old)) loading result (λ world. at_expanded world (fault place.now.file line) (at_target world place.now.left place.now.trail place.now.file line) (Ok path)) }
     ensures number { HasItsNumber result }
     ensures tree { F.tree files.new ≡ F.tree files.old }
     ensures cause { Counted (is_read_fault result) (F.fault_count files.old) (F.fault_count files.new) }
@@ -119,17 +120,17 @@ fn follow_path<F: Files, S: PropStore>(
 
 /// Follows an import to the files of these names in a directory.
 #[cycle(imports)]
-fn follow_names<F: Files, S: PropStore>(
+fn follow_names<F: Files, S: PropStore, G: Gathers>(
     alloc: Global,
     files: &mut F,
     props: &mut S,
-    loading: Loading,
+    loading: Loading<G>,
     place: &Place,
     line: u32,
     dir: &Text,
     names: List<Text>,
-) -> Result<Loading, LoadRefusal>
-    ensures order { Follows (F.tree files.old) (value_in (S.meaning props.old)) loading result (λ world. flat_map (λ name. at_target world place.now.left place.now.trail place.now.file line (file_in_lem dir.now name)) names) }
+) -> Result<Loading<G>, LoadRefusal>
+    ensures order { Follows G.holds (F.tree files.old) (value_in (S.meaning props.old)) loading result (λ world. flat_map (λ name. at_target world place.now.left place.now.trail place.now.file line (file_in_lem dir.now name)) names) }
     ensures number { HasItsNumber result }
     ensures tree { F.tree files.new ≡ F.tree files.old }
     ensures cause { Counted (is_read_fault result) (F.fault_count files.old) (F.fault_count files.new) }
@@ -145,16 +146,16 @@ fn follow_names<F: Files, S: PropStore>(
 
 /// Follows an import to a file, unless it is being imported now, or no level is left.
 #[cycle(imports)]
-fn follow_target<F: Files, S: PropStore>(
+fn follow_target<F: Files, S: PropStore, G: Gathers>(
     alloc: Global,
     files: &mut F,
     props: &mut S,
-    loading: Loading,
+    loading: Loading<G>,
     place: &Place,
     line: u32,
     path: Text,
-) -> Result<Loading, LoadRefusal>
-    ensures order { Follows (F.tree files.old) (value_in (S.meaning props.old)) loading result (λ world. at_target world place.now.left place.now.trail place.now.file line path) }
+) -> Result<Loading<G>, LoadRefusal>
+    ensures order { Follows G.holds (F.tree files.old) (value_in (S.meaning props.old)) loading result (λ world. at_target world place.now.left place.now.trail place.now.file line path) }
     ensures number { HasItsNumber result }
     ensures tree { F.tree files.new ≡ F.tree files.old }
     ensures cause { Counted (is_read_fault result) (F.fault_count files.old) (F.fault_count files.new) }

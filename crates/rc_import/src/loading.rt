@@ -2,21 +2,19 @@
 
 ghost use Rattle.std.specs.Prelude.{◌≡◌, ◌≤◌, ◌<◌, ◌+◌, ℕ, List as Items, Option as Maybe, false, IfOk, length};
 ghost use Rattle.init_base.specs.Faults.{Counted};
-ghost use Rattle.init_machine.specs.WellFormed.{IsWellFormed};
 ghost use Rattle.rc_parse.specs.Files.{Reads};
 ghost use Rattle.rc_import.specs.Answers.{HasItsNumber, is_read_fault};
-ghost use Rattle.rc_import.specs.Limits.{SoFar, loaded_of, nothing, with_bytes, with_file};
+ghost use Rattle.rc_import.specs.Limits.{SoFar, nothing, with_bytes, with_file as with_file_lem};
 ghost use Rattle.rc_import.specs.Order.{fault};
 ghost use Rattle.rc_import.specs.World.{IsWorld, World};
-ghost use Rattle.rc_import.specs.Code.Sound.{AreSound};
+ghost use Rattle.rc_parse.specs.declared.parsed.Parsed.{Parsed};
 ghost use Rattle.rc_import.specs.Code.Steps.{Follows, IsFile, IsShort, MeansFiles, ReachesImports, ReadsContent, Stands};
 
-use crate::gathered::Gathered;
-use crate::loaded::{LoadLimit, LoadRefusal, Loaded};
+use crate::gathers::Gathers;
+use crate::loaded::{LoadLimit, LoadRefusal};
 use init_base::{Files, List, NoMemory, ReadRefusal, Text};
 use init_machine::{DiagKind, Diagnostic};
-use rc_parse::{Import, Parsed, one_meaning, parse};
-use rc_tokens::lines;
+use rc_parse::Import;
 use std::alloc::Global;
 
 /// The most files that are read, those that aren't there included.
@@ -32,22 +30,22 @@ const ONE_BYTE_MORE: u64 = 1_048_577;
 /// The most bytes of all files.
 const MOST_BYTES: u64 = 33_554_432;
 
-/// What was read so far: how many files were asked for, the sum of their bytes, what stays of them, and what is wrong in
+/// What was read so far: how many files were asked for, the sum of their bytes, what is gathered of them, and what is wrong in
 /// them.
 #[derive(Drop)]
-pub struct Loading {
-    merger: Gathered,
+pub struct Loading<G> {
+    gathered: G,
     diagnostics: List<Diagnostic>,
     files: u64,
     bytes: u64,
 }
 
-impl Loading {
-    pub fn new(alloc: Global) -> Loading
-        ensures { Stands result nothing }
+impl<G: Gathers> Loading<G> {
+    pub fn new(alloc: Global) -> Loading<G>
+        ensures { Stands G.holds result nothing }
     {
         Loading {
-            merger: Gathered::new(alloc),
+            gathered: G::none(alloc),
             diagnostics: List::new(alloc),
             files: 0,
             bytes: 0,
@@ -55,9 +53,14 @@ impl Loading {
     }
 
     /// Adds the diagnostic of an import at a line of a file.
-    pub fn with_fault(self, file: &Text, line: u32, kind: DiagKind) -> Result<Loading, LoadRefusal>
+    pub fn with_fault(
+        self,
+        file: &Text,
+        line: u32,
+        kind: DiagKind,
+    ) -> Result<Loading<G>, LoadRefusal>
         ensures order { (tree : Maybe (Items (Items ℕ × Items ℕ))) (look_up : Items ℕ → Maybe (Items ℕ)) →
-            Follows tree look_up self result (λ _. fault file.now line kind) }
+            Follows G.holds tree look_up self result (λ _. fault file.now line kind) }
         ensures number { HasItsNumber result }
         ensures steady { is_read_fault result ≡ false }
     {
@@ -76,8 +79,8 @@ impl Loading {
         alloc: Global,
         files: &mut F,
         path: &Text,
-    ) -> Result<(Loading, Option<List<Import>>), LoadRefusal>
-        ensures read { (look_up : Items ℕ → Maybe (Items ℕ)) → IsFile (F.tree files.old) look_up self path.now result }
+    ) -> Result<(Loading<G>, Option<List<Import>>), LoadRefusal>
+        ensures read { (look_up : Items ℕ → Maybe (Items ℕ)) → IsFile G.holds (F.tree files.old) look_up self path.now result }
         ensures number { HasItsNumber result }
         ensures tree { F.tree files.new ≡ F.tree files.old }
         ensures cause { Counted (is_read_fault result) (F.fault_count files.old) (F.fault_count files.new) }
@@ -95,11 +98,11 @@ impl Loading {
     }
 }
 
-impl Loading {
+impl<G: Gathers> Loading<G> {
     /// Counts a file that isn't there.
-    fn with_nothing(self) -> Loading
+    fn with_nothing(self) -> Loading<G>
         requires { self.files < 1024 }
-        ensures { (sofar : SoFar) → Stands self sofar → Stands result (record sofar { files = sofar.files + 1 }) }
+        ensures { (sofar : SoFar) → Stands G.holds self sofar → Stands G.holds result (record sofar { files = sofar.files + 1 }) }
     {
         let mut loading = self;
         loading.files += 1;
@@ -112,11 +115,11 @@ impl Loading {
         alloc: Global,
         path: &Text,
         content: &Text,
-    ) -> Result<(Loading, Option<List<Import>>), LoadRefusal>
+    ) -> Result<(Loading<G>, Option<List<Import>>), LoadRefusal>
         requires few { self.files < 1024 }
         requires short { length content.now ≤ 1048576 }
-        ensures read { (world : World) → MeansFiles world → (sofar : SoFar) → Stands self sofar →
-            ReachesImports result (with_bytes world sofar path.now (Some content.now)) (Some (world.means path.now content.now).imports) }
+        ensures read { (world : World) → MeansFiles world → (sofar : SoFar) → Stands G.holds self sofar →
+            ReachesImports G.holds result (with_bytes world sofar path.now (Some content.now)) (Some (world.means path.now content.now).imports) }
         ensures number { HasItsNumber result }
         ensures steady { is_read_fault result ≡ false }
     {
@@ -128,47 +131,33 @@ impl Loading {
                 number: bytes,
             });
         }
-        let parsed = sections_of(alloc, path, content)?;
-        one_meaning();
-        let (loading, imports) = self.with_parsed(alloc, bytes, parsed)?;
+        let (loading, imports) = self.with_file(alloc, bytes, path, content)?;
         Ok((loading, Some(imports)))
     }
 
-    /// Adds the sections of a file, behind which so many bytes were read, and answers its imports.
-    fn with_parsed(
+    /// Adds a file of this content, behind which so many bytes were read, and answers its imports.
+    fn with_file(
         self,
         alloc: Global,
         bytes: u64,
-        parsed: Parsed,
-    ) -> Result<(Loading, List<Import>), NoMemory>
+        path: &Text,
+        content: &Text,
+    ) -> Result<(Loading<G>, List<Import>), NoMemory>
         requires few { self.files < 1024 }
-        requires sound { AreSound parsed.actions parsed.services }
-        ensures stands { IfOk result (λ next. (sofar : SoFar) (size : ℕ) → Stands self sofar → bytes ≡ sofar.bytes + size → bytes ≤ 33554432 → Stands next.0 (with_file sofar size parsed)) }
-        ensures imports { IfOk result (λ next. next.1 ≡ parsed.imports) }
+        requires short { length content.now ≤ 1048576 }
+        ensures stands { IfOk result (λ next. (sofar : SoFar) (size : ℕ) (parsed : Parsed) → Stands G.holds self sofar → Reads path.now content.now parsed →
+            bytes ≡ sofar.bytes + size → bytes ≤ 33554432 → Stands G.holds next.0 (with_file_lem sofar size parsed)) }
+        ensures imports { IfOk result (λ next. (parsed : Parsed) → Reads path.now content.now parsed → next.1 ≡ parsed.imports) }
     {
         let Loading {
-            merger,
+            gathered,
             mut diagnostics,
             files,
             ..
         } = self;
-        let Parsed {
-            actions,
-            services,
-            imports,
-            diagnostics: own,
-        } = parsed;
-        diagnostics.append(own)?;
-        let sections = Parsed {
-            actions,
-            services,
-            imports: List::new(alloc),
-            diagnostics: List::new(alloc),
-        };
-        let (merger, agains) = merger.with(alloc, sections)?;
-        diagnostics.append(agains)?;
+        let (gathered, imports) = gathered.read(alloc, path, content, &mut diagnostics)?;
         let loading = Loading {
-            merger,
+            gathered,
             diagnostics,
             files: files + 1,
             bytes,
@@ -176,15 +165,12 @@ impl Loading {
         Ok((loading, imports))
     }
 
-    /// What is loaded, where nothing more is read.
-    pub fn finish(self, alloc: Global) -> Result<Loaded, NoMemory>
-        ensures loaded { IfOk result (λ loaded. (sofar : SoFar) → Stands self sofar → loaded ≡ loaded_of sofar) }
-        ensures well_formed { IfOk result (λ loaded. IsWellFormed loaded.config) }
+    /// What was gathered, and the diagnostics.
+    pub fn into_parts(self) -> (G, List<Diagnostic>)
+        ensures gathered { result.0 ≡ self.gathered }
+        ensures diagnostics { result.1 ≡ self.diagnostics }
     {
-        Ok(Loaded {
-            config: self.merger.into_config(alloc)?,
-            diagnostics: self.diagnostics,
-        })
+        (self.gathered, self.diagnostics)
     }
 }
 
@@ -210,16 +196,4 @@ fn content_of<F: Files>(
         Err(ReadRefusal::Failed) => Err(LoadRefusal::ReadFault),
         Err(ReadRefusal::NoMemory) => Err(LoadRefusal::NoMemory),
     }
-}
-
-/// The sections of a file. Its bytes are within the limit of tokens too.
-#[tactic(auto, using(crate::proofs::Sound::sections_sound))]
-fn sections_of(alloc: Global, path: &Text, content: &Text) -> Result<Parsed, NoMemory>
-    ensures reads { IfOk result (λ parsed. Reads path.now content.now parsed) }
-    ensures sound { IfOk result (λ parsed. AreSound parsed.actions parsed.services) }
-{
-    let Ok(tokens) = lines(alloc, content.bytes()) else {
-        return Err(NoMemory);
-    };
-    parse(alloc, path, &tokens)
 }

@@ -1,7 +1,9 @@
+pub mod Alone
 pub mod Criticals
 pub mod Firsts
 pub mod Fronts
 pub mod Joins
+pub mod KnownNames
 pub mod NameSets
 pub mod OneName
 pub mod Placed
@@ -12,6 +14,7 @@ pub mod Seen
 pub mod Services
 pub mod Signs
 pub mod Tested
+pub mod Skims
 pub mod Slots
 pub mod Together
 pub mod OneMore

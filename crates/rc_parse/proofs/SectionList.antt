@@ -1,20 +1,16 @@
 -- The sections of a list of lines, header by header.
 use Rattle.std.proofs.Common.{◌≡◌, ℕ, Bool, true, false, IsTrue, ◌&&◌, if◌then◌else◌, Option, Result, Ok, Err, List, [], ◌∷◌, ◌++◌, map, refl, sym, ap, ◌∙◌, append_assoc}
-use Rattle.std.proofs.lemmas.Bool.{cond-false}
 use Rattle.std.proofs.lemmas.List.{append-nil}
 use Rattle.std.proofs.lemmas.List.Folds.{list_all-append}
 use Rattle.std.specs.List.{flat_map, list_all}
 use Rattle.init_machine.specs.declared.action.Action.{Action}
 use Rattle.init_machine.specs.declared.diagnostic.DiagKind.{DiagKind}
 use Rattle.init_machine.specs.declared.diagnostic.Diagnostic.{Diagnostic}
-use Rattle.init_machine.specs.declared.service.ServiceDef.{ServiceDef}
 use Rattle.rc_tokens.specs.Lines.{Line, Tokens}
-use Rattle.rc_parse.specs.Lines.{Section, sections, is_header, is_on, is_service, lines_before_header}
-use Rattle.rc_parse.specs.Sections.{Sections, header_args, commands_of, has_command, action_under, actions_of, services_of, import_with, imports_of, import_fault, import_diagnostics, diagnostics_of, orphan, cut}
+use Rattle.rc_parse.specs.Lines.{Section, sections, is_header, is_on, lines_before_header}
+use Rattle.rc_parse.specs.Sections.{Sections, header_args, commands_of, has_command, action_under, actions_of, services_of, imports_of, diagnostics_of, orphan, cut}
 use Rattle.rc_parse.specs.Triggers.{triggers_of}
-use Rattle.rc_parse.specs.Code.Adding.{from_header, section_of, with_diagnostics, with_import, with_section, with_sections}
-use Rattle.rc_parse.specs.Services.{is_service_header}
-use Rattle.rc_parse.specs.declared.parsed.Import.{Import}
+use Rattle.rc_parse.specs.Code.Adding.{from_header, section_of, with_diagnostics, with_section, with_sections}
 use Rattle.rc_parse.specs.declared.parsed.Parsed.{Parsed}
 use Rattle.rc_parse.specs.declared.trigger.Triggers.{Triggers}
 use Rattle.rc_parse.proofs.Headers.{one_section, same_sections, is_first_header}
@@ -112,31 +108,3 @@ actions_have file (section ∷ more) =
 
 pub parsed_have : (file : List ℕ) (tokens : Tokens) (parsed : Parsed) → Sections file tokens parsed → IsTrue (list_all has_command parsed.actions)
 parsed_have file tokens parsed are = ap (λ (actions : List Action). list_all has_command actions) are.actions_are ∙ actions_have file (sections tokens.lines)
-
--- ---- imports
-
--- what an import and the lines behind it add
-pub import_added : (file : List ℕ) (old between last : Parsed) (section : Section) (words : List (List ℕ))
-    → is_on section.header ≡ false → is_service section.header ≡ false
-    → words ≡ header_args section → between ≡ with_import file old section.header.number words
-    → last ≡ with_diagnostics between (map (λ line. orphan file line.number) section.body)
-    → last ≡ with_section file old section
-import_added file old between last section words other import words_are between_is last_is =
-    let no_actions : actions_of file section ≡ [] = cond-false _ _ _ other in
-    let no_services : services_of file section ≡ [] = cond-false _ _ _ (ap (λ (b : Bool). b && is_service_header (header_args section)) import) in
-    let the_import : imports_of section ≡ import_with section.header.number (header_args section) = cond-false _ _ _ other ∙ cond-false _ _ _ import in
-    let the_diagnostics : diagnostics_of file section ≡ import_diagnostics file section = cond-false _ _ _ other ∙ cond-false _ _ _ import in
-    let all_diagnostics : (old.diagnostics ++ import_fault file section) ++ map (λ line. orphan file line.number) section.body ≡ old.diagnostics ++ diagnostics_of file section =
-    append_assoc old.diagnostics (import_fault file section) (map (λ line. orphan file line.number) section.body)
-    ∙ sym (ap (λ (more : List Diagnostic). old.diagnostics ++ more) the_diagnostics) in
-    let whole : with_diagnostics (with_import file old section.header.number (header_args section)) (map (λ line. orphan file line.number) section.body) ≡ with_section file old section =
-    λ i. record {
-      actions = (sym (append-nil old.actions) ∙ sym (ap (λ (more : List Action). old.actions ++ more) no_actions)) i;
-      services = (sym (append-nil old.services) ∙ sym (ap (λ (more : List ServiceDef). old.services ++ more) no_services)) i;
-      imports = sym (ap (λ (more : List Import). old.imports ++ more) the_import) i;
-      diagnostics = all_diagnostics i;
-    } in
-    last_is
-    ∙ ap (λ (p : Parsed). with_diagnostics p (map (λ line. orphan file line.number) section.body)) between_is
-    ∙ ap (λ (w : List (List ℕ)). with_diagnostics (with_import file old section.header.number w) (map (λ line. orphan file line.number) section.body)) words_are
-    ∙ whole

@@ -45,3 +45,9 @@ parts_sliced text name value place len h name_is end value_is =
 
 pub no_parts : (text : List ℕ) → None ≡ position is_equals_sign text → list_any is_equals_sign text ≡ false
 no_parts text h = any_passes is_equals_sign text ∙ not_found _ (position_or_len is_equals_sign text) (sym h)
+
+pub sign_at : (text : List ℕ) (place : ℕ) → Some place ≡ position is_equals_sign text
+    → (list_any is_equals_sign text ≡ true) × (position_or_len is_equals_sign text ≡ place)
+sign_at text place h =
+    let f = found (nat_lt (position_or_len is_equals_sign text) (length text)) (position_or_len is_equals_sign text) place (sym h) in
+    (any_passes is_equals_sign text ∙ f.0, f.1)

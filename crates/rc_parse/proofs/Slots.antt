@@ -32,7 +32,7 @@ same_name x y e = (bytes_eq-Decides x y).0 e
 name_itself : (x : List ℕ) → bytes_eq x x ≡ true
 name_itself x = (bytes_eq-Decides x x).1 refl
 
-names_swapped : (x y : List ℕ) → bytes_eq x y ≡ bytes_eq y x
+pub names_swapped : (x y : List ℕ) → bytes_eq x y ≡ bytes_eq y x
 names_swapped x y =
     both_ways (bytes_eq x y) (bytes_eq y x) (λ e. (bytes_eq-Decides y x).1 (sym (same_name x y e))) (λ e. (bytes_eq-Decides x y).1 (sym (same_name y x e)))
 

@@ -5,3 +5,4 @@ pub mod Parts
 pub mod Settings
 pub mod Names
 pub mod Merging
+pub mod Skimming

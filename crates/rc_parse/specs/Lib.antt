@@ -9,4 +9,6 @@ pub mod Sections
 pub mod Files
 pub mod Places
 pub mod Kept
+pub mod Skims
+pub mod Names
 pub mod Code

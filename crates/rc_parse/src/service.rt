@@ -31,7 +31,7 @@ fn is_service_name(name: &[u8]) -> bool
 }
 
 /// Whether these are the words behind `service` in a header of a good form.
-fn is_service_header(words: &[Text]) -> bool
+pub fn is_service_header(words: &[Text]) -> bool
     ensures { result ≡ is_service_header_lem words.now }
 {
     words.len() >= 2 && is_service_name(words[0].bytes()) && !words[1].is_empty()

@@ -1,19 +1,22 @@
 //! The options of a service.
 
-ghost use Rattle.std.specs.Prelude.{◌≡◌, ◌*◌};
+ghost use Rattle.std.specs.Prelude.{◌≡◌, ◌*◌, ℕ, List as Items};
+ghost use Rattle.rc_parse.specs.Code.Skimming.{onrestart_word as onrestart_word_lem, overriding};
 ghost use Rattle.rc_parse.specs.Options.{is_waiting_word as is_waiting_word_lem, onrestart_of, option_word as option_word_lem, row_of, seconds_of, setting_of, word_with as word_with_lem};
 ghost use Rattle.rc_parse.specs.Readings.{IsReading};
 ghost use Rattle.rc_parse.specs.Values.{millis as millis_lem};
 
-use crate::command::command;
+use crate::command::{command_with, command_word};
 use crate::critical::critical;
 use crate::fault::Fault;
 use crate::number::number_from;
 use crate::option_word::OptionWord;
+use crate::spans::{first_of, second_of};
 use crate::table::OPTIONS;
 use crate::words::{arguments, first_word, shared};
 use init_base::{List, Millis, Text};
 use init_machine::{Arity, Command, Critical, DiagKind, Word};
+use rc_tokens::SpanLine;
 use std::alloc::Global;
 
 /// What an option sets.
@@ -71,14 +74,23 @@ fn is_waiting_word(text: &[u8]) -> bool
     WAITING.iter().any(|word| text == word.name())
 }
 
+/// The word of the command behind `onrestart`, with so many arguments.
+fn onrestart_word(text: &[u8], count: usize) -> Result<Word, Fault>
+    ensures { IsReading result (onrestart_word_lem text.now count) }
+{
+    if is_waiting_word(text) {
+        return Err(Fault::Bad(DiagKind::BadOption));
+    }
+    command_word(text, count)
+}
+
 /// The command behind `onrestart`.
 fn onrestart(alloc: Global, file: &Text, line: u32, words: &[Text]) -> Result<Command, Fault>
     ensures { IsReading result (onrestart_of file.now line words.now) }
 {
-    if is_waiting_word(first_word(words)) {
-        return Err(Fault::Bad(DiagKind::BadOption));
-    }
-    command(alloc, file, line, words)
+    let args = arguments(words);
+    let word = onrestart_word(first_word(words), args.len())?;
+    Ok(command_with(alloc, file, line, word, args)?)
 }
 
 fn millis(seconds: u32) -> Millis
@@ -116,4 +128,29 @@ pub fn read_setting(alloc: Global, file: &Text, line: u32, words: &[Text]) -> Re
         OptionWord::TimeoutPeriod => Ok(Setting::Timeout(seconds(1, first_word(args))?)),
         OptionWord::Inert(_) => Ok(Setting::Kept(shared(alloc, words)?)),
     }
+}
+
+/// Whether the option of a line is `override`. What it sets isn't kept.
+#[tactic(auto, using(crate::proofs::Firsts::args_count, crate::proofs::Firsts::args_args_count))]
+pub fn judge_setting(alloc: Global, line: &SpanLine<'_>) -> Result<bool, Fault>
+    ensures { (file : Items ℕ) (number : ℕ) → IsReading result (overriding (setting_of file number line.now.words)) }
+{
+    match option_word(first_of(line), line.len().saturating_sub(1))? {
+        OptionWord::Override => return Ok(true),
+        OptionWord::Critical => {
+            let words = line.texts(alloc)?;
+            critical(alloc, arguments(words.items()))?;
+        }
+        OptionWord::Onrestart => {
+            onrestart_word(second_of(line), line.len().saturating_sub(2))?;
+        }
+        OptionWord::RestartPeriod => {
+            seconds(0, second_of(line))?;
+        }
+        OptionWord::TimeoutPeriod => {
+            seconds(1, second_of(line))?;
+        }
+        _ => {}
+    }
+    Ok(false)
 }

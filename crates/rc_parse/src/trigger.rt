@@ -4,7 +4,7 @@ ghost use Rattle.std.specs.Prelude.{◌≡◌, false, IfOk, MatchOption, map};
 ghost use Rattle.std.specs.List.{list_any, position};
 ghost use Rattle.std.specs.Option.{option_copied};
 ghost use Rattle.rc_parse.specs.Code.Joining.{Parts, behind_joiner as behind_joiner_lem, joined_of, with_trigger};
-ghost use Rattle.rc_parse.specs.Readings.{IsReading};
+ghost use Rattle.rc_parse.specs.Readings.{IsReading, is_bad};
 ghost use Rattle.rc_parse.specs.Triggers.{has_twice, is_equals_sign, test_of, tested_value as tested_value_lem, trigger_of, triggers_of};
 
 use crate::fault::Fault;
@@ -86,6 +86,27 @@ fn read_trigger(word: &Text) -> Result<Trigger, Fault>
         return Err(Fault::Bad(DiagKind::BadTrigger));
     }
     Ok(Trigger::Event(word.share()?))
+}
+
+/// Whether `NAME=VALUE` is out of form.
+fn is_bad_test(text: &[u8]) -> bool
+    ensures { result ≡ is_bad (test_of text.now) }
+{
+    match equals_sign(text) {
+        Some(place) => !is_legal_name(&text[..place]),
+        None => true,
+    }
+}
+
+/// Whether a trigger is out of form. No value is made of it.
+#[tactic(auto, using(crate::proofs::Firsts::prefix_fits))]
+pub fn is_bad_trigger(word: &[u8]) -> bool
+    ensures { result ≡ is_bad (trigger_of word.now) }
+{
+    if word.starts_with(ON_PROPERTY) {
+        return is_bad_test(&word[ON_PROPERTY.len()..]);
+    }
+    word.is_empty()
 }
 
 impl Triggers {

@@ -1,6 +1,7 @@
 //! Words, and what a line is by its first one.
 
-ghost use Rattle.std.specs.Prelude.{◌≡◌, ◌≤◌, IfOk, drop, length};
+ghost use Rattle.std.specs.Prelude.{◌≡◌, ◌≤◌, ◌||◌, IfOk, codes, drop, length};
+ghost use Rattle.std.specs.Str.{bytes_eq};
 ghost use Rattle.init_base.specs.Name.{is_legal_name as is_legal_name_lem};
 ghost use Rattle.rc_parse.specs.Lines.{arguments as arguments_lem, first_word as first_word_lem, is_header as is_header_lem, is_on as is_on_lem, is_service as is_service_lem};
 
@@ -32,22 +33,37 @@ pub fn arguments(words: &[Text]) -> &[Text]
 pub fn is_on(line: &Line<'_>) -> bool
     ensures { result ≡ is_on_lem line.now }
 {
-    first_word(line.words()) == b"on".as_slice()
+    is_text(first_word(line.words()), b"on")
 }
 
 /// Whether a line begins a service.
 pub fn is_service(line: &Line<'_>) -> bool
     ensures { result ≡ is_service_lem line.now }
 {
-    first_word(line.words()) == b"service".as_slice()
+    is_text(first_word(line.words()), b"service")
+}
+
+/// Whether a word has this text. Most differ by their length.
+#[inline]
+#[tactic(auto, using(crate::proofs::Firsts::other_length))]
+pub fn is_text(word: &[u8], text: &[u8]) -> bool
+    ensures { result ≡ bytes_eq word.now text.now }
+{
+    word.len() == text.len() && word == text
+}
+
+/// Whether a line that begins with this word begins a section.
+pub fn is_header_word(word: &[u8]) -> bool
+    ensures { result ≡ (bytes_eq word.now (codes "on") || bytes_eq word.now (codes "service") || bytes_eq word.now (codes "import")) }
+{
+    is_text(word, b"on") || is_text(word, b"service") || is_text(word, b"import")
 }
 
 /// Whether a line begins a section.
 pub fn is_header(line: &Line<'_>) -> bool
     ensures { result ≡ is_header_lem line.now }
 {
-    let word = first_word(line.words());
-    word == b"on".as_slice() || word == b"service".as_slice() || word == b"import".as_slice()
+    is_header_word(first_word(line.words()))
 }
 
 /// Whether a text is the name of a property.

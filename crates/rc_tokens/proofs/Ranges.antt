@@ -156,3 +156,11 @@ pub words_of_part : (bytes : List ℕ) (ranges : List Range) (range : Range) →
 words_of_part bytes ranges range =
     sym (take-map (λ r. part bytes r) (range.to - range.from) (drop range.from ranges))
     ∙ ap (take (range.to - range.from)) (sym (drop-map (λ r. part bytes r) range.from ranges))
+
+-- the first line, by the ranges of its words
+pub first_line : (bytes : List ℕ) (words : List Range) (marks behind : List Mark) (mark : Mark) (whole : List Line)
+    → lines_at (words_at bytes words) marks ≡ whole → marks ≡ mark ∷ behind
+    → whole ≡ record { number = mark.number; words = words_at bytes (part words mark.words) } ∷ lines_at (words_at bytes words) behind
+first_line bytes words marks behind mark whole is front =
+    sym is ∙ ap (lines_at (words_at bytes words)) front
+    ∙ ap (λ (own : List (List ℕ)). record { number = mark.number; words = own } ∷ lines_at (words_at bytes words) behind) (sym (words_of_part bytes words mark.words))

@@ -6,6 +6,7 @@ ghost use Rattle.rc_tokens.specs.Lines.{Line, Ascend, Lines, numbers};
 ghost use Rattle.rc_tokens.specs.Code.Steps as steps;
 
 use crate::reader::Reader;
+use crate::span::SpanTokens;
 use crate::tokens::{TokenRefusal, Tokens};
 use init_base::NoMemory;
 use std::alloc::Global;
@@ -14,8 +15,21 @@ use std::alloc::Global;
 const MOST_BYTES: usize = 1_048_576;
 
 /// The lines that the bytes of a file spell. `TooLarge` comes exactly past 1,048,576 bytes.
-#[tactic(auto, using(crate::proofs::Answer::outcome_spelled))]
 pub fn lines(alloc: Global, bytes: &[u8]) -> Result<Tokens, TokenRefusal>
+    // What is answered is what the text spells.
+    ensures spelled { IfOk result (λ tokens. Lines bytes.now tokens.lines tokens.dropped) }
+    // What the text spells is answered, unless memory runs out.
+    ensures only { IfOk result (λ tokens. (lines : Items Line) (dropped : Option ℕ) →
+        Lines bytes.now lines dropped → (tokens.lines ≡ lines) × (tokens.dropped ≡ dropped)) }
+    ensures too_large { (result ≡ Err TokenRefusal.TooLarge) ↔ (1048576 < length bytes.now) }
+{
+    let spans = span_lines(alloc, bytes)?;
+    Ok(spans.into_tokens(alloc)?)
+}
+
+/// The same lines, whose words are ranges of one buffer.
+#[tactic(auto, using(crate::proofs::Answer::outcome_spelled))]
+pub fn span_lines(alloc: Global, bytes: &[u8]) -> Result<SpanTokens, TokenRefusal>
     // What is answered is what the text spells.
     ensures spelled { IfOk result (λ tokens. Lines bytes.now tokens.lines tokens.dropped) }
     // What the text spells is answered, unless memory runs out.
@@ -45,7 +59,7 @@ pub fn lines_ascend()
     ensures { (bytes : Items ℕ) (lines : Items Line) (dropped : Option ℕ) → Lines bytes lines dropped → Ascend (numbers lines dropped) }
 {}
 
-fn read(alloc: Global, bytes: &[u8]) -> Result<Tokens, NoMemory>
+fn read(alloc: Global, bytes: &[u8]) -> Result<SpanTokens, NoMemory>
     requires { length bytes.now ≤ 1048576 }
     ensures { IfOk result (λ tokens. tokens ≡ steps.finished (steps.run steps.start bytes.now)) }
 {
@@ -54,5 +68,5 @@ fn read(alloc: Global, bytes: &[u8]) -> Result<Tokens, NoMemory>
     while !rest.is_empty() {
         rest = reader.take_next(rest)?;
     }
-    reader.finish(alloc)
+    reader.finish()
 }

@@ -6,8 +6,8 @@ ghost use Rattle.rc_tokens.specs.Grammar.{escaped as escaped_lem};
 ghost use Rattle.rc_tokens.specs.Code.Steps as steps;
 
 use crate::run::{blanks, is_blank, is_space, is_token_next, line_feeds, run_len};
+use crate::span::SpanTokens;
 use crate::spelled::Spelled;
-use crate::tokens::Tokens;
 use init_base::NoMemory;
 use std::alloc::Global;
 
@@ -269,12 +269,12 @@ impl Reader {
     }
 
     /// What was read, at the end of the file.
-    pub fn finish(mut self, alloc: Global) -> Result<Tokens, NoMemory>
+    pub fn finish(mut self) -> Result<SpanTokens, NoMemory>
         ensures { IfOk result (λ tokens. tokens ≡ steps.finished self) }
     {
         let dropped = self.dropped();
         self.close()?;
-        self.spelled.into_tokens(alloc, dropped)
+        self.spelled.into_tokens(dropped)
     }
 
     /// The number of the present line, if it is left out.

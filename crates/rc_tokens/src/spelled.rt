@@ -5,7 +5,7 @@ ghost use Rattle.std.specs.List.{list_all};
 ghost use Rattle.rc_tokens.specs.Code.Ranges.{is_within, words_at};
 
 use crate::range::{Mark, Range, place};
-use crate::tokens::Tokens;
+use crate::span::SpanTokens;
 use init_base::{List, NoMemory, Text};
 use std::alloc::Global;
 use std::marker::Model;
@@ -105,23 +105,10 @@ impl Spelled {
     }
 
     /// The lines that have ended, and the number of one that is left out.
-    pub fn into_tokens(self, alloc: Global, dropped: Option<u32>) -> Result<Tokens, NoMemory>
+    pub fn into_tokens(self, dropped: Option<u32>) -> Result<SpanTokens, NoMemory>
         ensures { IfOk result (λ tokens. tokens ≡ record { lines = self.lines; dropped = dropped }) }
     {
         let buffer = Text::from_vec(self.bytes)?;
-        let words = words_of(alloc, &buffer, self.words.items())?;
-        Ok(Tokens::of(words, self.lines, dropped))
+        Ok(SpanTokens::of(buffer, self.words, self.lines, dropped))
     }
-}
-
-/// The words of these ranges of the buffer.
-fn words_of(alloc: Global, buffer: &Text, ranges: &[Range]) -> Result<List<Text>, NoMemory>
-    requires { IsTrue (list_all (is_within (length buffer.now)) ranges.now) }
-    ensures { IfOk result (λ words. words ≡ words_at buffer.now ranges.now) }
-{
-    let mut words = List::with_capacity(alloc, ranges.len())?;
-    for range in ranges {
-        words.push(buffer.slice(range.from as usize, range.to as usize)?)?;
-    }
-    Ok(words)
 }

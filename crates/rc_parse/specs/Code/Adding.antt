@@ -1,12 +1,11 @@
 -- What the code adds, section by section. The proof leads from it to `Sections`.
-use Rattle.std.specs.Prelude.{ℕ, ◌==◌, if◌then◌else◌, List, [], ◌∷◌, ◌++◌, length, drop}
+use Rattle.std.specs.Prelude.{ℕ, List, ◌++◌, drop}
 use Rattle.std.specs.List.{flat_map, position_or_len}
-use Rattle.init_machine.specs.declared.diagnostic.DiagKind.TheVariants.{BadImport}
 use Rattle.init_machine.specs.declared.diagnostic.Diagnostic.{Diagnostic}
 use Rattle.rc_tokens.specs.Lines.{Line}
 use Rattle.rc_parse.specs.Lines.{Section, is_header}
-use Rattle.rc_parse.specs.Readings.{diagnosed, diagnostic}
-use Rattle.rc_parse.specs.Sections.{command_at, setting_at, commands_of, if_has_commands, actions_of, services_of, import_with, imports_of, diagnostics_of}
+use Rattle.rc_parse.specs.Readings.{diagnosed}
+use Rattle.rc_parse.specs.Sections.{command_at, setting_at, commands_of, if_has_commands, actions_of, services_of, imports_of, diagnostics_of}
 use Rattle.rc_parse.specs.declared.parsed.Parsed.{Parsed}
 use Rattle.rc_parse.specs.declared.trigger.Triggers.{Triggers}
 
@@ -51,11 +50,4 @@ abbrev pub with_action : List ℕ → Parsed → ℕ → Triggers → List Line 
 with_action file parsed number triggers lines = record parsed {
   actions = parsed.actions ++ if_has_commands (record { file = file; line = number; event = triggers.event; props = triggers.props; commands = commands_of file lines });
   diagnostics = parsed.diagnostics ++ command_diagnostics file lines;
-}
-
--- with the import that these words behind `import` are
-abbrev pub with_import : List ℕ → Parsed → ℕ → List (List ℕ) → Parsed
-with_import file parsed line words = record parsed {
-  imports = parsed.imports ++ import_with line words;
-  diagnostics = parsed.diagnostics ++ (if length words == 1 then [] else diagnostic file line BadImport ∷ []);
 }

@@ -44,3 +44,8 @@ pub record AreWithin (bytes : List ℕ) (token_from : ℕ) (words : List Range) 
   pub token_within : token_from ≤ length bytes
   pub lines_within : IsTrue (are_among (length words) lines)
   pub line_within : line_from ≤ length words
+
+-- words are ranges of a buffer, and lines of the words
+pub record AreSpans (bytes : List ℕ) (words : List Range) (lines : List Mark) : Type 0 where
+  pub words_within : IsTrue (list_all (is_within (length bytes)) words)
+  pub lines_within : IsTrue (are_among (length words) lines)

@@ -19,10 +19,10 @@ returns-in_err-loading-clause-order g c =
     let dir : c.in_ok-dir.dir ≡ get_or directories at [] = c.in_ok-dir.ensures ∙ rw item_now refl in
     let p = err_from_is_err_and c.from_residual-in_err-loading.result c.from_residual-in_err-loading.ensures.1 in
     rw (p.1, p.2)
-    (list_off (g.F.Files.tree c.args.files.now) tree (value_in (g.S.PropStore.meaning c.args.props.now)) look_up c.args.loading c.loop-dir.loading refusal
+    (list_off g.G.Gathers.holds (g.F.Files.tree c.args.files.now) tree (value_in (g.S.PropStore.meaning c.args.props.now)) look_up c.args.loading c.loop-dir.loading refusal
     (λ world. flat_map (in_directory world) directories) in_directory (drop at directories) (drop (at + 1) directories) (get_or directories at [])
     i.tree (ap value_in i.store.same) (dir_parted at (search rules)) i.order
-    (subst (λ path. Follows tree look_up c.loop-dir.loading (Err refusal) (λ world. in_directory world path)) dir c.in_err-loading.ensures.order))
+    (subst (λ path. Follows g.G.Gathers.holds tree look_up c.loop-dir.loading (Err refusal) (λ world. in_directory world path)) dir c.in_err-loading.ensures.order))
 
 pub loop-dir-preserved : goal.loop-dir-preserved
 loop-dir-preserved g c =
@@ -34,10 +34,10 @@ loop-dir-preserved g c =
     let dir : c.in_ok-dir.dir ≡ get_or directories at [] = c.in_ok-dir.ensures ∙ rw item_now refl in
     record {
       items = i.items;
-      order = list_on (g.F.Files.tree c.args.files.now) tree (value_in (g.S.PropStore.meaning c.args.props.now)) look_up c.args.loading c.loop-dir.loading c.in_ok-loading.loading
+      order = list_on g.G.Gathers.holds (g.F.Files.tree c.args.files.now) tree (value_in (g.S.PropStore.meaning c.args.props.now)) look_up c.args.loading c.loop-dir.loading c.in_ok-loading.loading
           (λ world. flat_map (in_directory world) directories) in_directory (drop at directories) (drop (at + 1) directories) (get_or directories at [])
           i.tree (ap value_in i.store.same) (dir_parted at (search rules)) i.order
-          (subst (λ path. Follows tree look_up c.loop-dir.loading (Ok c.in_ok-loading.loading) (λ world. in_directory world path)) dir e.order);
+          (subst (λ path. Follows g.G.Gathers.holds tree look_up c.loop-dir.loading (Ok c.in_ok-loading.loading) (λ world. in_directory world path)) dir e.order);
       tree = e.tree ∙ i.tree;
       count = e.cause ∙ i.count;
       store = kept_on _ _ _ _ g.met.S.PropStore.transitive _ _ _ i.store e.store;
@@ -46,5 +46,5 @@ loop-dir-preserved g c =
 pub returns-clause-order : goal.returns-clause-order
 returns-clause-order g c =
     let at = c.loop-dir.dir-index in
-    list_done (g.F.Files.tree c.args.files.now) (value_in (g.S.PropStore.meaning c.args.props.now)) c.args.loading c.loop-dir.loading
+    list_done g.G.Gathers.holds (g.F.Files.tree c.args.files.now) (value_in (g.S.PropStore.meaning c.args.props.now)) c.args.loading c.loop-dir.loading
     (λ world. flat_map (in_directory world) directories) in_directory (drop at directories) (dirs_over at (search rules)) c.loop-dir.invariant.order

@@ -11,7 +11,7 @@ abbrev pub invariant-loop-dir : goal.invariant-loop-dir
 invariant-loop-dir g l = record {
   items : map (λ dir. dir.now) l.dir-items ≡ directories;
   order :
-      Continues (g.F.Files.tree l.fn.files) (value_in (g.S.PropStore.meaning l.fn.props)) l.fn.loading
+      Continues g.G.Gathers.holds (g.F.Files.tree l.fn.files) (value_in (g.S.PropStore.meaning l.fn.props)) l.fn.loading
       (λ world. flat_map (in_directory world) directories)
       l.loading
       (λ world. flat_map (in_directory world) (drop l.dir-index directories));

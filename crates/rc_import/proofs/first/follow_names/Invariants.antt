@@ -13,7 +13,7 @@ invariant-loop-name g l = record {
   next : (goal.iterator-loop-name g).can_next l.name-iterator;
   finite : (goal.iterator-loop-name g).is_finite l.name-iterator;
   order :
-      Continues (g.F.Files.tree l.fn.files) (value_in (g.S.PropStore.meaning l.fn.props)) l.fn.loading
+      Continues g.G.Gathers.holds (g.F.Files.tree l.fn.files) (value_in (g.S.PropStore.meaning l.fn.props)) l.fn.loading
       (λ world. flat_map (λ name. at_first world (file_in l.dir name)) l.fn.names)
       l.loading
       (λ world. flat_map (λ name. at_first world (file_in l.dir name)) l.name-iterator.rest.items);

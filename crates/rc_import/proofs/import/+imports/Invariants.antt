@@ -31,7 +31,7 @@ invariant-follow_imports-loop-import g l = record {
   next : (goal.iterator-follow_imports-loop-import g).can_next l.import-iterator;
   finite : (goal.iterator-follow_imports-loop-import g).is_finite l.import-iterator;
   order :
-      Continues (g.F.Files.tree l.fn.files) (value_in (g.S.PropStore.meaning l.fn.props)) l.fn.loading
+      Continues g.G.Gathers.holds (g.F.Files.tree l.fn.files) (value_in (g.S.PropStore.meaning l.fn.props)) l.fn.loading
       (λ world. flat_map (at_import world l.place.file (at_target world l.place.left l.place.trail l.place.file)) l.fn.imports)
       l.loading
       (λ world. flat_map (at_import world l.place.file (at_target world l.place.left l.place.trail l.place.file)) l.import-iterator.rest.items);
@@ -45,7 +45,7 @@ invariant-follow_names-loop-name g l = record {
   next : (goal.iterator-follow_names-loop-name g).can_next l.name-iterator;
   finite : (goal.iterator-follow_names-loop-name g).is_finite l.name-iterator;
   order :
-      Continues (g.F.Files.tree l.fn.files) (value_in (g.S.PropStore.meaning l.fn.props)) l.fn.loading
+      Continues g.G.Gathers.holds (g.F.Files.tree l.fn.files) (value_in (g.S.PropStore.meaning l.fn.props)) l.fn.loading
       (λ world. flat_map (λ name. at_target world l.place.left l.place.trail l.place.file l.line (file_in l.dir name)) l.fn.names)
       l.loading
       (λ world. flat_map (λ name. at_target world l.place.left l.place.trail l.place.file l.line (file_in l.dir name)) l.name-iterator.rest.items);

@@ -1,4 +1,5 @@
-use Rattle.std.proofs.Common.{refl, sym, ap, ◌∙◌}
+use Rattle.std.proofs.Common.{List, refl, sym, ap, ◌∙◌}
+use Rattle.init_machine.specs.declared.diagnostic.Diagnostic.{Diagnostic}
 use Rattle.rc_parse.specs.Code.Adding.{from_header}
 use Rattle.rc_parse.proofs.Headers.{headed}
 use Rattle.rc_parse.proofs.SectionList.{section_added, none_left, parsed_have}
@@ -22,10 +23,15 @@ loop-header-preserved c = record {
 
 pub returns-clause-sections : goal.returns-clause-sections
 returns-clause-sections c =
-    none_left c.args.file.now c.args.tokens.now c.new-parsed.result c.add_orphans.new.parsed c.loop-header.parsed c.add_cut.new.parsed
+    let first = c.new-parsed.result in
+    let parsed = c.loop-header.parsed in
+    none_left c.args.file.now c.args.tokens.now first (record first { diagnostics = c.add_orphans.new.diagnostics }) parsed
+    (record parsed { diagnostics = c.add_cut.new.diagnostics })
     c.lines-lines.result c.take_section.result c.take_section.new.lines c.loop-header.lines c.dropped.result
-    c.new-parsed.ensures c.lines-lines.ensures c.take_section.ensures.section c.in_ok-add_orphans.ensures c.take_section.ensures.rest
-    c.loop-header.invariant.left_decides c.in_default.ensures.0 c.dropped.ensures c.in_ok-add_cut.ensures
+    c.new-parsed.ensures c.lines-lines.ensures c.take_section.ensures.section
+    (ap (λ (d : List Diagnostic). record first { diagnostics = d }) c.in_ok-add_orphans.ensures) c.take_section.ensures.rest
+    c.loop-header.invariant.left_decides c.in_default.ensures.0 c.dropped.ensures
+    (ap (λ (d : List Diagnostic). record parsed { diagnostics = d }) c.in_ok-add_cut.ensures)
 
 pub returns-clause-commands : goal.returns-clause-commands
-returns-clause-commands c = parsed_have c.args.file.now c.args.tokens.now c.add_cut.new.parsed (returns-clause-sections c)
+returns-clause-commands c = parsed_have c.args.file.now c.args.tokens.now (record c.loop-header.parsed { diagnostics = c.add_cut.new.diagnostics }) (returns-clause-sections c)

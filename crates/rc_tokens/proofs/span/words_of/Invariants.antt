@@ -1,7 +1,7 @@
 use Rattle.std.proofs.Common.{◌≡◌, ◌++◌, IsTrue, length, drop}
 use Rattle.std.specs.List.{list_all}
 use Rattle.rc_tokens.specs.Code.Ranges.{is_within, words_at}
-use Rattle.rc_tokens.proofs.spelled.words_of.Given as goal
+use Rattle.rc_tokens.proofs.span.words_of.Given as goal
 
 -- what is left decides
 abbrev pub invariant-loop-range : goal.invariant-loop-range
