@@ -1,6 +1,6 @@
 -- The promise of the top call, form by form.
-use Rattle.std.proofs.Common.{◌≡◌, ◌↔◌, ℕ, ⊤, Option, Some, None, refl, sym, subst, inl}
-use Rattle.std.specs.Prelude.{IfSome}
+use Rattle.std.proofs.Common.{◌≡◌, ◌↔◌, ℕ, Option, Some, None, refl, sym, subst, inl}
+use Rattle.std.specs.Prelude.{⊤, IfSome}
 use Rattle.init_words.specs.declared.form.Form.{Form}
 use Rattle.init_words.specs.declared.form.Form.TheVariants.{Run, Race, Check, Audit, Soak}
 use Rattle.property_area.specs.Seats.{Seated}

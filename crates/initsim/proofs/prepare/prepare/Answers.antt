@@ -1,8 +1,9 @@
 use Rattle.std.specs.Prelude.{IfErr}
+use Rattle.init_driver.specs.Keeper.{seen_by}
 use Rattle.initsim.specs.Counts.{counts_of}
 use Rattle.initsim.specs.Endings.{IsRunStatus}
 use Rattle.initsim.specs.Stops.{status_of}
-use Rattle.initsim.specs.Prepared.{ArePrepared, GivesSaved, GivesSetup, ScriptOfJob}
+use Rattle.initsim.specs.Prepared.{ArePrepared, GivesSaved, GivesSetup, IsAsked, ScriptOfJob}
 use Rattle.init_words.specs.declared.form.Form.TheVariants.{Run}
 use Rattle.initsim.proofs.Prepared.{setup_of_job, store_stop_counts, tree_fits}
 use Rattle.initsim.proofs.Says.{err_is, if_told, script_stop_of_run, store_stop_of_run, store_stop_script, store_stop_tree, told, tree_stop_of_run}
@@ -34,6 +35,11 @@ returns-in_err-saved-clause-counts g c = λ trace out.
     (counts_of (g.F.Files.fault_count c.read_tree.new.files) (g.S.Source.fault_count c.read_script.new.source) trace (g.P.Keeper.fault_count c.read_store.new.keeper) out))
     _ _ c.from_residual-in_err-saved.ensures
     (store_stop_counts c.in_err-saved.field-0.0 _ _ _ _ trace _ _ out c.in_ok-parts.ensures.cause c.in_ok-script.ensures.cause c.in_err-saved.ensures.cause)
+
+pub returns-in_err-saved-clause-asked : goal.returns-in_err-saved-clause-asked
+returns-in_err-saved-clause-asked g c =
+    let seen = seen_by g.P.Keeper.held g.P.Keeper.TellsCrash g.P.Keeper.moment g.P.Keeper.MayLeave in
+    err_is (λ r. IsAsked r (seen c.args.keeper.now) (seen c.read_store.new.keeper)) _ _ c.from_residual-in_err-saved.ensures c.in_err-saved.ensures.asked
 
 pub returns-in_err-script-clause-kind : goal.returns-in_err-script-clause-kind
 returns-in_err-script-clause-kind g c =
