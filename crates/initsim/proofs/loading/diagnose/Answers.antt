@@ -1,4 +1,4 @@
-use Rattle.std.proofs.Common.{◌∙◌}
+use Rattle.std.proofs.Common.{refl, ◌∙◌, rules}
 use Rattle.init_base.specs.Faults.{Counted}
 use Rattle.initsim.specs.Stops.{GivesDiagnostics, has_read_fault}
 use Rattle.initsim.specs.declared.stop.Stop.TheVariants.{NoMemory}
@@ -25,6 +25,6 @@ returns-in_err-append-clause-cause g c =
 pub returns-clause-diagnostics : goal.returns-clause-diagnostics
 returns-clause-diagnostics g c = λ world is.
     let files = told _ _ world.tree is.tree_is c.in_ok-pairs.ensures.props in
-    told_alone world c.in_ok-pairs.field-0 c.in_ok-found.found c.in_ok-pairs.diagnostics c.append.new.self files c.in_ok-pairs.diagnostics-is c.in_ok-append.ensures.ok
+    told_alone world c.in_ok-pairs.field-0 c.in_ok-found.found c.in_ok-pairs.field-0.diagnostics c.append.new.self files refl (search rules)
     (c.in_ok-found.ensures.diagnostics world
     (world_viewed _ _ _ _ world c.in_ok-pairs.ensures.tree c.in_ok-view.ensures files.pairs_are is))
