@@ -40,6 +40,14 @@ impl<S: PropStore> Core<S> {
         mem::replace(&mut self.parts.outputs, none)
     }
 
+    /// Gives back outputs that nobody needs any more: those of the next input take their memory.
+    pub fn reuse(&mut self, mut outputs: List<Output>)
+        ensures { self.new ≡ record self.old { outputs = [] } }
+    {
+        outputs.truncate(0);
+        self.parts.outputs = outputs;
+    }
+
     /// What lasts when the core ends. It takes no memory.
     pub fn into_ended(self) -> Ended<S>
         ensures saved { result.saved ≡ self.state.saved }

@@ -25,6 +25,7 @@ use property_service::{AreaName, Closed, Desk, FinishRefusal};
 use script_lang::Ask;
 use std::alloc::Global;
 use std::marker::Model;
+use std::mem;
 
 /// The machine. After a call that answers `NoMemory` each later one does.
 #[derive(Drop)]
@@ -128,7 +129,11 @@ impl<'a, N: AreaName> Machine<'a, N> {
         let reader = lend(&mut self.readers, place)?;
         let (reader, entry) = take_entry(&mut self.desk, reader, input)?;
         self.readers[place] = Some(reader);
-        self.last = entry;
+        let Entry {
+            input: _input,
+            outputs,
+        } = mem::replace(&mut self.last, entry);
+        self.desk.reuse(outputs);
         self.spent = false;
         Ok(())
     }

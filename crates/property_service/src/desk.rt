@@ -19,7 +19,7 @@ ghost use Rattle.property_service.specs.Service.{Agrees, MayAsk, has_seat, next_
 use crate::area_name::AreaName;
 use init_base::{ClientId, List, NoMemory};
 use init_core::{Core, CoreStop};
-use init_machine::{Config, Entry, Input, Pair};
+use init_machine::{Config, Entry, Input, Output, Pair};
 use prop_contexts::Policy;
 use property_area::{AreaWriter, Reader};
 use std::alloc::Global;
@@ -177,6 +177,13 @@ impl<'a, N: AreaName> Desk<'a, N> {
                 (None, Err(CoreStop::NoMemory))
             }
         }
+    }
+
+    /// Gives back the outputs of an entry that nobody needs any more: those of the next one take their memory.
+    pub fn reuse(&mut self, outputs: List<Output>)
+        ensures { self.new ≡ self.old }
+    {
+        self.core.reuse(outputs);
     }
 
     /// What holds of it, unless it is spent. It does nothing.
