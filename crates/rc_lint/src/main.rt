@@ -8,7 +8,6 @@ mod command_line;
 mod excuse;
 mod judge;
 mod law;
-mod lines;
 mod loading;
 mod message;
 mod not_modelled;

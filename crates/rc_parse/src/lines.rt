@@ -30,3 +30,11 @@ pub fn take_section<'a>(lines: &mut LineSlice<'a>) -> LineSlice<'a>
     let count = section_len(lines);
     lines.take_front(count)
 }
+
+/// The lines before the first header.
+pub fn before_header<'a>(lines: &LineSlice<'a>) -> LineSlice<'a>
+    ensures { result ≡ lines_before_header lines.now }
+{
+    let mut left = lines.again();
+    take_section(&mut left)
+}
