@@ -16,5 +16,7 @@ mod quote;
 mod words;
 
 pub use law::{text_determines_report, text_is_its_parts};
+pub use page::send;
 pub use printer::Printer;
 pub use printing::{print, print_diagnostics};
+pub use words::kind_name;

@@ -10,6 +10,7 @@ ghost use Rattle.initsim.specs.Verdict.{verdict_text, why_text};
 
 use crate::status::Status;
 use init_base::{IoRefusal, NoMemory, Sink};
+use init_trace::send;
 use std::alloc::Global;
 use trace_audit::{Verdict, Why};
 
@@ -75,18 +76,6 @@ fn put_fault(line: &mut Vec<u8>, why: Why, number: u64) -> Result<(), NoMemory>
     put(line, b" ")?;
     put_number(line, number)?;
     put(line, b"\n")
-}
-
-/// Writes all of the bytes.
-pub fn send<K: Sink>(alloc: Global, out: &mut K, bytes: &[u8]) -> Result<(), IoRefusal>
-    ensures written { Writes (K.taken out.old) (K.taken out.new) result bytes.now }
-    ensures cause { Counted (write_failed result) (K.fault_count out.old) (K.fault_count out.new) }
-{
-    let mut at = 0;
-    while at < bytes.len() {
-        at += out.write(alloc, &bytes[at..])?;
-    }
-    Ok(())
 }
 
 fn print_verdict<K: Sink>(alloc: Global, verdict: Verdict, out: &mut K) -> Result<(), IoRefusal>

@@ -7,10 +7,10 @@ ghost use Rattle.lint_page.specs.Sarif.{artifact_text, back_text, front_text, le
 
 use crate::json::put_text;
 use crate::style::Style;
-use crate::text::{put, put_number};
+use crate::text::put_number;
 use crate::uri::uri_of;
 use init_base::{NoMemory, Text};
-use lint_findings::{About, Finding, KINDS, Place, Severity, about_name};
+use lint_findings::{About, Finding, KINDS, Place, Severity, about_name, put};
 use std::alloc::Global;
 
 /// About how many bytes a finding has.

@@ -1,26 +1,11 @@
 //! Text that joins the end of a page.
 
-ghost use Rattle.std.specs.Prelude.{◌≡◌, ◌++◌, ◌∷◌, [], OnOk};
+ghost use Rattle.std.specs.Prelude.{◌≡◌, ◌++◌, OnOk};
 ghost use Rattle.std.specs.Fmt.{decimal};
 ghost use Rattle.lint_page.specs.Gcc.{shown as shown_lem, shown_byte as shown_byte_lem};
 
 use init_base::NoMemory;
-
-/// Adds bytes as they are.
-pub fn put(page: &mut Vec<u8>, bytes: &[u8]) -> Result<(), NoMemory>
-    ensures { OnOk result (page.new.items ≡ page.old.items ++ bytes.now) }
-{
-    page.extend_from_slice(bytes)?;
-    Ok(())
-}
-
-/// Adds one byte.
-fn put_byte(page: &mut Vec<u8>, byte: u8) -> Result<(), NoMemory>
-    ensures { OnOk result (page.new.items ≡ page.old.items ++ byte ∷ []) }
-{
-    page.push(byte)?;
-    Ok(())
-}
+use lint_findings::put_byte;
 
 /// Adds a number in decimal.
 #[tactic(auto, using(std::proofs::lemmas::Fmt::decimal_digit))]

@@ -14,7 +14,6 @@ mod not_modelled;
 mod note;
 mod quotes;
 mod request;
-mod sending;
 mod source;
 mod status;
 mod telling;
