@@ -21,6 +21,7 @@ mod script;
 mod statement;
 mod words;
 
+pub use fault::Fault;
 pub use gather::first_line;
 pub use generator::{Generated, generate};
 pub use laws::{

@@ -5,8 +5,7 @@ ghost use Rattle.script_lang.specs.Statements.{number_in, status_in};
 ghost use Rattle.trace_reader.specs.Reading.{IsBad, IsReading};
 ghost use Rattle.trace_reader.specs.Words.{large_in, small_in};
 
-use crate::fault::Fault;
-use script_lang::is_canonical;
+use script_lang::{Fault, is_canonical};
 
 /// The number of at most 64 bits that a word is.
 pub fn large(word: &[u8]) -> Result<u64, Fault>

@@ -4,8 +4,8 @@ ghost use Rattle.std.specs.Prelude.{◌≡◌, ◌^◌, ◌<◌, None, Some, IfO
 ghost use Rattle.refusal_causes.specs.Arguments.{act_arguments_of as act_arguments_of_lem, argument_cause as argument_cause_lem, arguments_of as arguments_of_lem, arguments_cause as arguments_cause_lem, legal_cause as legal_cause_lem, name_cause as name_cause_lem, number_cause as number_cause_lem, request_arguments_of as request_arguments_of_lem, text_cause as text_cause_lem};
 
 use super::cause::ScriptCause;
-use crate::names::is_legal;
 use init_base::{NoMemory, Text, unquoted};
+use persist_file::is_legal;
 use script_lang::decimal;
 use std::alloc::Global;
 
