@@ -32,5 +32,5 @@ pub use number::{decimal, is_canonical};
 pub use reader::read;
 pub use reading::{is_permitted, says_nothing};
 pub use refusal::ScriptRefusal;
-pub use script::{Act, Ask, Client, Script};
+pub use script::{Act, Ask, Client, Script, domains_of};
 pub use words::{all_words, first_word};
