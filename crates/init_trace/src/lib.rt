@@ -19,4 +19,5 @@ pub use law::{text_determines_report, text_is_its_parts};
 pub use page::send;
 pub use printer::Printer;
 pub use printing::{print, print_diagnostics};
+pub use quote::{digits, hex_byte, put, put_byte, quoted};
 pub use words::kind_name;

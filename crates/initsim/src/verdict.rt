@@ -1,7 +1,6 @@
 //! The text of a verdict, and its writing.
 
-ghost use Rattle.std.specs.Prelude.{◌≡◌, ℕ, ◌++◌, ◌∷◌, [], IfOk, OnOk};
-ghost use Rattle.std.specs.Fmt.{decimal};
+ghost use Rattle.std.specs.Prelude.{◌≡◌, ℕ, ◌++◌, IfOk, OnOk};
 ghost use Rattle.init_base.specs.Faults.{Counted, write_failed};
 ghost use Rattle.init_trace.specs.Written.{Writes};
 ghost use Rattle.initsim.specs.Counts.{AreCounted, counts_of};
@@ -10,7 +9,7 @@ ghost use Rattle.initsim.specs.Verdict.{verdict_text, why_text};
 
 use crate::status::Status;
 use init_base::{IoRefusal, NoMemory, Sink};
-use init_trace::send;
+use init_trace::{digits, put, send};
 use std::alloc::Global;
 use trace_audit::{Verdict, Why};
 
@@ -23,35 +22,6 @@ fn why_name(why: Why) -> &'static [u8]
         Why::Merge => b"Merge",
         Why::Legal => b"Legal",
         Why::Readings => b"Readings",
-    }
-}
-
-/// Adds bytes as they are.
-fn put(line: &mut Vec<u8>, bytes: &[u8]) -> Result<(), NoMemory>
-    ensures { OnOk result (line.new.items ≡ line.old.items ++ bytes.now) }
-{
-    line.extend_from_slice(bytes)?;
-    Ok(())
-}
-
-/// Adds one byte.
-fn put_byte(line: &mut Vec<u8>, byte: u8) -> Result<(), NoMemory>
-    ensures { OnOk result (line.new.items ≡ line.old.items ++ byte ∷ []) }
-{
-    line.push(byte)?;
-    Ok(())
-}
-
-/// Adds a number in decimal.
-#[tactic(auto, using(std::proofs::lemmas::Fmt::decimal_digit))]
-fn put_number(line: &mut Vec<u8>, number: u64) -> Result<(), NoMemory>
-    ensures { OnOk result (line.new.items ≡ line.old.items ++ decimal number) }
-{
-    if number < 10 {
-        put_byte(line, b'0' + number as u8)
-    } else {
-        put_number(line, number / 10)?;
-        put_byte(line, b'0' + (number % 10) as u8)
     }
 }
 
@@ -74,7 +44,7 @@ fn put_fault(line: &mut Vec<u8>, why: Why, number: u64) -> Result<(), NoMemory>
     put(line, b"no ")?;
     put(line, why_name(why))?;
     put(line, b" ")?;
-    put_number(line, number)?;
+    digits(line, number)?;
     put(line, b"\n")
 }
 

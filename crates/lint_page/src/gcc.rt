@@ -5,9 +5,10 @@ ghost use Rattle.std.specs.List.{flat_map};
 ghost use Rattle.lint_page.specs.Gcc.{finding_line as finding_line_lem, front_text, last_line as last_line_lem, message_text, other_text, place_text, report_text, severity_text};
 
 use crate::style::Style;
-use crate::text::{put_number, put_shown};
+use crate::text::put_shown;
 use init_base::{NoMemory, Text};
-use lint_findings::{Finding, Place, Severity, about_name, count_errors, count_warnings, put};
+use init_trace::{digits, put};
+use lint_findings::{Finding, Place, Severity, about_name, count_errors, count_warnings};
 use std::alloc::Global;
 
 /// About how many bytes a finding's line has.
@@ -31,7 +32,7 @@ fn put_place(page: &mut Vec<u8>, root: &Text, file: &Text, line: u32) -> Result<
     put_shown(page, root.bytes())?;
     put_shown(page, file.bytes())?;
     put(page, b":")?;
-    put_number(page, u64::from(line))
+    digits(page, u64::from(line))
 }
 
 /// Adds where a message leads to.
@@ -94,11 +95,11 @@ fn put_last(
 ) -> Result<(), NoMemory>
     ensures { OnOk result (page.new.items ≡ page.old.items ++ last_line_lem errors warnings files) }
 {
-    put_number(page, errors as u64)?;
+    digits(page, errors as u64)?;
     put(page, b" errors, ")?;
-    put_number(page, warnings as u64)?;
+    digits(page, warnings as u64)?;
     put(page, b" warnings in ")?;
-    put_number(page, files as u64)?;
+    digits(page, files as u64)?;
     put(page, b" files\n")
 }
 

@@ -7,10 +7,10 @@ ghost use Rattle.lint_page.specs.Sarif.{artifact_text, back_text, front_text, le
 
 use crate::json::put_text;
 use crate::style::Style;
-use crate::text::put_number;
 use crate::uri::uri_of;
 use init_base::{NoMemory, Text};
-use lint_findings::{About, Finding, KINDS, Place, Severity, about_name, put};
+use init_trace::{digits, put};
+use lint_findings::{About, Finding, KINDS, Place, Severity, about_name};
 use std::alloc::Global;
 
 /// About how many bytes a finding has.
@@ -63,7 +63,7 @@ fn put_region(page: &mut Vec<u8>, line: u32) -> Result<(), NoMemory>
     ensures { OnOk result (page.new.items ≡ page.old.items ++ region_text line) }
 {
     put(page, REGION)?;
-    put_number(page, u64::from(line))?;
+    digits(page, u64::from(line))?;
     put(page, b"}}}")
 }
 

@@ -1,24 +1,9 @@
 //! Text that joins the end of a page.
 
 ghost use Rattle.std.specs.Prelude.{◌≡◌, ◌++◌, OnOk};
-ghost use Rattle.std.specs.Fmt.{decimal};
 ghost use Rattle.lint_page.specs.Gcc.{shown as shown_lem, shown_byte as shown_byte_lem};
 
 use init_base::NoMemory;
-use lint_findings::put_byte;
-
-/// Adds a number in decimal.
-#[tactic(auto, using(std::proofs::lemmas::Fmt::decimal_digit))]
-pub fn put_number(page: &mut Vec<u8>, number: u64) -> Result<(), NoMemory>
-    ensures { OnOk result (page.new.items ≡ page.old.items ++ decimal number) }
-{
-    if number < 10 {
-        put_byte(page, b'0' + number as u8)
-    } else {
-        put_number(page, number / 10)?;
-        put_byte(page, b'0' + (number % 10) as u8)
-    }
-}
 
 fn shown_byte(byte: u8) -> u8
     ensures { result ≡ shown_byte_lem byte }
