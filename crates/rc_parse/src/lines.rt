@@ -6,7 +6,14 @@ ghost use Rattle.rc_parse.specs.Code.Adding.{from_header};
 ghost use Rattle.rc_parse.specs.Lines.{is_header as is_header_lem, lines_before_header};
 
 use crate::words::is_header;
-use rc_tokens::LineSlice;
+use rc_tokens::{Line, LineSlice};
+
+/// A section: its header, and the lines behind it up to the next one.
+#[derive(Drop)]
+pub struct Section<'a> {
+    pub header: Line<'a>,
+    pub body: LineSlice<'a>,
+}
 
 /// The number of lines before the first header.
 fn section_len(lines: &LineSlice<'_>) -> usize

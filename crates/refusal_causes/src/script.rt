@@ -15,7 +15,9 @@ use crate::lines::lines;
 use cause::ScriptCause;
 use init_base::{NoMemory, Text};
 use misfit::misfit_cause;
-use script_lang::{ScriptRefusal, all_words, each_text_has_one_reading, is_permitted, says_nothing};
+use script_lang::{
+    ScriptRefusal, all_words, each_text_has_one_reading, is_permitted, says_nothing,
+};
 use statement::statement_cause;
 use std::alloc::Global;
 
