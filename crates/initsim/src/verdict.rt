@@ -9,7 +9,7 @@ ghost use Rattle.initsim.specs.Verdict.{verdict_text, why_text};
 
 use crate::status::Status;
 use init_base::{IoRefusal, NoMemory, Sink};
-use init_trace::{digits, put, send};
+use init_trace::{put, put_number, send};
 use std::alloc::Global;
 use trace_audit::{Verdict, Why};
 
@@ -44,7 +44,7 @@ fn put_fault(line: &mut Vec<u8>, why: Why, number: u64) -> Result<(), NoMemory>
     put(line, b"no ")?;
     put(line, why_name(why))?;
     put(line, b" ")?;
-    digits(line, number)?;
+    put_number(line, number)?;
     put(line, b"\n")
 }
 

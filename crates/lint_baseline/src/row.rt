@@ -4,7 +4,7 @@ ghost use Rattle.std.specs.Prelude.{◌≡◌, IfOk};
 ghost use Rattle.lint_baseline.specs.Baseline.{row_of as row_of_lem};
 
 use init_base::NoMemory;
-use init_trace::{put, put_byte, quoted};
+use init_trace::{put, put_byte, put_quoted};
 use lint_findings::{Finding, about_name};
 use std::alloc::Global;
 
@@ -18,8 +18,8 @@ pub fn row_of(alloc: Global, finding: &Finding) -> Result<Vec<u8>, NoMemory>
     let mut row = Vec::with_capacity(alloc, BYTES_OF_ROW)?;
     put(&mut row, about_name(finding.about))?;
     put_byte(&mut row, b' ')?;
-    quoted(&mut row, finding.file.bytes())?;
+    put_quoted(&mut row, finding.file.bytes())?;
     put_byte(&mut row, b' ')?;
-    quoted(&mut row, finding.message.bytes())?;
+    put_quoted(&mut row, finding.message.bytes())?;
     Ok(row)
 }

@@ -7,7 +7,7 @@ ghost use Rattle.lint_page.specs.Gcc.{finding_line as finding_line_lem, front_te
 use crate::style::Style;
 use crate::text::put_shown;
 use init_base::{NoMemory, Text};
-use init_trace::{digits, put};
+use init_trace::{put, put_number};
 use lint_findings::{Finding, Place, Severity, about_name, count_errors, count_warnings};
 use std::alloc::Global;
 
@@ -32,7 +32,7 @@ fn put_place(page: &mut Vec<u8>, root: &Text, file: &Text, line: u32) -> Result<
     put_shown(page, root.bytes())?;
     put_shown(page, file.bytes())?;
     put(page, b":")?;
-    digits(page, u64::from(line))
+    put_number(page, u64::from(line))
 }
 
 /// Adds where a message leads to.
@@ -95,11 +95,11 @@ fn put_last(
 ) -> Result<(), NoMemory>
     ensures { OnOk result (page.new.items ≡ page.old.items ++ last_line_lem errors warnings files) }
 {
-    digits(page, errors as u64)?;
+    put_number(page, errors as u64)?;
     put(page, b" errors, ")?;
-    digits(page, warnings as u64)?;
+    put_number(page, warnings as u64)?;
     put(page, b" warnings in ")?;
-    digits(page, files as u64)?;
+    put_number(page, files as u64)?;
     put(page, b" files\n")
 }
 

@@ -7,7 +7,7 @@ ghost use Rattle.lint_page.specs.Json.{back_json, counts_json, finding_json, fro
 use crate::gcc::severity_name;
 use crate::style::Style;
 use init_base::{NoMemory, Text};
-use init_trace::{digits, put};
+use init_trace::{put, put_number};
 use lint_findings::{Finding, Place, about_name, count_errors, count_warnings};
 use serde_json::Value;
 use std::alloc::Global;
@@ -48,7 +48,7 @@ fn put_place(page: &mut Vec<u8>, root: &Text, file: &Text, line: u32) -> Result<
     put(page, b"\"file\":")?;
     put_path(page, root.bytes(), file.bytes())?;
     put(page, b",\"line\":")?;
-    digits(page, u64::from(line))
+    put_number(page, u64::from(line))
 }
 
 /// Adds where a message leads to.
@@ -135,11 +135,11 @@ fn put_counts(
     ensures { OnOk result (page.new.items ≡ page.old.items ++ counts_json errors warnings files) }
 {
     put(page, b"\"errors\":")?;
-    digits(page, errors as u64)?;
+    put_number(page, errors as u64)?;
     put(page, b",\"warnings\":")?;
-    digits(page, warnings as u64)?;
+    put_number(page, warnings as u64)?;
     put(page, b",\"files\":")?;
-    digits(page, files as u64)
+    put_number(page, files as u64)
 }
 
 /// The page of a report on so many files.

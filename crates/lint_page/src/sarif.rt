@@ -9,7 +9,7 @@ use crate::json::put_text;
 use crate::style::Style;
 use crate::uri::uri_of;
 use init_base::{NoMemory, Text};
-use init_trace::{digits, put};
+use init_trace::{put, put_number};
 use lint_findings::{About, Finding, KINDS, Place, Severity, about_name};
 use std::alloc::Global;
 
@@ -63,7 +63,7 @@ fn put_region(page: &mut Vec<u8>, line: u32) -> Result<(), NoMemory>
     ensures { OnOk result (page.new.items ≡ page.old.items ++ region_text line) }
 {
     put(page, REGION)?;
-    digits(page, u64::from(line))?;
+    put_number(page, u64::from(line))?;
     put(page, b"}}}")
 }
 

@@ -5,7 +5,7 @@ ghost use Rattle.std.specs.List.{flat_map};
 ghost use Rattle.lint_page.specs.Uri.{is_plain as is_plain_lem, uri_byte, uri_of as uri_of_lem, without_slash as without_slash_lem};
 
 use init_base::NoMemory;
-use init_trace::{hex_byte, put_byte};
+use init_trace::{put_byte, put_hex_byte};
 use std::alloc::Global;
 
 /// Whether a byte of a path stands for itself: what RFC 3986 leaves unreserved, and the slash.
@@ -22,7 +22,7 @@ fn put_path_byte(uri: &mut Vec<u8>, byte: u8) -> Result<(), NoMemory>
         put_byte(uri, byte)
     } else {
         put_byte(uri, b'%')?;
-        hex_byte(uri, byte, true)
+        put_hex_byte(uri, byte, true)
     }
 }
 

@@ -10,7 +10,9 @@ ghost use Rattle.rc_lint.specs.Excused.{all_taken_elsewhere, are_good_as_equal a
 
 use crate::not_modelled::{is_command_not_modelled, is_option_not_modelled};
 use init_base::{List, NoMemory, Text};
-use rc_parse::{arguments, before_header, first_word, is_header, is_on, is_service, is_text, parse};
+use rc_parse::{
+    arguments, before_header, first_word, is_header, is_on, is_service, is_text, parse,
+};
 use rc_tokens::{Line, LineSlice, Tokens};
 use std::alloc::Global;
 use std::collections::HashSet;
