@@ -16,5 +16,10 @@ mod quote;
 mod words;
 
 pub use law::{text_determines_report, text_is_its_parts};
+pub use page::send;
 pub use printer::Printer;
 pub use printing::{print, print_diagnostics};
+pub use quote::{
+    digits as put_number, hex_byte as put_hex_byte, put, put_byte, quoted as put_quoted,
+};
+pub use words::kind_name;

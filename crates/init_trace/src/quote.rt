@@ -103,7 +103,7 @@ fn is_plain(byte: u8) -> bool
 }
 
 /// Adds a byte as two hexadecimal digits.
-fn hex_byte(page: &mut Vec<u8>, byte: u8, upper: bool) -> Result<(), NoMemory>
+pub fn hex_byte(page: &mut Vec<u8>, byte: u8, upper: bool) -> Result<(), NoMemory>
     ensures { OnOk result (page.new.items ≡ page.old.items ++ hex_byte_lem upper byte) }
 {
     put_byte(page, hex_digit(byte / 16, upper))?;

@@ -33,16 +33,6 @@ world_later told now world same is = record {
   means_are = is.means_are;
 }
 
--- the view of the build files' pairs is that of the world
-pub world_viewed : (told now : Option Tree) (look_up : List ℕ → Option (List ℕ)) (pairs : List Pair) (world : World)
-    → now ≡ told → ((name : List ℕ) → look_up name ≡ view pairs name) → pairs ≡ pairs_of world.tree
-    → IsWorldOf told world → IsWorld now look_up world
-world_viewed told now look_up pairs world same shows are is = record {
-  tree_is = same ∙ is.tree_is;
-  look_up_is = λ name. shows name ∙ ap (λ p. view p name) are ∙ is.look_up_is name;
-  means_are = is.means_are;
-}
-
 -- ---- without a root file
 
 IsOfLimits : {A : Type 0} → Result A LoadRefusal → Type 0

@@ -17,22 +17,6 @@ use Rattle.initsim.specs.declared.stop.Stop.TheVariants as stop
 use Rattle.init_words.specs.declared.form.Form.{Form}
 use Rattle.init_words.specs.declared.form.Form.TheVariants.{Run, Check}
 
--- ---- what is told
-
-pub told : {A : Type 0} (P : A → Type 0) (o : Option A) (x : A) → o ≡ Some x → IfSome o P → P x
-told P o x is holds = subst (λ v. IfSome v P) is holds
-
-pub if_told : {A : Type 0} (P : A → Type 0) (o : Option A) → ((x : A) → o ≡ Some x → P x) → IfSome o P
-if_told P None holds = tt
-if_told P (Some x) holds = holds x refl
-
--- ---- what `?` answers
-
-pub err_is : {T E : Type 0} (P : Result T E → Type 0) (r : Result T E) (why : E)
-    → IsErr r × IsErrAnd r (λ e. e ≡ why) → P (Err why) → P r
-err_is P (Ok value) why gives holds = absurd gives.1
-err_is P (Err e) why gives holds = subst (λ x. P (Err x)) (sym gives.1) holds
-
 -- ---- the script's
 
 script_limit_tree : (form : Form) (world : World) (limit : Limit) (number : ℕ) → IsScriptLimit limit → TreeLimitSays form world limit number

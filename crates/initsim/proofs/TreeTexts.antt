@@ -14,6 +14,7 @@ use Rattle.prop_contexts.specs.Grammar.{IsPolicy, IsRefused}
 use Rattle.prop_contexts.specs.declared.refusal.PolicyRefusal.{PolicyRefusal}
 use Rattle.prop_contexts.specs.declared.refusal.PolicyRefusal.TheVariants as policy
 use Rattle.rc_import.specs.World.{World}
+use Rattle.rc_import.proofs.BuildFiles.{both_read}
 use Rattle.initsim.specs.Check.{IsCheckStatus}
 use Rattle.initsim.specs.Stops.{AreBuildFiles, GivesBuildFile, GivesBuildFiles, GivesPolicy, GivesText, IsOfTree, policy_stop, reading_stop, status_of}
 use Rattle.initsim.specs.Texts.{Tree, allow_text, build_text, bytes_or, contexts_text, system_path, vendor_path}
@@ -156,8 +157,5 @@ pub build_files_read : (tree : Tree) (one other both : BuildProps)
     → both.pairs ≡ one.pairs ++ other.pairs → both.diagnostics ≡ one.diagnostics ++ other.diagnostics
     → AreBuildFiles tree both
 build_files_read tree one other both first second pairs diagnostics =
-    let one_pairs = first.0.pairs_are in
-    let other_pairs = second.0.pairs_are in
-    let one_diagnostics = first.0.diagnostics_are in
-    let other_diagnostics = second.0.diagnostics_are in
-    record { short = (first.1, second.1); pairs_are = cc; diagnostics_are = cc }
+    let are = both_read tree one other both first.0 second.0 pairs diagnostics in
+    record { short = (first.1, second.1); pairs_are = are.0; diagnostics_are = are.1 }

@@ -34,8 +34,8 @@ use Rattle.initsim.specs.declared.status.Status.TheVariants as status
 use Rattle.initsim.specs.declared.stop.Stop.{Stop}
 use Rattle.initsim.specs.declared.stop.Stop.TheVariants as stop
 use Rattle.init_words.specs.declared.form.Form.TheVariants.{Run, Check}
-use Rattle.trace_reader.specs.declared.fault.Fault.{Fault}
-use Rattle.trace_reader.specs.declared.fault.Fault.TheVariants as fault
+use Rattle.script_lang.specs.declared.fault.Fault.{Fault}
+use Rattle.script_lang.specs.declared.fault.Fault.TheVariants as fault
 
 abbrev pub status_of : Stop → Status
 status_of stop.ReadFault = status.ReadFault

@@ -5,10 +5,9 @@ use Rattle.init_machine.specs.declared.config.Config.{Config}
 use Rattle.init_machine.specs.declared.diagnostic.Diagnostic.{Diagnostic}
 use Rattle.init_machine.specs.declared.limit.Limit.{Limit}
 use Rattle.init_machine.specs.declared.limit.Limit.TheVariants as limits
-use Rattle.prop_rules.specs.View.{view}
 use Rattle.rc_import.specs.Limits.{loaded as rc_files_of}
 use Rattle.rc_import.specs.Order.{root_file}
-use Rattle.rc_import.specs.World.{IsWorld, World}
+use Rattle.rc_import.specs.World.{World}
 use Rattle.rc_import.specs.declared.loaded.Loaded.{Loaded}
 use Rattle.rc_import.specs.declared.loaded.LoadLimit.{LoadLimit}
 use Rattle.rc_import.specs.declared.loaded.LoadLimit.TheVariants as load_limits
@@ -20,11 +19,7 @@ use Rattle.initsim.specs.declared.status.Status.{Status}
 use Rattle.initsim.specs.declared.status.Status.TheVariants as status
 use Rattle.init_words.specs.declared.form.Form.{Form}
 use Rattle.init_words.specs.declared.form.Form.TheVariants as form
-
--- A world that files tell: their tree, and what the bytes of rc files mean. The paths of imports are expanded in the view of
--- the pairs of the build files.
-abbrev pub IsWorldOf : Option Tree → World → Type 0
-IsWorldOf told world = IsWorld told (view (pairs_of world.tree)) world
+pub use Rattle.rc_import.specs.BuildFiles.{IsWorldOf}
 
 -- ---- the build files and the rc files
 

@@ -1,7 +1,7 @@
 //! What is to be run or raced, or what a trace is held against: the script, the tree and the store are read, in this order, and the
 //! first refusal ends it.
 
-ghost use Rattle.std.specs.Prelude.{◌≡◌, ℕ, [], map, IfErr, IfOk, IfSome};
+ghost use Rattle.std.specs.Prelude.{◌≡◌, ℕ, [], IfErr, IfOk, IfSome};
 ghost use Rattle.init_base.specs.Faults.{Counted};
 ghost use Rattle.init_driver.specs.Keeper.{seen_by};
 ghost use Rattle.init_machine.specs.WellFormed.{IsWellFormed};
@@ -16,12 +16,12 @@ use crate::loading::load;
 use crate::reading::{read_script, read_store};
 use crate::stop::Stop;
 use crate::texts::read_policy;
-use init_base::{Files, Keeper, List, NoMemory, Source, Text};
+use init_base::{Files, Keeper, List, NoMemory, Source};
 use init_driver::Setup;
 use init_machine::{Config, Pair, Plan};
 use prop_contexts::Policy;
 use rc_import::Loaded;
-use script_lang::{Client, Script};
+use script_lang::{Script, domains_of};
 use std::alloc::Global;
 
 /// What is to be run.
@@ -48,17 +48,6 @@ fn read_tree<F: Files>(alloc: Global, files: &mut F) -> Result<TreeParts, Stop>
     let policy = read_policy(alloc, files)?;
     let loaded = load(alloc, files)?;
     Ok(TreeParts { policy, loaded })
-}
-
-/// The domains of the clients.
-fn domains_of(alloc: Global, clients: &[Client]) -> Result<List<Text>, NoMemory>
-    ensures { IfOk result (λ domains. domains ≡ map (λ client. client.domain) clients.now) }
-{
-    let mut domains = List::new(alloc);
-    for client in clients {
-        domains.push(client.domain.share()?)?;
-    }
-    Ok(domains)
 }
 
 /// The same plans once more.

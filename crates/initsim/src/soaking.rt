@@ -17,9 +17,9 @@ ghost use Rattle.soak_summary.specs.Summary.{SummaryText};
 
 use crate::prepare::{Job, prepare};
 use crate::status::Status;
-use crate::verdict::send;
 use init_base::{IoRefusal, List, NoMemory, Sink, SteadyFiles, SteadyKeeper, SteadySource, Text};
 use init_driver::count;
+use init_trace::send;
 use property_area::WriterSeat;
 use script_lang::{Generated, generate};
 use soak_summary::Summary;

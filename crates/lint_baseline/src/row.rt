@@ -1,83 +1,15 @@
 //! The line of a finding in a baseline.
 
-ghost use Rattle.std.specs.Prelude.{◌≡◌, ◌++◌, ◌∷◌, [], OnOk, IfOk, ◌<◌, true};
-ghost use Rattle.std.specs.Fmt.{digit_glyph};
-ghost use Rattle.std.specs.List.{flat_map};
-ghost use Rattle.init_base.specs.Quoted.{is_plain as is_plain_lem, quoted as quoted_lem, quoted_byte as quoted_byte_lem};
+ghost use Rattle.std.specs.Prelude.{◌≡◌, IfOk};
 ghost use Rattle.lint_baseline.specs.Baseline.{row_of as row_of_lem};
 
 use init_base::NoMemory;
+use init_trace::{put, put_byte, put_quoted};
 use lint_findings::{Finding, about_name};
 use std::alloc::Global;
 
 /// About how many bytes a line has.
 const BYTES_OF_ROW: usize = 160;
-
-/// Adds bytes as they are.
-fn put(page: &mut Vec<u8>, bytes: &[u8]) -> Result<(), NoMemory>
-    ensures { OnOk result (page.new.items ≡ page.old.items ++ bytes.now) }
-{
-    page.extend_from_slice(bytes)?;
-    Ok(())
-}
-
-/// Adds one byte.
-fn put_byte(page: &mut Vec<u8>, byte: u8) -> Result<(), NoMemory>
-    ensures { OnOk result (page.new.items ≡ page.old.items ++ byte ∷ []) }
-{
-    page.push(byte)?;
-    Ok(())
-}
-
-/// Whether a byte stands for itself in q form.
-fn is_plain(byte: u8) -> bool
-    ensures { result ≡ is_plain_lem byte }
-{
-    byte >= 0x21 && byte <= 0x7e && byte != b'%'
-}
-
-fn hex_digit(digit: u8) -> u8
-    requires { digit < 16 }
-    ensures { result ≡ digit_glyph true digit }
-{
-    if digit < 10 {
-        b'0' + digit
-    } else {
-        b'A' - 10 + digit
-    }
-}
-
-fn put_quoted_byte(page: &mut Vec<u8>, byte: u8) -> Result<(), NoMemory>
-    ensures { OnOk result (page.new.items ≡ page.old.items ++ quoted_byte_lem byte) }
-{
-    if is_plain(byte) {
-        put_byte(page, byte)
-    } else {
-        put_byte(page, b'%')?;
-        put_byte(page, hex_digit(byte / 16))?;
-        put_byte(page, hex_digit(byte % 16))
-    }
-}
-
-fn put_quoted_bytes(page: &mut Vec<u8>, bytes: &[u8]) -> Result<(), NoMemory>
-    ensures { OnOk result (page.new.items ≡ page.old.items ++ flat_map quoted_byte_lem bytes.now) }
-{
-    for byte in bytes {
-        put_quoted_byte(page, *byte)?;
-    }
-    Ok(())
-}
-
-/// Adds a text in q form.
-#[tactic(auto, unfolding(init_base::specs::Quoted::quoted))]
-fn put_quoted(page: &mut Vec<u8>, bytes: &[u8]) -> Result<(), NoMemory>
-    ensures { OnOk result (page.new.items ≡ page.old.items ++ quoted_lem bytes.now) }
-{
-    match bytes {
-        [] => put_byte(page, b'%'),
-        _ => put_quoted_bytes(page, bytes),
-    }
-}
 
 /// The line of a finding, without its end.
 pub fn row_of(alloc: Global, finding: &Finding) -> Result<Vec<u8>, NoMemory>

@@ -1,11 +1,11 @@
 //! The names of kinds. They are those of `specs/Names.antt`.
 
 ghost use Rattle.std.specs.Prelude.{◌≡◌, map};
-ghost use Rattle.init_trace.specs.Words.{kind_text};
 ghost use Rattle.lint_findings.specs.Names.{about_in, about_text, choose, hint_text, warning_text};
 
 use crate::finding::{About, HintKind, WarningKind};
 use init_machine::DiagKind;
+use init_trace::kind_name;
 
 /// Every kind by its name.
 pub const KINDS: [(&[u8], About); 24] = [
@@ -54,31 +54,6 @@ fn hint_name(kind: HintKind) -> &'static [u8]
         HintKind::ByteOrderMark => b"ByteOrderMark",
         HintKind::SpannedLines => b"SpannedLines",
         HintKind::CapitalHeader => b"CapitalHeader",
-    }
-}
-
-/// The name of a diagnostic's kind, as it stands in a trace.
-#[tactic(auto, unfolding(init_trace::specs::Words::kind_text))]
-fn kind_name(kind: DiagKind) -> &'static [u8]
-    ensures { result.now ≡ kind_text kind }
-{
-    match kind {
-        DiagKind::Cut => b"Cut",
-        DiagKind::Orphan => b"Orphan",
-        DiagKind::NoTrigger => b"NoTrigger",
-        DiagKind::BadTrigger => b"BadTrigger",
-        DiagKind::TwiceProp => b"TwiceProp",
-        DiagKind::BadWord => b"BadWord",
-        DiagKind::BadArity => b"BadArity",
-        DiagKind::BadOption => b"BadOption",
-        DiagKind::BadService => b"BadService",
-        DiagKind::ServiceAgain => b"ServiceAgain",
-        DiagKind::BadImport => b"BadImport",
-        DiagKind::NoFile => b"NoFile",
-        DiagKind::Loop => b"Loop",
-        DiagKind::TooDeep => b"TooDeep",
-        DiagKind::BadExpand => b"BadExpand",
-        DiagKind::BadProp => b"BadProp",
     }
 }
 

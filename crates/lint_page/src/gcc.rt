@@ -5,8 +5,9 @@ ghost use Rattle.std.specs.List.{flat_map};
 ghost use Rattle.lint_page.specs.Gcc.{finding_line as finding_line_lem, front_text, last_line as last_line_lem, message_text, other_text, place_text, report_text, severity_text};
 
 use crate::style::Style;
-use crate::text::{put, put_number, put_shown};
+use crate::text::put_shown;
 use init_base::{NoMemory, Text};
+use init_trace::{put, put_number};
 use lint_findings::{Finding, Place, Severity, about_name, count_errors, count_warnings};
 use std::alloc::Global;
 

@@ -6,8 +6,8 @@ ghost use Rattle.lint_page.specs.Json.{back_json, counts_json, finding_json, fro
 
 use crate::gcc::severity_name;
 use crate::style::Style;
-use crate::text::{put, put_number};
 use init_base::{NoMemory, Text};
+use init_trace::{put, put_number};
 use lint_findings::{Finding, Place, about_name, count_errors, count_warnings};
 use serde_json::Value;
 use std::alloc::Global;

@@ -7,9 +7,9 @@ ghost use Rattle.lint_page.specs.Sarif.{artifact_text, back_text, front_text, le
 
 use crate::json::put_text;
 use crate::style::Style;
-use crate::text::{put, put_number};
 use crate::uri::uri_of;
 use init_base::{NoMemory, Text};
+use init_trace::{put, put_number};
 use lint_findings::{About, Finding, KINDS, Place, Severity, about_name};
 use std::alloc::Global;
 

@@ -1,39 +1,9 @@
 //! Text that joins the end of a page.
 
-ghost use Rattle.std.specs.Prelude.{◌≡◌, ◌++◌, ◌∷◌, [], OnOk};
-ghost use Rattle.std.specs.Fmt.{decimal};
+ghost use Rattle.std.specs.Prelude.{◌≡◌, ◌++◌, OnOk};
 ghost use Rattle.lint_page.specs.Gcc.{shown as shown_lem, shown_byte as shown_byte_lem};
 
 use init_base::NoMemory;
-
-/// Adds bytes as they are.
-pub fn put(page: &mut Vec<u8>, bytes: &[u8]) -> Result<(), NoMemory>
-    ensures { OnOk result (page.new.items ≡ page.old.items ++ bytes.now) }
-{
-    page.extend_from_slice(bytes)?;
-    Ok(())
-}
-
-/// Adds one byte.
-fn put_byte(page: &mut Vec<u8>, byte: u8) -> Result<(), NoMemory>
-    ensures { OnOk result (page.new.items ≡ page.old.items ++ byte ∷ []) }
-{
-    page.push(byte)?;
-    Ok(())
-}
-
-/// Adds a number in decimal.
-#[tactic(auto, using(std::proofs::lemmas::Fmt::decimal_digit))]
-pub fn put_number(page: &mut Vec<u8>, number: u64) -> Result<(), NoMemory>
-    ensures { OnOk result (page.new.items ≡ page.old.items ++ decimal number) }
-{
-    if number < 10 {
-        put_byte(page, b'0' + number as u8)
-    } else {
-        put_number(page, number / 10)?;
-        put_byte(page, b'0' + (number % 10) as u8)
-    }
-}
 
 fn shown_byte(byte: u8) -> u8
     ensures { result ≡ shown_byte_lem byte }

@@ -1,11 +1,11 @@
 //! Paths as references in URIs.
 
-ghost use Rattle.std.specs.Prelude.{◌≡◌, ◌++◌, ◌∷◌, [], ◌<◌, IfOk, OnOk, true};
-ghost use Rattle.std.specs.Fmt.{digit_glyph};
+ghost use Rattle.std.specs.Prelude.{◌≡◌, ◌++◌, IfOk, OnOk};
 ghost use Rattle.std.specs.List.{flat_map};
 ghost use Rattle.lint_page.specs.Uri.{is_plain as is_plain_lem, uri_byte, uri_of as uri_of_lem, without_slash as without_slash_lem};
 
 use init_base::NoMemory;
+use init_trace::{put_byte, put_hex_byte};
 use std::alloc::Global;
 
 /// Whether a byte of a path stands for itself: what RFC 3986 leaves unreserved, and the slash.
@@ -15,28 +15,15 @@ fn is_plain(byte: u8) -> bool
     byte.is_ascii_alphanumeric() || matches!(byte, b'-' | b'.' | b'_' | b'~' | b'/')
 }
 
-fn hex_digit(digit: u8) -> u8
-    requires { digit < 16 }
-    ensures { result ≡ digit_glyph true digit }
-{
-    if digit < 10 {
-        b'0' + digit
-    } else {
-        b'A' - 10 + digit
-    }
-}
-
-fn put_byte(uri: &mut Vec<u8>, byte: u8) -> Result<(), NoMemory>
+fn put_path_byte(uri: &mut Vec<u8>, byte: u8) -> Result<(), NoMemory>
     ensures { OnOk result (uri.new.items ≡ uri.old.items ++ uri_byte byte) }
 {
     if is_plain(byte) {
-        uri.push(byte)?;
+        put_byte(uri, byte)
     } else {
-        uri.push(b'%')?;
-        uri.push(hex_digit(byte / 16))?;
-        uri.push(hex_digit(byte % 16))?;
+        put_byte(uri, b'%')?;
+        put_hex_byte(uri, byte, true)
     }
-    Ok(())
 }
 
 /// Adds a path.
@@ -44,7 +31,7 @@ pub fn put_path(uri: &mut Vec<u8>, path: &[u8]) -> Result<(), NoMemory>
     ensures { OnOk result (uri.new.items ≡ uri.old.items ++ flat_map uri_byte path.now) }
 {
     for byte in path {
-        put_byte(uri, *byte)?;
+        put_path_byte(uri, *byte)?;
     }
     Ok(())
 }

@@ -13,3 +13,4 @@ pub mod Slots
 pub mod Standing
 pub mod Steps
 pub mod Trees
+pub mod Views

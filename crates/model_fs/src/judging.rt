@@ -92,11 +92,10 @@ pub fn judge_remove(entries: &Entries, path: &[u8]) -> Result<Walk, FsRefusal>
     let Some(sight) = entries.look(path) else {
         return Err(FsRefusal::BadPath);
     };
-    let node = sight.node;
-    if !is_there(node) {
+    if !is_there(sight.node) {
         return Err(FsRefusal::Absent);
     }
-    if is_directory(node) {
+    if is_directory(sight.node) {
         return Err(FsRefusal::IsDir);
     }
     Ok(sight.walk)
@@ -110,11 +109,10 @@ pub fn judge_remove_directory(entries: &Entries, path: &[u8]) -> Result<Walk, Fs
     let Some(sight) = entries.look(path) else {
         return Err(FsRefusal::BadPath);
     };
-    let node = sight.node;
-    if !is_there(node) {
+    if !is_there(sight.node) {
         return Err(FsRefusal::Absent);
     }
-    if is_other(node) {
+    if is_other(sight.node) {
         return Err(FsRefusal::NotDir);
     }
     if entries.is_full(path, sight.walk) {

@@ -13,7 +13,7 @@ mod words;
 
 pub use laws::{each_text_has_one_reading, printing_undoes_reading};
 pub use printing::print;
-pub use reading::read;
+pub use reading::{is_legal, read};
 pub use refusal::{StoreCause, StoreRefusal};
 pub use value::value_in;
 pub use version::{Version, version_of};

@@ -149,7 +149,8 @@ fn is_saved_name(name: &[u8]) -> bool
     is_legal(name) && name.starts_with(PERSISTENT)
 }
 
-fn is_legal(name: &[u8]) -> bool
+/// Whether a name is legal.
+pub fn is_legal(name: &[u8]) -> bool
     ensures { result ≡ is_legal_name name.now }
 {
     PropName::of(name).is_some()

@@ -1,7 +1,9 @@
+pub mod BuildFiles
 pub mod Files
 pub mod Listed
 pub mod Loads
 pub mod OneFile
+pub mod Outcomes
 pub mod Places
 pub mod Slashes
 pub mod Sorted

@@ -1,28 +1,21 @@
 -- The slashes at the end of a text.
 use Rattle.std.proofs.Common.{◌≡◌, ℕ, suc, ◌-◌, ◌+◌, ◌≤◌, Bool, true, false, ◌&&◌, if◌then◌else◌, List, [], ◌∷◌, ◌++◌, length, take, drop, slice_range, slice_index, refl, sym, ap, ◌∙◌, arith}
 use Rattle.std.specs.List.{list_all}
+use Rattle.std.proofs.Math.Bool.{and-true, and-false}
 use Rattle.std.proofs.lemmas.List.{take_more, take_all, take_rest}
 use Rattle.std.proofs.lemmas.List.Folds.{list_all-append}
 use Rattle.rc_import.specs.Paths.{bare, is_slash, without_last_slashes}
 
-both : (a : Bool) → (a && (true && true)) ≡ a
-both true = refl
-both false = refl
-
-neither : (a : Bool) → (a && (false && true)) ≡ false
-neither true = refl
-neither false = refl
-
 slash_more : (xs : List ℕ) (b : ℕ) → is_slash b ≡ true → without_last_slashes (xs ++ b ∷ []) ≡ without_last_slashes xs
 slash_more [] b e = rw e refl
 slash_more (x ∷ xs) b e =
-    let all : list_all is_slash (x ∷ (xs ++ b ∷ [])) ≡ list_all is_slash (x ∷ xs) = list_all-append is_slash (x ∷ xs) (b ∷ []) ∙ rw e (both (list_all is_slash (x ∷ xs))) in
+    let all : list_all is_slash (x ∷ (xs ++ b ∷ [])) ≡ list_all is_slash (x ∷ xs) = list_all-append is_slash (x ∷ xs) (b ∷ []) ∙ rw e (and-true (list_all is_slash (x ∷ xs))) in
     rw (all, slash_more xs b e) refl
 
 other_more : (xs : List ℕ) (b : ℕ) → is_slash b ≡ false → without_last_slashes (xs ++ b ∷ []) ≡ xs ++ b ∷ []
 other_more [] b e = rw e refl
 other_more (x ∷ xs) b e =
-    let some : list_all is_slash (x ∷ (xs ++ b ∷ [])) ≡ false = list_all-append is_slash (x ∷ xs) (b ∷ []) ∙ rw e (neither (list_all is_slash (x ∷ xs))) in
+    let some : list_all is_slash (x ∷ (xs ++ b ∷ [])) ≡ false = list_all-append is_slash (x ∷ xs) (b ∷ []) ∙ rw e (and-false (list_all is_slash (x ∷ xs))) in
     rw (some, other_more xs b e) refl
 
 -- a list that isn't empty ends with its last element

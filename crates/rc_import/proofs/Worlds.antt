@@ -5,7 +5,7 @@ use Rattle.std.specs.List.{flat_map}
 use Rattle.rc_tokens.specs.Lines.{Line, Tokens, Lines}
 use Rattle.rc_parse.specs.Files.{Reads}
 use Rattle.rc_parse.specs.Lines.{lines_before_header, sections}
-use Rattle.rc_parse.specs.Sections.{Sections, actions_of, cut, diagnostics_of, imports_of, orphan, services_of}
+use Rattle.rc_parse.specs.Sections.{Sections, actions_of, cut, diagnostics_of, imports_of, orphan_diagnostics, services_of}
 use Rattle.rc_parse.specs.declared.parsed.Parsed.{Parsed}
 use Rattle.rc_import.specs.World.{IsWorld, World}
 
@@ -14,7 +14,7 @@ parsed_of file tokens = record {
   actions = flat_map (actions_of file) (sections tokens.lines);
   services = flat_map (services_of file) (sections tokens.lines);
   imports = flat_map imports_of (sections tokens.lines);
-  diagnostics = map (λ line. orphan file line.number) (lines_before_header tokens.lines) ++ flat_map (diagnostics_of file) (sections tokens.lines) ++ cut file tokens.dropped;
+  diagnostics = orphan_diagnostics file (lines_before_header tokens.lines) ++ flat_map (diagnostics_of file) (sections tokens.lines) ++ cut file tokens.dropped;
 }
 
 parsed_sections : (file : List ℕ) (tokens : Tokens) → Sections file tokens (parsed_of file tokens)

@@ -6,3 +6,4 @@ pub mod Order
 pub mod Paths
 pub mod Stores
 pub mod World
+pub mod BuildFiles

@@ -1,17 +1,13 @@
 -- The lines of sections that another init takes.
-use Rattle.std.proofs.Common.{◌≡◌, ℕ, ◌≤◌, true, false, not, List, [], ◌∷◌, ◌++◌, length, sym, ap, ◌∙◌, append_assoc}
+use Rattle.std.proofs.Common.{◌≡◌, ℕ, true, false, List, [], ◌∷◌, ◌++◌, sym, ap, ◌∙◌, append_assoc}
 use Rattle.std.proofs.lemmas.Bool.{cond-true, cond-false}
-use Rattle.std.proofs.lemmas.List.Sums.{prefix_len-le-length}
-use Rattle.std.specs.List.{flat_map, position_or_len}
+use Rattle.std.specs.List.{flat_map}
 use Rattle.rc_parse.specs.Lines.{Section, is_header, lines_before_header, sections}
 use Rattle.rc_tokens.specs.Lines.{Line}
 use Rattle.rc_parse.specs.Lines.{is_on, is_service}
 use Rattle.rc_lint.specs.Code.Steps.{is_excused_at}
 use Rattle.rc_lint.specs.Excused.{all_taken_elsewhere, good_header, numbers_of, taken_elsewhere}
 use Rattle.rc_lint.specs.declared.excuse.Part.TheVariants as part
-
-pub section_fits : (lines : List Line) → position_or_len is_header lines ≤ length lines
-section_fits lines = prefix_len-le-length (λ line. not (is_header line)) lines
 
 section_of : Line → List Line → Section
 section_of header behind = record { header = header; body = lines_before_header behind }

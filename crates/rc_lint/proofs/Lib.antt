@@ -1,4 +1,3 @@
-pub mod Outcomes
 pub mod Loads
 pub mod Worlds
 pub mod ReadLines

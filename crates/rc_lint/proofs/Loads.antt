@@ -15,6 +15,7 @@ use Rattle.rc_import.specs.declared.loaded.LoadLimit.{LoadLimit}
 use Rattle.rc_import.specs.declared.loaded.LoadLimit.TheVariants as limits
 use Rattle.rc_import.specs.declared.loaded.LoadRefusal.{LoadRefusal}
 use Rattle.rc_import.specs.declared.loaded.LoadRefusal.TheVariants as why
+use Rattle.rc_import.proofs.BuildFiles.{both_read}
 use Rattle.rc_lint.specs.Code.Steps.{AreBuildFiles, GivesBuildFile, GivesBuildFiles, GivesText, RefusesText}
 use Rattle.rc_lint.specs.Loads.{IsWorldOf, Tree, behind_build_file, build_text, faults_of, loaded, pairs_of, system_path, vendor_path, with_build_files}
 
@@ -30,11 +31,8 @@ pub build_files_read : (tree : Tree) (one other both : BuildProps)
     → both.pairs ≡ one.pairs ++ other.pairs → both.diagnostics ≡ one.diagnostics ++ other.diagnostics
     → AreBuildFiles tree both
 build_files_read tree one other both first second pairs diagnostics =
-    let one_pairs = first.0.pairs_are in
-    let other_pairs = second.0.pairs_are in
-    let one_diagnostics = first.0.diagnostics_are in
-    let other_diagnostics = second.0.diagnostics_are in
-    record { system = first.1; vendor = second.1; pairs_are = cc; diagnostics_are = cc }
+    let are = both_read tree one other both first.0 second.0 pairs diagnostics in
+    record { system = first.1; vendor = second.1; pairs_are = are.0; diagnostics_are = are.1 }
 
 -- ---- limits
 
@@ -79,16 +77,6 @@ build_files_refused world refusal (inl system) = system_refused world refusal sy
 build_files_refused world refusal (inr vendor) = vendor_refused world refusal vendor.system vendor.vendor
 
 -- ---- rc files
-
--- no call changes the tree, and the view of the build files' pairs is that of the world
-pub world_viewed : (told now : Option Tree) (look_up : List ℕ → Option (List ℕ)) (pairs : List Pair) (world : World)
-    → now ≡ told → ((name : List ℕ) → look_up name ≡ view pairs name) → pairs ≡ pairs_of world.tree
-    → IsWorldOf told world → IsWorld now look_up world
-world_viewed told now look_up pairs world same shows are is = record {
-  tree_is = same ∙ is.tree_is;
-  look_up_is = λ name. shows name ∙ ap (λ p. view p name) are ∙ is.look_up_is name;
-  means_are = is.means_are;
-}
 
 behind_rc_files : World → Result Loaded LoadRefusal → Result Loaded LoadRefusal
 behind_rc_files world rc_files = onward rc_files (λ rc. Ok (with_build_files world.tree rc))

@@ -1,19 +1,12 @@
--- Words of different lengths differ.
-use Rattle.std.proofs.Common.{◌≡◌, ℕ, ◌<◌, ◌≤◌, ◌&&◌, Bool, true, false, List, [], ◌∷◌, length, refl, sym, ap, arith}
-use Rattle.std.specs.Prelude.{◌≢◌, ◌||◌, nat_le}
+-- No command is shorter than the shortest one.
+use Rattle.std.proofs.Common.{◌≡◌, ℕ, ◌<◌, ◌≤◌, ◌&&◌, Bool, true, false, List, [], ◌∷◌, length, refl, sym, arith}
+use Rattle.std.specs.Prelude.{◌||◌, nat_le}
 use Rattle.std.specs.List.{list_all, list_any}
 use Rattle.std.specs.Str.{bytes_eq}
 use Rattle.std.proofs.lemmas.Bool.Decides.{nat_tests}
-use Rattle.std.proofs.lemmas.Slice.Eq.{bytes_eq-Decides}
+use Rattle.rc_parse.proofs.Firsts.{other_length}
 use Rattle.rc_lint.specs.NotModelled.{is_command_not_modelled}
 use Rattle.rc_lint.specs.declared.not_modelled.TheConstants.{COMMANDS}
-
-not_same : (word known : List ℕ) (same : Bool) → (same ≡ true → word ≡ known) → length word ≢ length known → false ≡ same
-not_same word known true says differ = absurd (differ (ap length (says refl)))
-not_same word known false says differ = refl
-
-pub other_length : (word known : List ℕ) → length word ≢ length known → false ≡ bytes_eq word known
-other_length word known differ = not_same word known (bytes_eq word known) (bytes_eq-Decides word known).0 differ
 
 -- ---- the shortest command has 7 bytes
 

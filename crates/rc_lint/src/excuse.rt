@@ -8,10 +8,11 @@ ghost use Rattle.rc_parse.specs.Triggers.{is_equals_sign, triggers_of};
 ghost use Rattle.rc_lint.specs.Code.Steps.{HasNumbers, is_excused_at as is_excused_at_lem};
 ghost use Rattle.rc_lint.specs.Excused.{all_taken_elsewhere, are_good_as_equal as are_good_as_equal_lem, as_equal as as_equal_lem, good_header, has_bang as has_bang_lem, is_excused_command as is_excused_command_lem, is_excused_in_action as is_excused_in_action_lem, is_excused_in_service as is_excused_in_service_lem, is_excused_option as is_excused_option_lem, number_if, numbers_of, taken_elsewhere as taken_elsewhere_lem, without_bang as without_bang_lem};
 
-use crate::lines::{arguments, before_header, first_word, is_header, is_on, is_service, is_word};
 use crate::not_modelled::{is_command_not_modelled, is_option_not_modelled};
 use init_base::{List, NoMemory, Text};
-use rc_parse::parse;
+use rc_parse::{
+    arguments, before_header, first_word, is_header, is_on, is_service, is_text, parse,
+};
 use rc_tokens::{Line, LineSlice, Tokens};
 use std::alloc::Global;
 use std::collections::HashSet;
@@ -54,7 +55,7 @@ fn is_excused_in_service(allowed: &List<Text>, line: &Line<'_>) -> bool
 {
     let words = line.words();
     let word = first_word(words);
-    if is_word(word, b"onrestart") {
+    if is_text(word, b"onrestart") {
         is_excused_command(allowed, first_word(arguments(words)))
     } else {
         is_excused_option(allowed, word)

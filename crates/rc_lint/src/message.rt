@@ -8,13 +8,13 @@ mod text;
 mod trigger;
 mod word;
 
-use crate::lines::{arguments, first_word};
 use crate::source::Source;
 use crate::watched::SeenFiles;
 use init_base::{NoMemory, Text};
 use init_machine::{Config, DiagKind, Diagnostic, ListStore, ServiceDef};
 use lint_findings::Place;
 use prop_rules::boot_view;
+use rc_parse::{arguments, first_word};
 use std::alloc::Global;
 pub use text::Message;
 use text_index::TextIndex;

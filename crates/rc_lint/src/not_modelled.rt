@@ -5,7 +5,7 @@ ghost use Rattle.std.specs.List.{list_any};
 ghost use Rattle.std.specs.Str.{bytes_eq};
 ghost use Rattle.rc_lint.specs.NotModelled.{is_command_not_modelled as is_command_not_modelled_lem, is_option_not_modelled as is_option_not_modelled_lem};
 
-use crate::lines::is_word;
+use rc_parse::is_text;
 
 /// Commands (AOSP, `GetBuiltinFunctionMap` in init's builtins.cpp, Android 10 to 15).
 pub const COMMANDS: [&[u8]; 19] = [
@@ -50,7 +50,7 @@ pub const OPTIONS: [&[u8]; 13] = [
 fn is_among(words: &[&[u8]], word: &[u8]) -> bool
     ensures { result ≡ list_any (λ known. bytes_eq known.now word.now) words.now }
 {
-    words.iter().any(|known| is_word(known, word))
+    words.iter().any(|known| is_text(known, word))
 }
 
 /// The bytes of the shortest of these commands.

@@ -10,10 +10,10 @@ ghost use Rattle.rc_lint.specs.Excused.{is_excusable as is_excusable_lem};
 ghost use Rattle.rc_lint.specs.Told.{IsTold, Told, lines_at, lines_of as lines_of_lem};
 
 use crate::excuse::{Part, taken_elsewhere};
-use crate::lines::{is_header, is_on, is_service};
 use init_base::{Files, List, NoMemory, ReadRefusal, Text};
 use init_machine::{DiagKind, Diagnostic};
 use rc_import::LoadRefusal;
+use rc_parse::{is_header, is_on, is_service};
 use rc_tokens::{Line, LineSlice, TokenRefusal, Tokens, lines};
 use std::alloc::Global;
 use std::collections::HashSet;

@@ -61,6 +61,11 @@ is_first_header line lines whole =
 pub section_fits : (lines : List Line) → position_or_len is_header lines ≤ length lines
 section_fits lines = prefix_len-le-length (λ line. not (is_header line)) lines
 
+-- what was passed and what is left make the whole
+abbrev pub IsPassed : List Line → List Line → Type 0
+IsPassed lines left =
+    (position_or_len is_header lines + length left ≡ length lines + position_or_len is_header left) × (length left ≤ length lines)
+
 -- one line less to look at, which is no header
 pub one_passed : (left behind : List Line) (line : Line) → left ≡ line ∷ behind → is_header line ≡ false
     → position_or_len is_header left ≡ 1 + position_or_len is_header behind

@@ -1,5 +1,5 @@
 -- Each line stands in its section, and diagnostics stand in the order of the lines.
-use Rattle.std.proofs.Common.{◌≡◌, ℕ, ◌+◌, ◌<◌, Option, Some, None, Bool, true, false, not, cond, if◌then◌else◌, Result, Ok, Err, List, [], ◌∷◌, ◌++◌, length, map, take, ◌==◌, refl, sym, subst, ap, ◌∙◌}
+use Rattle.std.proofs.Common.{◌≡◌, ℕ, ◌+◌, ◌<◌, Option, Some, None, Bool, true, false, not, cond, if◌then◌else◌, Result, Ok, Err, List, [], ◌∷◌, ◌++◌, length, take, ◌==◌, refl, sym, subst, ap, ◌∙◌}
 use Rattle.std.proofs.Math.Numerals.{one-add}
 use Rattle.std.proofs.lemmas.List.{map-append}
 use Rattle.std.specs.List.{AllByRecursion, flat_map, position_or_len}
@@ -10,7 +10,7 @@ use Rattle.rc_tokens.specs.Lines.{Line, Tokens, Ascend, numbers as token_numbers
 use Rattle.rc_parse.specs.Lines.{Section, sections, is_header, is_on, is_service, lines_before_header}
 use Rattle.rc_parse.specs.Places.{section_lines, IsParted, InOrder, end, left_out, taken, numbers, places, ArePlaced}
 use Rattle.rc_parse.specs.Readings.{diagnosed}
-use Rattle.rc_parse.specs.Sections.{Sections, header_args, command_at, setting_at, action_diagnostics, service_diagnostics, import_diagnostics, diagnostics_of, orphan, cut}
+use Rattle.rc_parse.specs.Sections.{Sections, header_args, command_at, setting_at, action_diagnostics, service_diagnostics, import_diagnostics, diagnostics_of, orphan_diagnostics, cut}
 use Rattle.rc_parse.specs.Services.{is_service_header}
 use Rattle.rc_parse.specs.Triggers.{triggers_of}
 use Rattle.rc_parse.specs.Code.Adding.{section_of}
@@ -77,7 +77,7 @@ lines_placed file read (line ∷ lines) =
     placed-append (diagnosed file line.number (read line)) (flat_map (λ more. diagnosed file more.number (read more)) lines)
     (line ∷ []) lines (reading_placed file line (read line)) (lines_placed file read lines)
 
-orphans_placed : (file : List ℕ) (lines : List Line) → Placed (map (λ line. orphan file line.number) lines) lines
+orphans_placed : (file : List ℕ) (lines : List Line) → Placed (orphan_diagnostics file lines) lines
 orphans_placed file [] = end
 orphans_placed file (line ∷ lines) = taken (orphans_placed file lines)
 
@@ -118,11 +118,11 @@ sections_placed file (section ∷ more) =
 
 pub diagnostics_placed : (file : List ℕ) (tokens : Tokens) (parsed : Parsed) → Sections file tokens parsed → ArePlaced file tokens parsed
 diagnostics_placed file tokens parsed are = record {
-  found = map (λ line. orphan file line.number) (lines_before_header tokens.lines) ++ flat_map (diagnostics_of file) (sections tokens.lines);
+  found = orphan_diagnostics file (lines_before_header tokens.lines) ++ flat_map (diagnostics_of file) (sections tokens.lines);
   all_are = are.diagnostics_are;
-  in_order = subst (λ lines. InOrder (places (map (λ line. orphan file line.number) (lines_before_header tokens.lines) ++ flat_map (diagnostics_of file) (sections tokens.lines))) (numbers lines))
+  in_order = subst (λ lines. InOrder (places (orphan_diagnostics file (lines_before_header tokens.lines) ++ flat_map (diagnostics_of file) (sections tokens.lines))) (numbers lines))
       (lines_parted tokens.lines)
-      (placed-append (map (λ line. orphan file line.number) (lines_before_header tokens.lines)) (flat_map (diagnostics_of file) (sections tokens.lines))
+      (placed-append (orphan_diagnostics file (lines_before_header tokens.lines)) (flat_map (diagnostics_of file) (sections tokens.lines))
       (lines_before_header tokens.lines) (flat_map section_lines (sections tokens.lines))
       (orphans_placed file (lines_before_header tokens.lines)) (sections_placed file (sections tokens.lines)));
 }

@@ -1,5 +1,5 @@
 -- The sections of a list of lines, header by header.
-use Rattle.std.proofs.Common.{◌≡◌, ℕ, Bool, true, false, IsTrue, ◌&&◌, if◌then◌else◌, Option, Result, Ok, Err, List, [], ◌∷◌, ◌++◌, map, refl, sym, ap, ◌∙◌, append_assoc}
+use Rattle.std.proofs.Common.{◌≡◌, ℕ, Bool, true, false, IsTrue, ◌&&◌, if◌then◌else◌, Option, Result, Ok, Err, List, [], ◌∷◌, ◌++◌, refl, sym, ap, ◌∙◌, append_assoc}
 use Rattle.std.proofs.lemmas.List.{append-nil}
 use Rattle.std.proofs.lemmas.List.Folds.{list_all-append}
 use Rattle.std.specs.List.{flat_map, list_all}
@@ -8,7 +8,7 @@ use Rattle.init_machine.specs.declared.diagnostic.DiagKind.{DiagKind}
 use Rattle.init_machine.specs.declared.diagnostic.Diagnostic.{Diagnostic}
 use Rattle.rc_tokens.specs.Lines.{Line, Tokens}
 use Rattle.rc_parse.specs.Lines.{Section, sections, is_header, is_on, lines_before_header}
-use Rattle.rc_parse.specs.Sections.{Sections, header_args, commands_of, has_command, action_under, actions_of, services_of, imports_of, diagnostics_of, orphan, cut}
+use Rattle.rc_parse.specs.Sections.{Sections, header_args, commands_of, has_command, action_under, actions_of, services_of, imports_of, diagnostics_of, orphan_diagnostics, cut}
 use Rattle.rc_parse.specs.Triggers.{triggers_of}
 use Rattle.rc_parse.specs.Code.Adding.{from_header, section_of, with_diagnostics, with_section, with_sections}
 use Rattle.rc_parse.specs.declared.parsed.Parsed.{Parsed}
@@ -46,7 +46,7 @@ nothing = record { actions = []; services = []; imports = []; diagnostics = [] }
 
 -- all sections were added to what had the first lines, and then the line that was left out
 all_added : (file : List ℕ) (tokens : Tokens) (begun parsed last : Parsed)
-    → begun ≡ with_diagnostics nothing (map (λ line. orphan file line.number) (lines_before_header tokens.lines))
+    → begun ≡ with_diagnostics nothing (orphan_diagnostics file (lines_before_header tokens.lines))
     → with_sections file parsed [] ≡ with_sections file begun (sections tokens.lines)
     → last ≡ with_diagnostics parsed (cut file tokens.dropped)
     → Sections file tokens last
@@ -70,15 +70,15 @@ all_added file tokens begun parsed last begun_is left last_is = record {
 -- the same, where no lines are left
 pub none_left : (file : List ℕ) (tokens : Tokens) (first begun parsed last : Parsed) (lines orphans left none : List Line) (dropped : Option ℕ)
     → first ≡ nothing → lines ≡ tokens.lines → orphans ≡ lines_before_header lines
-    → begun ≡ with_diagnostics first (map (λ line. orphan file line.number) orphans) → left ≡ from_header lines
+    → begun ≡ with_diagnostics first (orphan_diagnostics file orphans) → left ≡ from_header lines
     → with_sections file parsed (sections none) ≡ with_sections file begun (sections left) → none ≡ []
     → dropped ≡ tokens.dropped → last ≡ with_diagnostics parsed (cut file dropped)
     → Sections file tokens last
 none_left file tokens first begun parsed last lines orphans left none dropped first_is lines_are orphans_are begun_is left_is left_decides none_is dropped_is last_is =
     all_added file tokens begun parsed last
-    (begun_is ∙ ap (λ (p : Parsed). with_diagnostics p (map (λ line. orphan file line.number) orphans)) first_is
-    ∙ ap (λ (all : List Line). with_diagnostics nothing (map (λ line. orphan file line.number) all)) orphans_are
-    ∙ ap (λ (all : List Line). with_diagnostics nothing (map (λ line. orphan file line.number) (lines_before_header all))) lines_are)
+    (begun_is ∙ ap (λ (p : Parsed). with_diagnostics p (orphan_diagnostics file orphans)) first_is
+    ∙ ap (λ (all : List Line). with_diagnostics nothing (orphan_diagnostics file all)) orphans_are
+    ∙ ap (λ (all : List Line). with_diagnostics nothing (orphan_diagnostics file (lines_before_header all))) lines_are)
     (ap (λ (all : List Line). with_sections file parsed (sections all)) (sym none_is) ∙ left_decides
     ∙ ap (λ (all : List Section). with_sections file begun all) (ap sections left_is ∙ same_sections lines ∙ ap sections lines_are))
     (last_is ∙ ap (λ (number : Option ℕ). with_diagnostics parsed (cut file number)) dropped_is)

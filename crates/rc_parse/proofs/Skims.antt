@@ -6,7 +6,7 @@ use Rattle.init_machine.specs.declared.diagnostic.Diagnostic.{Diagnostic}
 use Rattle.init_machine.specs.declared.service.ServiceDef.{ServiceDef}
 use Rattle.rc_tokens.specs.Lines.{Line, Tokens}
 use Rattle.rc_parse.specs.Lines.{Section, sections, is_header, lines_before_header}
-use Rattle.rc_parse.specs.Sections.{Sections, services_of, imports_of, diagnostics_of, orphan, cut}
+use Rattle.rc_parse.specs.Sections.{Sections, services_of, imports_of, diagnostics_of, orphan_diagnostics, cut}
 use Rattle.rc_parse.specs.Code.Adding.{from_header, section_of}
 use Rattle.rc_parse.specs.Code.Skimming.{with_found, with_skim, with_skims}
 use Rattle.rc_parse.specs.Skims.{mark_of, skim_of}
@@ -47,7 +47,7 @@ nothing = record { services = []; imports = []; diagnostics = [] }
 
 -- all sections were added to what had the first lines, and then the line that was left out
 all_added : (file : List ℕ) (tokens : Tokens) (begun skimmed last : Skimmed)
-    → begun ≡ with_found nothing (map (λ line. orphan file line.number) (lines_before_header tokens.lines))
+    → begun ≡ with_found nothing (orphan_diagnostics file (lines_before_header tokens.lines))
     → with_skims file skimmed [] ≡ with_skims file begun (sections tokens.lines)
     → last ≡ with_found skimmed (cut file tokens.dropped)
     → (parsed : Parsed) → Sections file tokens parsed → last ≡ skim_of parsed
@@ -71,15 +71,15 @@ all_added file tokens begun skimmed last begun_is left last_is parsed is =
 -- the same, where no lines are left
 pub none_left : (file : List ℕ) (tokens : Tokens) (first begun skimmed last : Skimmed) (lines orphans left none : List Line) (dropped : Option ℕ)
     → first ≡ nothing → lines ≡ tokens.lines → orphans ≡ lines_before_header lines
-    → begun ≡ with_found first (map (λ line. orphan file line.number) orphans) → left ≡ from_header lines
+    → begun ≡ with_found first (orphan_diagnostics file orphans) → left ≡ from_header lines
     → with_skims file skimmed (sections none) ≡ with_skims file begun (sections left) → none ≡ []
     → dropped ≡ tokens.dropped → last ≡ with_found skimmed (cut file dropped)
     → (parsed : Parsed) → Sections file tokens parsed → last ≡ skim_of parsed
 none_left file tokens first begun skimmed last lines orphans left none dropped first_is lines_are orphans_are begun_is left_is left_decides none_is dropped_is last_is =
     all_added file tokens begun skimmed last
-    (begun_is ∙ ap (λ (s : Skimmed). with_found s (map (λ line. orphan file line.number) orphans)) first_is
-    ∙ ap (λ (all : List Line). with_found nothing (map (λ line. orphan file line.number) all)) orphans_are
-    ∙ ap (λ (all : List Line). with_found nothing (map (λ line. orphan file line.number) (lines_before_header all))) lines_are)
+    (begun_is ∙ ap (λ (s : Skimmed). with_found s (orphan_diagnostics file orphans)) first_is
+    ∙ ap (λ (all : List Line). with_found nothing (orphan_diagnostics file all)) orphans_are
+    ∙ ap (λ (all : List Line). with_found nothing (orphan_diagnostics file (lines_before_header all))) lines_are)
     (ap (λ (all : List Line). with_skims file skimmed (sections all)) (sym none_is) ∙ left_decides
     ∙ ap (λ (all : List Section). with_skims file begun all) (ap sections left_is ∙ same_sections lines ∙ ap sections lines_are))
     (last_is ∙ ap (λ (number : Option ℕ). with_found skimmed (cut file number)) dropped_is)

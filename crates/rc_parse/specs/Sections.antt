@@ -89,13 +89,17 @@ imports_of section =
 abbrev pub orphan : List ℕ → ℕ → Diagnostic
 orphan file line = diagnostic file line Orphan
 
+-- a diagnostic for each line that belongs to no section
+abbrev pub orphan_diagnostics : List ℕ → List Line → List Diagnostic
+orphan_diagnostics file lines = map (λ line. orphan file line.number) lines
+
 abbrev pub import_fault : List ℕ → Section → List Diagnostic
 import_fault file section =
     if length (header_args section) == 1 then [] else diagnostic file section.header.number BadImport ∷ []
 
 -- the lines behind an import belong to no section
 abbrev pub import_diagnostics : List ℕ → Section → List Diagnostic
-import_diagnostics file section = import_fault file section ++ map (λ line. orphan file line.number) section.body
+import_diagnostics file section = import_fault file section ++ orphan_diagnostics file section.body
 
 -- files
 
@@ -116,6 +120,6 @@ pub record Sections (file : List ℕ) (tokens : Tokens) (parsed : Parsed) : Type
   pub services_are : parsed.services ≡ flat_map (services_of file) (sections tokens.lines)
   pub imports_are : parsed.imports ≡ flat_map imports_of (sections tokens.lines)
   pub diagnostics_are : parsed.diagnostics
-      ≡ map (λ line. orphan file line.number) (lines_before_header tokens.lines)
+      ≡ orphan_diagnostics file (lines_before_header tokens.lines)
       ++ flat_map (diagnostics_of file) (sections tokens.lines)
       ++ cut file tokens.dropped

@@ -8,6 +8,7 @@ ghost use Rattle.rc_parse.specs.Sections.{command_at, commands_of};
 
 use crate::command::command;
 use crate::fault::Fault;
+use crate::lines::Section;
 use crate::parsed::{Parsed, diagnose};
 use crate::trigger::{Triggers, read_triggers};
 use crate::words::arguments;
@@ -75,20 +76,20 @@ fn add_triggered(
     })
 }
 
-/// Adds the `on` section with this header and these lines.
+/// Adds an `on` section.
 pub fn add_action(
     parsed: &mut Parsed,
     alloc: Global,
     file: &Text,
-    header: &Line<'_>,
-    lines: LineSlice<'_>,
+    section: Section<'_>,
 ) -> Result<(), NoMemory>
-    requires { is_on header.now ≡ true }
-    ensures { OnOk result (parsed.new ≡ with_section file.now parsed.old (section_of header.now lines.entry)) }
+    requires { is_on section.header ≡ true }
+    ensures { OnOk result (parsed.new ≡ with_section file.now parsed.old (section_of section.entry.header section.entry.body)) }
 {
+    let Section { header, body } = section;
     let line = header.number();
     match read_triggers(alloc, arguments(header.words())) {
-        Ok(triggers) => add_triggered(parsed, alloc, file, line, triggers, lines),
+        Ok(triggers) => add_triggered(parsed, alloc, file, line, triggers, body),
         Err(Fault::Bad(kind)) => diagnose(&mut parsed.diagnostics, file, line, kind),
         Err(Fault::NoMemory) => Err(NoMemory),
     }

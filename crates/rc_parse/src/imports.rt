@@ -1,11 +1,11 @@
 //! Imports, and lines that belong to no section or were left out.
 
-ghost use Rattle.std.specs.Prelude.{◌≡◌, ◌∷◌, ◌++◌, ◌==◌, [], OnOk, if◌then◌else◌, length, map};
+ghost use Rattle.std.specs.Prelude.{◌≡◌, ◌∷◌, ◌++◌, ◌==◌, [], OnOk, if◌then◌else◌, length};
 ghost use Rattle.init_machine.specs.declared.diagnostic.DiagKind.TheVariants as kinds;
 ghost use Rattle.rc_parse.specs.Code.Adding.{section_of};
 ghost use Rattle.rc_parse.specs.Lines.{arguments as arguments_lem};
 ghost use Rattle.rc_parse.specs.Readings.{diagnostic};
-ghost use Rattle.rc_parse.specs.Sections.{cut, import_diagnostics, import_with, orphan};
+ghost use Rattle.rc_parse.specs.Sections.{cut, import_diagnostics, import_with, orphan_diagnostics};
 
 use crate::parsed::{Import, diagnose};
 use crate::words::arguments;
@@ -19,7 +19,7 @@ pub fn add_orphans(
     file: &Text,
     mut lines: LineSlice<'_>,
 ) -> Result<(), NoMemory>
-    ensures { OnOk result (diagnostics.new ≡ diagnostics.old ++ map (λ line. orphan file.now line.number) lines.entry) }
+    ensures { OnOk result (diagnostics.new ≡ diagnostics.old ++ orphan_diagnostics file.now lines.entry) }
 {
     while let Some(line) = lines.pop() {
         diagnose(diagnostics, file, line.number(), DiagKind::Orphan)?;

@@ -32,6 +32,7 @@ mod table;
 mod trigger;
 mod words;
 
+pub use lines::before_header;
 pub use merging::{Merger, one_service_of_a_name};
 pub use names::Names;
 pub use parsed::{Import, Parsed};
@@ -39,3 +40,4 @@ pub use places::{lines_have_their_places, one_meaning};
 pub use sections::parse;
 pub use skimmed::{ServiceMark, Skimmed};
 pub use skimming::skim;
+pub use words::{arguments, first_word, is_header, is_on, is_service, is_text};

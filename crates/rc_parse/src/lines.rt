@@ -6,7 +6,14 @@ ghost use Rattle.rc_parse.specs.Code.Adding.{from_header};
 ghost use Rattle.rc_parse.specs.Lines.{is_header as is_header_lem, lines_before_header};
 
 use crate::words::is_header;
-use rc_tokens::LineSlice;
+use rc_tokens::{Line, LineSlice};
+
+/// A section: its header, and the lines behind it up to the next one.
+#[derive(Drop)]
+pub struct Section<'a> {
+    pub header: Line<'a>,
+    pub body: LineSlice<'a>,
+}
 
 /// The number of lines before the first header.
 fn section_len(lines: &LineSlice<'_>) -> usize
@@ -29,4 +36,12 @@ pub fn take_section<'a>(lines: &mut LineSlice<'a>) -> LineSlice<'a>
 {
     let count = section_len(lines);
     lines.take_front(count)
+}
+
+/// The lines before the first header.
+pub fn before_header<'a>(lines: &LineSlice<'a>) -> LineSlice<'a>
+    ensures { result ≡ lines_before_header lines.now }
+{
+    let mut left = lines.again();
+    take_section(&mut left)
 }

@@ -8,50 +8,45 @@ ghost use Rattle.rc_parse.specs.Sections.{Sections, has_command};
 
 use crate::action::add_action;
 use crate::imports::{add_cut, add_orphans, read_import};
-use crate::lines::take_section;
+use crate::lines::{Section, take_section};
 use crate::parsed::Parsed;
 use crate::service::add_service;
 use crate::words::{is_on, is_service};
 use init_base::{NoMemory, Text};
-use rc_tokens::{Line, LineSlice, Tokens};
+use rc_tokens::Tokens;
 use std::alloc::Global;
 
-/// Adds the `import` section with this header. The lines behind it belong to no section.
-fn add_import(
-    parsed: &mut Parsed,
-    file: &Text,
-    header: &Line<'_>,
-    lines: LineSlice<'_>,
-) -> Result<(), NoMemory>
-    requires other { is_on_lem header.now ≡ false }
-    requires import { is_service_lem header.now ≡ false }
-    ensures { OnOk result (parsed.new ≡ with_section file.now parsed.old (section_of header.now lines.entry)) }
+/// Adds an `import` section. The lines behind it belong to no section.
+fn add_import(parsed: &mut Parsed, file: &Text, section: Section<'_>) -> Result<(), NoMemory>
+    requires other { is_on_lem section.header ≡ false }
+    requires import { is_service_lem section.header ≡ false }
+    ensures { OnOk result (parsed.new ≡ with_section file.now parsed.old (section_of section.entry.header section.entry.body)) }
 {
+    let Section { header, body } = section;
     let Parsed {
         imports,
         diagnostics,
         ..
     } = parsed;
-    read_import(imports, diagnostics, file, header, lines)?;
+    read_import(imports, diagnostics, file, &header, body)?;
     Ok(())
 }
 
-/// Adds the section with this header and these lines.
+/// Adds a section.
 fn add_section(
     parsed: &mut Parsed,
     alloc: Global,
     file: &Text,
-    header: &Line<'_>,
-    lines: LineSlice<'_>,
+    section: Section<'_>,
 ) -> Result<(), NoMemory>
-    ensures { OnOk result (parsed.new ≡ with_section file.now parsed.old (section_of header.now lines.entry)) }
+    ensures { OnOk result (parsed.new ≡ with_section file.now parsed.old (section_of section.entry.header section.entry.body)) }
 {
-    if is_on(header) {
-        add_action(parsed, alloc, file, header, lines)
-    } else if is_service(header) {
-        add_service(parsed, alloc, file, header, lines)
+    if is_on(&section.header) {
+        add_action(parsed, alloc, file, section)
+    } else if is_service(&section.header) {
+        add_service(parsed, alloc, file, section)
     } else {
-        add_import(parsed, file, header, lines)
+        add_import(parsed, file, section)
     }
 }
 
@@ -66,7 +61,7 @@ pub fn parse(alloc: Global, file: &Text, tokens: &Tokens) -> Result<Parsed, NoMe
     add_orphans(&mut parsed.diagnostics, file, take_section(&mut lines))?;
     while let Some(header) = lines.pop() {
         let body = take_section(&mut lines);
-        add_section(&mut parsed, alloc, file, &header, body)?;
+        add_section(&mut parsed, alloc, file, Section { header, body })?;
     }
     add_cut(&mut parsed.diagnostics, file, tokens.dropped())?;
     Ok(parsed)

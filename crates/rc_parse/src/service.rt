@@ -9,6 +9,7 @@ ghost use Rattle.rc_parse.specs.Services.{is_service_header as is_service_header
 ghost use Rattle.rc_parse.specs.Code.Settings.{with_setting, with_settings};
 
 use crate::fault::Fault;
+use crate::lines::Section;
 use crate::parsed::{Parsed, diagnose};
 use crate::setting::{Setting, read_setting};
 use crate::words::{arguments, is_legal_name, shared};
@@ -121,24 +122,24 @@ fn set_options(
     Ok(())
 }
 
-/// Adds the `service` section with this header and these lines.
+/// Adds a `service` section.
 pub fn add_service(
     parsed: &mut Parsed,
     alloc: Global,
     file: &Text,
-    header: &Line<'_>,
-    lines: LineSlice<'_>,
+    section: Section<'_>,
 ) -> Result<(), NoMemory>
-    requires other { is_on header.now ≡ false }
-    requires service { is_service header.now ≡ true }
-    ensures { OnOk result (parsed.new ≡ with_section file.now parsed.old (section_of header.now lines.entry)) }
+    requires other { is_on section.header ≡ false }
+    requires service { is_service section.header ≡ true }
+    ensures { OnOk result (parsed.new ≡ with_section file.now parsed.old (section_of section.entry.header section.entry.body)) }
 {
+    let Section { header, body } = section;
     let words = arguments(header.words());
     if !is_service_header(words) {
         let kind = DiagKind::BadService;
         return diagnose(&mut parsed.diagnostics, file, header.number(), kind);
     }
     let mut service = new_service(alloc, file, header.number(), words)?;
-    set_options(&mut service, alloc, file, lines, &mut parsed.diagnostics)?;
+    set_options(&mut service, alloc, file, body, &mut parsed.diagnostics)?;
     parsed.services.push(service)
 }

@@ -1,12 +1,12 @@
 //! Files whose actions and services aren't kept: the same lines are judged as in `sections`, and no value is made of them.
 
-ghost use Rattle.std.specs.Prelude.{◌≡◌, ◌++◌, true, false, IfOk, OnOk, map};
+ghost use Rattle.std.specs.Prelude.{◌≡◌, ◌++◌, true, false, IfOk, OnOk};
 ghost use Rattle.std.specs.List.{list_any};
 ghost use Rattle.rc_parse.specs.Code.Adding.{command_diagnostics, section_of, setting_diagnostics};
 ghost use Rattle.rc_parse.specs.Code.Skimming.{settled, with_skim};
 ghost use Rattle.rc_parse.specs.Lines.{arguments as arguments_lem, is_on as is_on_lem, is_service as is_service_lem};
 ghost use Rattle.rc_parse.specs.Readings.{IsReading, diagnosed, values};
-ghost use Rattle.rc_parse.specs.Sections.{Sections, action_diagnostics, command_at, orphan, setting_at, settings_of};
+ghost use Rattle.rc_parse.specs.Sections.{Sections, action_diagnostics, command_at, orphan_diagnostics, setting_at, settings_of};
 ghost use Rattle.rc_parse.specs.Services.{is_override};
 ghost use Rattle.rc_parse.specs.Skims.{skim_of};
 ghost use Rattle.rc_parse.specs.Triggers.{triggers_of};
@@ -177,7 +177,7 @@ fn skim_orphans(
     file: &Text,
     mut lines: SpanSlice<'_>,
 ) -> Result<(), NoMemory>
-    ensures { OnOk result (diagnostics.new ≡ diagnostics.old ++ map (λ line. orphan file.now line.number) lines.entry) }
+    ensures { OnOk result (diagnostics.new ≡ diagnostics.old ++ orphan_diagnostics file.now lines.entry) }
 {
     while let Some(line) = lines.pop() {
         diagnose(diagnostics, file, line.number(), DiagKind::Orphan)?;

@@ -19,6 +19,7 @@ use Rattle.prop_contexts.specs.declared.line.Reading.TheVariants.{Skipped, Bad, 
 use Rattle.prop_contexts.specs.declared.context_line.Scope.{Scope}
 use Rattle.prop_contexts.specs.declared.context_line.Scope.TheVariants.{Default, Exact, Prefix}
 use Rattle.prop_contexts.proofs.Steps.{formed_in}
+use Rattle.script_lang.proofs.Tests.{and_left, and_right, or_true, or_left, or_right}
 use Rattle.refusal_causes.specs.Misfits.{first_is}
 use Rattle.refusal_causes.specs.Contexts.{enum_cause, is_default_line, is_default_name, is_exact, is_same, is_same_line, plain_type_cause, same_kind, tail_cause, type_cause}
 use Rattle.refusal_causes.specs.declared.policy.cause.ContextCause.TheVariants as cause
@@ -150,18 +151,6 @@ read_line (name ∷ label ∷ tail) line h =
     ] refl h
 
 -- ---- an earlier line
-
-or_true : (a b : Bool) → (a || b) ≡ true → (a ≡ true) ⊎ (b ≡ true)
-or_true true b h = inl refl
-or_true false b h = inr h
-
-or_left : (a b : Bool) → a ≡ true → (a || b) ≡ true
-or_left true b h = refl
-or_left false b h = cc
-
-or_right : (a b : Bool) → b ≡ true → (a || b) ≡ true
-or_right true b h = refl
-or_right false b h = h
 
 both_true : (a b : Bool) → a ≡ true → b ≡ true → (a && b) ≡ true
 both_true true b first second = second
@@ -299,14 +288,6 @@ default_line line (Read l) e formed is =
     let default : is_default_name l.line.name ≡ true = sym (ap (first_is is_default_name) read.words_are) ∙ is in
     list_any-append any_context (default_in l.scope l.line.context) []
     ∙ or_left (list_any any_context (default_in l.scope l.line.context)) false (ap (λ s. list_any any_context (default_in s l.line.context)) (read.default_is default))
-
-and_left : (a b : Bool) → (a && b) ≡ true → a ≡ true
-and_left true b h = refl
-and_left false b h = cc
-
-and_right : (a b : Bool) → (a && b) ≡ true → b ≡ true
-and_right true b h = h
-and_right false b h = cc
 
 pub any_default : (lines : List (List ℕ)) → formed_in lines ≡ true → list_any is_default_line lines ≡ true → list_any any_context (default_contexts lines) ≡ true
 any_default [] formed h = cc

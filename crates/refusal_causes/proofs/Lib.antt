@@ -1,4 +1,3 @@
-pub mod Words
 pub mod ScriptForms
 pub mod ScriptMisfits
 pub mod ScriptCauses

@@ -17,6 +17,7 @@ use Rattle.script_lang.specs.Statements.{reading_of, statement_of}
 use Rattle.script_lang.specs.declared.statement.Statement.{Statement}
 use Rattle.script_lang.specs.declared.statement.Statement.TheVariants as statement
 use Rattle.script_lang.proofs.Spellings.{statement_written}
+use Rattle.script_lang.proofs.Tests.{and_right, or_true, or_left, or_right}
 use Rattle.refusal_causes.specs.Misfits.{begins_declaration, client_cause, declaration_cause, declared_by, declares, first_is, is_act_line, is_client_line, is_declaring, late_cause, line_number, misfit_cause, too_many_cause, twice_cause}
 use Rattle.refusal_causes.specs.Misfits.{is_client as is_client_word}
 use Rattle.refusal_causes.specs.declared.script.cause.ScriptCause.TheVariants as cause
@@ -58,18 +59,6 @@ unsaid line h =
 -- each line that says a statement that passes passes
 abbrev pub Passes : (Statement → Bool) → (List ℕ → Bool) → Type 0
 Passes p q = (line : List ℕ) (s : Statement) → reading_of line ≡ Some (Some s) → p s ≡ true → q line ≡ true
-
-or_true : (a b : Bool) → (a || b) ≡ true → (a ≡ true) ⊎ (b ≡ true)
-or_true true b h = inl refl
-or_true false b h = inr h
-
-or_left : (a b : Bool) → a ≡ true → (a || b) ≡ true
-or_left true b h = refl
-or_left false b h = cc
-
-or_right : (a b : Bool) → b ≡ true → (a || b) ≡ true
-or_right true b h = refl
-or_right false b h = h
 
 first_passes : (p : Statement → Bool) (q : List ℕ → Bool) → Passes p q → (line : List ℕ) (o : Option (Option Statement)) → reading_of line ≡ o
     → list_any p (statements_in o) ≡ true → q line ≡ true
@@ -215,10 +204,6 @@ client_of_words name text (statement.Tick ms) permitted h = cc
 client_of_words name text (statement.Exit n status) permitted h = cc
 client_of_words name text (statement.File path content) permitted h = cc
 client_of_words name text (statement.Ask n request) permitted h = cc
-
-and_right : (a b : Bool) → (a && b) ≡ true → b ≡ true
-and_right true b h = h
-and_right false b h = cc
 
 client_tells : (name : List ℕ) → IsText name → Tells (is_client_named name) (declares (codes "client") (quoted name))
 client_tells name text = record {

@@ -5,7 +5,6 @@
 #![tactic(auto)]
 
 mod lines;
-mod names;
 mod policy;
 mod said;
 mod script;

@@ -1,24 +1,25 @@
 //! Why a line of a script is bad. The causes are defined in `specs/Script.antt`.
 
-ghost use Rattle.std.specs.Prelude.{◌≡◌, ◌↔◌, ℕ, IfOk, IsTrue, List as Bytes, MatchOption};
+ghost use Rattle.std.specs.Prelude.{◌≡◌, ◌↔◌, ℕ, IfOk, IsTrue, List as Bytes, MatchOption, not};
+ghost use Rattle.std.specs.List.{find};
 ghost use Rattle.refusal_causes.specs.Script.{IsScriptCause, line_cause as line_cause_lem, numbered_cause as numbered_cause_lem};
+ghost use Rattle.script_lang.specs.Lines.{is_permitted as is_permitted_lem};
 ghost use Rattle.script_lang.specs.Refusal.{IsBadAt, IsRefused};
 
 mod argument;
 pub mod cause;
 mod misfit;
-mod number;
 mod statement;
-mod words;
 
 use crate::lines::lines;
 use cause::ScriptCause;
 use init_base::{NoMemory, Text};
 use misfit::misfit_cause;
-use script_lang::{ScriptRefusal, each_text_has_one_reading};
+use script_lang::{
+    ScriptRefusal, all_words, each_text_has_one_reading, is_permitted, says_nothing,
+};
 use statement::statement_cause;
 use std::alloc::Global;
-use words::{all_words, forbidden_byte, says_nothing};
 
 /// Why the line with this number is the first bad one of a script, from 1. None exactly where it isn't.
 #[tactic(auto, using(crate::proofs::ScriptCauses::is_told))]
@@ -93,4 +94,11 @@ fn line_cause(alloc: Global, before: &[Text], line: &[u8]) -> Result<Option<Scri
         Some(cause) => Ok(Some(cause)),
         None => misfit_cause(alloc, before, words.items()),
     }
+}
+
+/// The first byte of a line that may not stand in one.
+fn forbidden_byte(line: &[u8]) -> Option<u8>
+    ensures { result ≡ find (λ byte. not (is_permitted_lem byte)) line.now }
+{
+    line.iter().copied().find(|byte| !is_permitted(*byte))
 }

@@ -13,6 +13,7 @@ use Rattle.script_lang.specs.declared.script.Script.{Script}
 use Rattle.script_lang.specs.declared.statement.Said.{Said}
 use Rattle.script_lang.specs.declared.statement.Statement.{Statement}
 use Rattle.script_lang.specs.declared.statement.Statement.TheVariants as statement
+use Rattle.script_lang.proofs.Tests.{and_right}
 
 -- the rest fits behind statements that are in the script
 pub record RestFits (script : Script) (rest : List Said) : Type 0 where
@@ -42,10 +43,6 @@ clients_more script line (statement.Tick ms) = omega arith
 clients_more script line (statement.Exit name status) = omega arith
 clients_more script line (statement.File path content) = omega arith
 clients_more script line (statement.Ask name ask) = omega arith
-
-and_right : (a b : Bool) → (a && b) ≡ true → b ≡ true
-and_right true b h = h
-and_right false b h = cc
 
 still_few : (before : List Statement) (s : Statement) → fits before s ≡ true → count_by is_client before ≤ 64
     → count_by is_client before + cond (is_client s) 1 0 ≤ 64

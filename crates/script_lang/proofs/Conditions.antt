@@ -28,14 +28,7 @@ use Rattle.script_lang.proofs.Gatherings.{misfit_is, all_said}
 use Rattle.script_lang.proofs.Misfits.{all_fit_is_none}
 use Rattle.script_lang.proofs.Readings.{neither}
 use Rattle.script_lang.proofs.Spellings.{statement_written}
-
-and_left : (a b : Bool) → (a && b) ≡ true → a ≡ true
-and_left true b h = refl
-and_left false b h = cc
-
-and_right : (a b : Bool) → (a && b) ≡ true → b ≡ true
-and_right true b h = h
-and_right false b h = cc
+use Rattle.script_lang.proofs.Tests.{and_left, and_right}
 
 -- ---- what lines say is permitted
 

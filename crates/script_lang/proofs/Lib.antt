@@ -1,3 +1,4 @@
+pub mod Tests
 pub mod LineWords
 pub mod Numerals
 pub mod Orders

@@ -1,5 +1,5 @@
 -- The first word of a line, and what stands behind it.
-use Rattle.std.proofs.Common.{◌≡◌, ℕ, suc, ◌+◌, ◌<◌, ◌≤◌, Bool, true, false, not, nat_lt, List, [], ◌∷◌, length, take, drop, get_or, filter, Some, None, unwrap_or, refl, sym, ap, ◌∙◌, arith, inl, inr, All, add-one}
+use Rattle.std.proofs.Common.{◌≡◌, ℕ, suc, ◌+◌, ◌<◌, ◌≤◌, Bool, true, false, not, nat_lt, List, [], ◌∷◌, length, take, drop, get_or, filter, Some, None, unwrap_or, refl, sym, ap, ◌∙◌, arith, inl, inr, All, add-one, length-drop}
 use Rattle.std.specs.List.{position, position_or_len, slice_split}
 use Rattle.std.proofs.Math.Seq.{drop-cons, take-length}
 use Rattle.std.proofs.Math.ListN.{drop_of_length-le}
@@ -132,3 +132,16 @@ word_cut line rest word behind start len found back stop front left =
     ∙ ap (λ n. take n rest ∷ words_of (drop n rest)) (sym stop)
     ∙ ap (λ w. w ∷ words_of (drop len rest)) (sym front)
     ∙ ap (λ b. word ∷ words_of b) (sym left)
+
+-- what stands behind the first word is shorter
+pub word_shorter : (line rest behind : List ℕ) (start len : ℕ) → Some start ≡ position (λ b. not (is_space b)) line → rest ≡ drop start line
+    → len ≡ position_or_len is_space rest → behind ≡ drop len rest → length behind < length line
+word_shorter line rest behind start len found back stop left =
+    let place = at_position (λ b. not (is_space b)) line start (sym found) in
+    let low : position_or_len (λ b. not (is_space b)) line < length line = omega (arith, place.0, place.1) in
+    let here : is_space (get_or line (position_or_len (λ b. not (is_space b)) line) 0) ≡ false = not-true _ (passes_at_first (λ b. not (is_space b)) line 0 low) in
+    let other : is_space (get_or line start 0) ≡ false = sym (ap (λ n. is_space (get_or line n 0)) place.0) ∙ here in
+    let cut : rest ≡ get_or line start 0 ∷ drop (suc start) line = back ∙ drop-cons line start 0 place.1 in
+    let some : len ≡ suc (position_or_len is_space (drop (suc start) line)) =
+    stop ∙ ap (position_or_len is_space) cut ∙ end_of_word (get_or line start 0) (drop (suc start) line) other in
+    omega (arith, some, place.1, ap length left, length-drop len rest, ap length cut, length-drop (suc start) line)

@@ -14,16 +14,8 @@ use Rattle.std.proofs.lemmas.Fmt.{decimal_digit, first_decimal, digits_decimal, 
 use Rattle.std.proofs.lemmas.List.{nil_from_length}
 use Rattle.std.proofs.lemmas.Str.Parse.{IsDigitsTest, IsNumeralModel, numerals_by_value}
 use Rattle.init_machine.proofs.DistinctSums.{bytes_eq-refl}
-use Rattle.script_lang.specs.Reading.{is_canonical}
-use Rattle.script_lang.specs.Statements.{number_in}
-
-and_left : (a b : Bool) → (a && b) ≡ true → a ≡ true
-and_left true b h = refl
-and_left false b h = cc
-
-and_right : (a b : Bool) → (a && b) ≡ true → b ≡ true
-and_right true b h = h
-and_right false b h = cc
+use Rattle.script_lang.specs.Statements.{is_canonical, number_in}
+use Rattle.script_lang.proofs.Tests.{and_left, and_right}
 
 tells : IsDigitsTest (λ ds. list_all is_ascii_digit ds ≡ true)
 tells = record {

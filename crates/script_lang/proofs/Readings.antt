@@ -1,7 +1,7 @@
 -- What the reader of scripts answers.
 use Rattle.std.proofs.Common.{◌≡◌, ℕ, ◌≤◌, List, [], length, Option, Some, None, refl, sym, ap, ◌∙◌, arith}
 use Rattle.script_lang.specs.Building.{built_from, empty_script}
-use Rattle.script_lang.specs.Gathering.{or_else, said_until}
+use Rattle.script_lang.specs.Gathering.{gathered_from, nothing_gathered, or_else, said_until}
 use Rattle.script_lang.specs.Lines.{lines_of}
 use Rattle.script_lang.specs.Ordering.{first_misfit, first_unfit}
 use Rattle.script_lang.specs.Refusal.{IsBadAt}
@@ -9,7 +9,7 @@ use Rattle.script_lang.specs.Script.{IsScript, IsWithinLimits, said_from, script
 use Rattle.script_lang.specs.declared.gather.Gathered.{Gathered}
 use Rattle.script_lang.specs.declared.script.Script.{Script}
 use Rattle.script_lang.proofs.Builds.{built_script}
-use Rattle.script_lang.proofs.Gatherings.{IsGathered, misfit_is, all_said}
+use Rattle.script_lang.proofs.Gatherings.{IsGathered, gathered_is, misfit_is, all_said}
 use Rattle.script_lang.proofs.Misfits.{none_is_all_fit, some_is_first_bad}
 
 -- what was gathered of a text within the limits
@@ -18,6 +18,15 @@ pub record IsWithin (bytes : List ℕ) (g : Gathered) : Type 0 where
   pub few_lines : g.lines ≤ 100000
   pub few_steps : g.steps ≤ 1000000
   pub gathered : IsGathered (lines_of bytes) g
+
+pub is_within : (bytes : List ℕ) (g : Gathered) → length bytes ≤ 16777216 → g.lines ≤ 100000 → g.steps ≤ 1000000
+    → g ≡ gathered_from nothing_gathered (lines_of bytes) → IsWithin bytes g
+is_within bytes g short few_lines few_steps gathered = record {
+  short = short;
+  few_lines = few_lines;
+  few_steps = few_steps;
+  gathered = gathered_is (lines_of bytes) g gathered;
+}
 
 within_limits : (bytes : List ℕ) (g : Gathered) → IsWithin bytes g → IsWithinLimits bytes
 within_limits bytes g within = record {

@@ -1,7 +1,8 @@
 -- What a line of a script says, by its words: a declaration or an act.
-use Rattle.std.specs.Prelude.{ℕ, Bool, ◌&&◌, nat_eq, nat_le, if◌then◌else◌, List, [], ◌∷◌, drop, codes, Option, Some, None}
+use Rattle.std.specs.Prelude.{ℕ, Bool, false, ◌&&◌, ◌==◌, nat_eq, nat_le, if◌then◌else◌, List, [], ◌∷◌, drop, length, codes, Option, Some, None}
+use Rattle.std.specs.Char.{is_ascii_digit}
 use Rattle.std.specs.Fmt.{decimal}
-use Rattle.std.specs.List.{starts_with}
+use Rattle.std.specs.List.{list_all, starts_with}
 use Rattle.std.specs.Option.{option_map}
 use Rattle.std.specs.Str.{bytes_eq}
 use Rattle.std.specs.Str.Parse.{digits_value}
@@ -23,6 +24,11 @@ abbrev pub number_in : ℕ → ℕ → List ℕ → Option ℕ
 number_in least most word =
     let number = digits_value 10 word in
     if nat_le least number && nat_le number most && bytes_eq (decimal number) word then Some number else None
+
+-- one digit, or more of which the first isn't 0
+abbrev pub is_canonical : List ℕ → Bool
+is_canonical [] = false
+is_canonical (digit ∷ digits) = if digit == 48 then length digits == 0 else list_all is_ascii_digit (digit ∷ digits)
 
 -- 2 ^ 53, the last moment of the clock in milliseconds
 abbrev pub last_moment : ℕ

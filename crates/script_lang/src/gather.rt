@@ -104,7 +104,7 @@ pub fn gather(alloc: Global, bytes: &[u8]) -> Result<Gathered, NoMemory>
 }
 
 /// The first line, without its LF, and what stands behind it.
-fn first_line(bytes: &[u8]) -> (&[u8], &[u8])
+pub fn first_line(bytes: &[u8]) -> (&[u8], &[u8])
     requires { bytes.now ≢ [] }
     ensures lines { lines_of bytes.now ≡ result.0.now ∷ lines_of result.1.now }
     ensures shorter { length result.1.now < length bytes.now }

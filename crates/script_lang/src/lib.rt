@@ -21,11 +21,16 @@ mod script;
 mod statement;
 mod words;
 
+pub use fault::Fault;
+pub use gather::first_line;
 pub use generator::{Generated, generate};
 pub use laws::{
     each_text_has_one_reading, inputs_are_those_of_the_parts, scripts_meet_conditions,
     statements_are_written_in_one_way,
 };
+pub use number::{decimal, is_canonical};
 pub use reader::read;
+pub use reading::{is_permitted, says_nothing};
 pub use refusal::ScriptRefusal;
-pub use script::{Act, Ask, Client, Script};
+pub use script::{Act, Ask, Client, Script, domains_of};
+pub use words::{all_words, first_word};

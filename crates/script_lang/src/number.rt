@@ -3,31 +3,35 @@
 ghost use Rattle.std.specs.Prelude.{◌≡◌, ◌^◌, ◌<◌};
 ghost use Rattle.std.specs.Char.{is_ascii_digit};
 ghost use Rattle.std.specs.List.{list_all};
-ghost use Rattle.script_lang.specs.Reading.{IsReading, is_canonical as is_canonical_lem};
-ghost use Rattle.script_lang.specs.Statements.{number_in, status_in};
+ghost use Rattle.script_lang.specs.Reading.{IsReading};
+ghost use Rattle.script_lang.specs.Statements.{is_canonical as is_canonical_lem, number_in, status_in};
 
 use crate::fault::Fault;
 
 /// The number from the least to the most that a word is in decimal, without leading zeros.
-pub fn number(word: &[u8], least: u64, most: u64) -> Result<u64, Fault>
+pub fn decimal(word: &[u8], least: u64, most: u64) -> Option<u64>
     requires { most < 2 ^ 54 }
-    ensures { IsReading result (number_in least most word.now) }
+    ensures { result ≡ number_in least most word.now }
 {
     if !is_canonical(word) {
-        return Err(Fault::Bad);
+        return None;
     }
     let mut number = 0;
     for digit in word {
         number = 10 * number + u64::from(*digit - b'0');
         if number > most {
-            return Err(Fault::Bad);
+            return None;
         }
     }
-    if number < least {
-        Err(Fault::Bad)
-    } else {
-        Ok(number)
-    }
+    if number < least { None } else { Some(number) }
+}
+
+/// The number of `decimal`. Bad exactly where there is none.
+pub fn number(word: &[u8], least: u64, most: u64) -> Result<u64, Fault>
+    requires { most < 2 ^ 54 }
+    ensures { IsReading result (number_in least most word.now) }
+{
+    decimal(word, least, most).ok_or(Fault::Bad)
 }
 
 /// The status of a process that a word is.
@@ -38,7 +42,7 @@ pub fn status(word: &[u8]) -> Result<u8, Fault>
 }
 
 /// Whether a word is one digit, or more of which the first isn't 0.
-fn is_canonical(word: &[u8]) -> bool
+pub fn is_canonical(word: &[u8]) -> bool
     ensures { result ≡ is_canonical_lem word.now }
 {
     match word {

@@ -31,7 +31,7 @@ pub fn reading(alloc: Global, line: &[u8]) -> Result<Option<Statement>, Fault>
 }
 
 /// Whether a line is empty or a comment.
-fn says_nothing(line: &[u8]) -> bool
+pub fn says_nothing(line: &[u8]) -> bool
     ensures { result ≡ says_nothing_lem line.now }
 {
     is_empty_line(line) || is_comment(line)
@@ -76,7 +76,8 @@ fn begins_with_hash(mut words: Words<'_>) -> bool
     }
 }
 
-fn is_permitted(byte: u8) -> bool
+/// Whether a byte may stand in a line.
+pub fn is_permitted(byte: u8) -> bool
     ensures { result ≡ is_permitted_lem byte }
 {
     (byte >= 0x21 && byte <= 0x7e) || is_space(byte)

@@ -1,7 +1,10 @@
 //! Scripts.
 
-use init_base::{ClientId, List, Text};
+ghost use Rattle.std.specs.Prelude.{◌≡◌, IfOk, map};
+
+use init_base::{ClientId, List, NoMemory, Text};
 use init_machine::{Pair, Plan};
+use std::alloc::Global;
 
 /// A client of the property service.
 #[derive(Debug, Drop)]
@@ -48,4 +51,15 @@ pub struct Script {
     pub acts: List<Act>,
     /// The line of each act.
     pub lines: List<u32>,
+}
+
+/// The domains of the clients.
+pub fn domains_of(alloc: Global, clients: &[Client]) -> Result<List<Text>, NoMemory>
+    ensures { IfOk result (λ domains. domains ≡ map (λ client. client.domain) clients.now) }
+{
+    let mut domains = List::new(alloc);
+    for client in clients {
+        domains.push(client.domain.share()?)?;
+    }
+    Ok(domains)
 }

@@ -1,11 +1,13 @@
 //! The words of a line, one after another.
 
-ghost use Rattle.std.specs.Prelude.{◌≡◌, ◌≢◌, [], ◌∷◌, MatchOption, MatchResult, not};
+ghost use Rattle.std.specs.Prelude.{◌≡◌, ◌≢◌, ◌<◌, [], ◌∷◌, IfOk, MatchOption, MatchResult, length, not};
 ghost use Rattle.script_lang.specs.Lines.{is_space as is_space_lem, words_of};
 ghost use Rattle.std.specs.List.{position, position_or_len};
 ghost use Rattle.script_lang.specs.Reading.{IsBad};
 
 use crate::fault::Fault;
+use init_base::{List, NoMemory, Text};
+use std::alloc::Global;
 use std::marker::Model;
 
 /// A line that is read word by word. It is the list of the words that are left to contracts.
@@ -55,9 +57,22 @@ impl<'a> Words<'a> {
     }
 }
 
+/// All words of a line.
+pub fn all_words(alloc: Global, line: &[u8]) -> Result<List<Text>, NoMemory>
+    ensures { IfOk result (λ words. words ≡ words_of line.now) }
+{
+    let mut words = List::new(alloc);
+    let mut left = Words::of(line);
+    while let Ok(word) = left.next() {
+        words.push(Text::of(alloc, word)?)?;
+    }
+    Ok(words)
+}
+
 /// The first word of a line, and what stands behind it.
-fn first_word(line: &[u8]) -> Option<(&[u8], &[u8])>
-    ensures { MatchOption result (words_of line.now ≡ []) (λ r. words_of line.now ≡ r.0.now ∷ words_of r.1.now) }
+pub fn first_word(line: &[u8]) -> Option<(&[u8], &[u8])>
+    ensures { MatchOption result (words_of line.now ≡ [])
+        (λ r. (words_of line.now ≡ r.0.now ∷ words_of r.1.now) × (length r.1.now < length line.now)) }
 {
     let (_, rest) = line.split_at(word_start(line)?);
     Some(rest.split_at(word_len(rest)))

@@ -9,8 +9,8 @@ use Rattle.trace_audit.specs.Taken.{HasTaken, with_history}
 use Rattle.trace_audit.specs.declared.taking.Audit.{Audit}
 use Rattle.trace_reader.specs.Pieces.{IsNext, LeavesFewer, with_front}
 use Rattle.trace_reader.specs.Reports.{IsReportOf, IsTextOf}
-use Rattle.trace_reader.specs.declared.fault.Fault.{Fault}
-use Rattle.trace_reader.specs.declared.fault.Fault.TheVariants as fault
+use Rattle.script_lang.specs.declared.fault.Fault.{Fault}
+use Rattle.script_lang.specs.declared.fault.Fault.TheVariants as fault
 use Rattle.trace_reader.specs.declared.piece.Piece.{Piece}
 use Rattle.trace_reader.specs.declared.piece.Piece.TheVariants as piece
 use Rattle.init_machine.specs.declared.diagnostic.Diagnostic.{Diagnostic}

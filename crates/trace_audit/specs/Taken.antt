@@ -18,8 +18,8 @@ use Rattle.trace_audit.specs.Progress.{Left, Takes, first_left, left_of}
 use Rattle.trace_audit.specs.declared.taking.Audit.{Audit}
 use Rattle.trace_audit.specs.declared.merge.Merge.{Merge}
 use Rattle.trace_audit.specs.declared.told.Gathered.{Gathered}
-use Rattle.trace_reader.specs.declared.fault.Fault.{Fault}
-use Rattle.trace_reader.specs.declared.fault.Fault.TheVariants as fault
+use Rattle.script_lang.specs.declared.fault.Fault.{Fault}
+use Rattle.script_lang.specs.declared.fault.Fault.TheVariants as fault
 
 -- ---- the order of the inputs
 

@@ -8,8 +8,8 @@ use Rattle.trace_audit.specs.Audited.{Audited, Says}
 use Rattle.trace_audit.specs.declared.verdict.Verdict.{Verdict}
 use Rattle.trace_audit.specs.declared.verdict.Verdict.TheVariants as verdict
 use Rattle.trace_reader.specs.Reports.{IsTextOf}
-use Rattle.trace_reader.specs.declared.fault.Fault.{Fault}
-use Rattle.trace_reader.specs.declared.fault.Fault.TheVariants as fault
+use Rattle.script_lang.specs.declared.fault.Fault.{Fault}
+use Rattle.script_lang.specs.declared.fault.Fault.TheVariants as fault
 
 -- the verdict is that on the report that the text is the text of
 pub record IsVerdictOn (o : Opening) (found : List Diagnostic) (script : Script) (text : List ℕ) (said : Verdict) : Type 0 where

@@ -32,9 +32,14 @@ fn kind_of(line: &[u8]) -> Kind {
     }
 }
 
-/// The number of the line at which the entry with this number begins; of the line behind the last entry where there are fewer.
+/// Whether a line of a kind ends those among which lines of the wanted kind stand.
+fn is_behind(kind: Kind, wanted: Kind) -> bool {
+    kind == Kind::End || (kind == Kind::Client && wanted == Kind::Entry)
+}
+
+/// The number of the line at which the part of a kind with this number begins; of the line behind the last one where there are fewer.
 /// None where the text has no such line.
-pub fn entry_line(text: &[u8], number: u64) -> Option<u64> {
+fn part_line(text: &[u8], number: u64, wanted: Kind) -> Option<u64> {
     let mut rest = text;
     let mut line: u64 = 0;
     let mut seen: u64 = 0;
@@ -42,38 +47,27 @@ pub fn entry_line(text: &[u8], number: u64) -> Option<u64> {
         let (first, behind) = cut_line(rest);
         rest = behind;
         line = line.saturating_add(1);
-        match kind_of(first) {
-            Kind::Entry => seen = seen.saturating_add(1),
-            Kind::Client | Kind::End => return Some(line),
-            Kind::Other => continue,
+        let kind = kind_of(first);
+        if kind == wanted {
+            seen = seen.saturating_add(1);
         }
-        if seen == number {
+        if is_behind(kind, wanted) || (kind == wanted && seen == number) {
             return Some(line);
         }
     }
     None
 }
 
+/// The number of the line at which the entry with this number begins; of the line behind the last entry where there are fewer.
+/// None where the text has no such line.
+pub fn entry_line(text: &[u8], number: u64) -> Option<u64> {
+    part_line(text, number, Kind::Entry)
+}
+
 /// The number of the line at which the part of the client with this number begins; of the last line where there are fewer.
 /// None where the text has no such line.
 pub fn client_line(text: &[u8], number: u64) -> Option<u64> {
-    let mut rest = text;
-    let mut line: u64 = 0;
-    let mut seen: u64 = 0;
-    while !rest.is_empty() {
-        let (first, behind) = cut_line(rest);
-        rest = behind;
-        line = line.saturating_add(1);
-        match kind_of(first) {
-            Kind::Client => seen = seen.saturating_add(1),
-            Kind::End => return Some(line),
-            Kind::Entry | Kind::Other => continue,
-        }
-        if seen == number {
-            return Some(line);
-        }
-    }
-    None
+    part_line(text, number, Kind::Client)
 }
 
 /// The first of some lines that differs from the one that should stand there, where this is the number of the first. None where

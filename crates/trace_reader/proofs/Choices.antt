@@ -6,7 +6,7 @@ use Rattle.std.specs.Str.{bytes_eq}
 use Rattle.init_machine.proofs.DistinctSums.{same_bytes}
 use Rattle.script_lang.specs.Statements.{with_two, with_three}
 use Rattle.trace_reader.specs.Reading.{IsBad, IsReading, bind, choose, with_four}
-use Rattle.trace_reader.specs.declared.fault.Fault.{Fault}
+use Rattle.script_lang.specs.declared.fault.Fault.{Fault}
 
 pub if_some : {A : Type 0} (test : Bool) (first second : Option A) (value : A) → cond test first second ≡ Some value
     → ((test ≡ true) × (first ≡ Some value)) ⊎ ((test ≡ false) × (second ≡ Some value))

@@ -21,8 +21,8 @@ use Rattle.trace_reader.specs.Reading.{IsReading, IsUnread, bind}
 use Rattle.trace_reader.specs.Split.{is_line_feed}
 use Rattle.trace_reader.specs.declared.draft.Draft.{Draft}
 use Rattle.trace_reader.specs.declared.draft.Part.TheVariants as part
-use Rattle.trace_reader.specs.declared.fault.Fault.{Fault}
-use Rattle.trace_reader.specs.declared.fault.Fault.TheVariants as fault
+use Rattle.script_lang.specs.declared.fault.Fault.{Fault}
+use Rattle.script_lang.specs.declared.fault.Fault.TheVariants as fault
 use Rattle.trace_reader.specs.declared.line.Line.{Line}
 use Rattle.trace_reader.specs.declared.line.Line.TheVariants as line
 use Rattle.trace_reader.proofs.Cuts.{bytes_of, fields_back, no_parts, parts_of}

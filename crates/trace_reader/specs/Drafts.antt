@@ -15,8 +15,8 @@ use Rattle.trace_reader.specs.Split.{is_line_feed, is_space}
 use Rattle.trace_reader.specs.declared.draft.Draft.{Draft}
 use Rattle.trace_reader.specs.declared.draft.Part.{Part}
 use Rattle.trace_reader.specs.declared.draft.Part.TheVariants as part
-use Rattle.trace_reader.specs.declared.fault.Fault.{Fault}
-use Rattle.trace_reader.specs.declared.fault.Fault.TheVariants as fault
+use Rattle.script_lang.specs.declared.fault.Fault.{Fault}
+use Rattle.script_lang.specs.declared.fault.Fault.TheVariants as fault
 use Rattle.trace_reader.specs.declared.line.Line.{Line}
 use Rattle.trace_reader.specs.declared.line.Line.TheVariants as line
 

@@ -7,7 +7,7 @@ use Rattle.trace_reader.specs.Drafts.{draft, finished, report_from}
 use Rattle.trace_reader.specs.Reading.{IsUnread}
 use Rattle.trace_reader.specs.Split.{is_line_feed}
 use Rattle.trace_reader.specs.declared.draft.Draft.{Draft}
-use Rattle.trace_reader.specs.declared.fault.Fault.{Fault}
+use Rattle.script_lang.specs.declared.fault.Fault.{Fault}
 use Rattle.trace_reader.specs.declared.piece.Piece.{Piece}
 use Rattle.trace_reader.specs.declared.piece.Piece.TheVariants as piece
 use Rattle.trace_reader.specs.declared.piece.Pieces.{Pieces}

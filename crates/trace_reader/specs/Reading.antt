@@ -3,8 +3,8 @@
 use Rattle.std.specs.Prelude.{◌≡◌, ℕ, if◌then◌else◌, List, [], ◌∷◌, Option, Some, None, Result, Ok, Err}
 use Rattle.std.specs.Str.{bytes_eq}
 use Rattle.script_lang.specs.Statements.{with_two, with_three}
-use Rattle.trace_reader.specs.declared.fault.Fault.{Fault}
-use Rattle.trace_reader.specs.declared.fault.Fault.TheVariants as fault
+use Rattle.script_lang.specs.declared.fault.Fault.{Fault}
+use Rattle.script_lang.specs.declared.fault.Fault.TheVariants as fault
 
 -- an answer of the code is this reading, unless memory ran out
 abbrev pub IsReading : {A : Type 0} → Result A Fault → Option A → Type 0

@@ -6,13 +6,13 @@ ghost use Rattle.trace_reader.specs.Reading.{IsReading, lone as lone_lem, only};
 ghost use Rattle.trace_reader.specs.Refusals.{cause_in, cause_of, how_of};
 ghost use Rattle.trace_reader.specs.Words.{tree_in};
 
-use crate::fault::Fault;
 use crate::fields::Fields;
 use crate::number::status;
 use crate::refusal::refusal;
 use crate::table::named;
 use crate::word::{only_number, only_text, tree_refusal};
 use init_machine::{Cause, FsRefusal, How};
+use script_lang::Fault;
 use std::alloc::Global;
 
 /// The causes of failures.

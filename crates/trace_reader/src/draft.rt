@@ -6,10 +6,10 @@ ghost use Rattle.trace_reader.specs.Pieces.{in_front};
 ghost use Rattle.trace_reader.specs.declared.draft.Part.TheVariants as part;
 ghost use Rattle.trace_reader.specs.Drafts.{IsStep, begun, empty_draft, finished, step, with_client, with_diagnostic, with_head, with_output, with_reading};
 
-use crate::fault::Fault;
 use crate::line::Line;
 use init_base::{List, NoMemory, Text};
 use init_machine::{ClientPart, Diagnostic, Entry, Input, Output, Reading, Report};
+use script_lang::Fault;
 use std::alloc::Global;
 use std::mem;
 

@@ -5,7 +5,7 @@ ghost use Rattle.std.specs.List.{position, slice_split};
 ghost use Rattle.trace_reader.specs.Split.{is_space};
 ghost use Rattle.trace_reader.specs.Reading.{IsBad};
 
-use crate::fault::Fault;
+use script_lang::Fault;
 use std::marker::Model;
 
 /// A line that is read field by field. It is the list of the fields that are left to contracts.

@@ -4,13 +4,13 @@ ghost use Rattle.std.specs.Prelude.{◌≡◌};
 ghost use Rattle.trace_reader.specs.Reading.{IsReading};
 ghost use Rattle.trace_reader.specs.Lines.{client_of, diagnostic_of, exit_of, file_of, input_of, set_of, tick_of};
 
-use crate::fault::Fault;
 use crate::fields::Fields;
 use crate::line::Line;
 use crate::number::{large, small, status};
 use crate::word::{kind, only_number, text, two_texts};
 use init_base::ClientId;
 use init_machine::{Diagnostic, Input};
+use script_lang::Fault;
 use std::alloc::Global;
 
 /// The input of an entry, by the first word of its head and the fields behind it.

@@ -8,7 +8,6 @@
 
 mod cause;
 mod draft;
-mod fault;
 mod fields;
 mod head;
 mod line;
@@ -23,6 +22,6 @@ mod serial;
 mod table;
 mod word;
 
-pub use fault::Fault;
 pub use piece::{Piece, Pieces, pieces_are_of_one_report};
 pub use reader::read;
+pub use script_lang::Fault;

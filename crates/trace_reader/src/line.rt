@@ -6,7 +6,6 @@ ghost use Rattle.trace_reader.specs.Reading.{IsReading};
 ghost use Rattle.trace_reader.specs.Lines.{head_of, inner_of, line_of};
 ghost use Rattle.trace_reader.specs.Split.{is_space};
 
-use crate::fault::Fault;
 use crate::fields::Fields;
 use crate::head::{client, diagnostic, input};
 use crate::output::output;
@@ -15,6 +14,7 @@ use crate::reading::reading;
 use crate::table::look_up;
 use init_base::Text;
 use init_machine::{Diagnostic, Input, Output, Reading};
+use script_lang::Fault;
 use std::alloc::Global;
 
 /// What a line between the first and the last one tells.

@@ -1,14 +1,11 @@
 //! Numbers in decimal, without leading zeros.
 
 ghost use Rattle.std.specs.Prelude.{◌≡◌, ◌+◌, ◌*◌, ◌<◌, ◌≤◌, MatchResult};
-ghost use Rattle.std.specs.Char.{is_ascii_digit};
-ghost use Rattle.std.specs.List.{list_all};
-ghost use Rattle.script_lang.specs.Reading.{is_canonical as is_canonical_lem};
 ghost use Rattle.script_lang.specs.Statements.{number_in, status_in};
 ghost use Rattle.trace_reader.specs.Reading.{IsBad, IsReading};
 ghost use Rattle.trace_reader.specs.Words.{large_in, small_in};
 
-use crate::fault::Fault;
+use script_lang::{Fault, is_canonical};
 
 /// The number of at most 64 bits that a word is.
 pub fn large(word: &[u8]) -> Result<u64, Fault>
@@ -57,21 +54,4 @@ fn with_digit(number: u64, digit: u8, most: u64) -> Result<u64, Fault>
         Some(more) if more <= most => Ok(more),
         _ => Err(Fault::Bad),
     }
-}
-
-/// Whether a word is one digit, or more of which the first isn't 0.
-fn is_canonical(word: &[u8]) -> bool
-    ensures { result ≡ is_canonical_lem word.now }
-{
-    match word {
-        [] => false,
-        [b'0', rest @ ..] => rest.is_empty(),
-        _ => has_only_digits(word),
-    }
-}
-
-fn has_only_digits(word: &[u8]) -> bool
-    ensures { result ≡ list_all is_ascii_digit word.now }
-{
-    word.iter().all(|byte| byte.is_ascii_digit())
 }

@@ -5,7 +5,6 @@ ghost use Rattle.trace_reader.specs.Reading.{IsReading, lone as lone_lem};
 ghost use Rattle.trace_reader.specs.Outputs.{action_of, command_of, kill_of, output_in, put_of, reap_of, spawn_of, unset_of, wait_child_of, wait_file_of, wait_of, wait_prop_of};
 
 use crate::cause::{cause, how};
-use crate::fault::Fault;
 use crate::fields::Fields;
 use crate::number::{large, small};
 use crate::output_word::OutputWord;
@@ -13,6 +12,7 @@ use crate::refusal::refusal;
 use crate::word::{command_word, only_number, only_text, text, texts, two_texts};
 use init_base::{Millis, Pid};
 use init_machine::Output;
+use script_lang::Fault;
 use std::alloc::Global;
 
 /// An output, by its first word and the fields behind it.

@@ -7,10 +7,10 @@ ghost use Rattle.trace_reader.specs.Pieces.{IsNext, LeavesFewer, left_of, most_e
 ghost use Rattle.trace_reader.specs.Reports.{IsReportOf};
 
 use crate::draft::Draft;
-use crate::fault::Fault;
 use crate::reader::{take_line, within_frame};
 use init_base::NoMemory;
 use init_machine::{Entry, Report};
+use script_lang::Fault;
 use std::alloc::Global;
 use std::mem;
 

@@ -8,11 +8,11 @@ ghost use Rattle.trace_reader.specs.Reports.{IsReportOf};
 ghost use Rattle.trace_reader.specs.Split.{is_line_feed};
 
 use crate::draft::Draft;
-use crate::fault::Fault;
 use crate::fields::cut;
 use crate::line::read_line;
 use init_base::NoMemory;
 use init_machine::Report;
+use script_lang::Fault;
 use std::alloc::Global;
 
 /// The first line of each text, with its end.

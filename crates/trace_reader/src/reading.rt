@@ -4,12 +4,12 @@ ghost use Rattle.std.specs.Prelude.{◌≡◌};
 ghost use Rattle.trace_reader.specs.Reading.{IsReading};
 ghost use Rattle.trace_reader.specs.Lines.{absent_of, again_of, found_of, reading_of};
 
-use crate::fault::Fault;
 use crate::fields::Fields;
 use crate::number::large;
 use crate::serial::serial;
 use crate::word::{only_number, text};
 use init_machine::Reading;
+use script_lang::Fault;
 use std::alloc::Global;
 
 /// A reading, by its first word and the fields behind it.

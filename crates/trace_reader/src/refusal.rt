@@ -4,12 +4,12 @@ ghost use Rattle.std.specs.Prelude.{◌≡◌};
 ghost use Rattle.trace_reader.specs.Reading.{IsReading, lone as lone_lem};
 ghost use Rattle.trace_reader.specs.Refusals.{area_full_of, refusal_in, refusal_of};
 
-use crate::fault::Fault;
 use crate::fields::Fields;
 use crate::number::large;
 use crate::table::named;
 use crate::word::{only_number, only_text};
 use init_machine::SetRefusal;
+use script_lang::Fault;
 use std::alloc::Global;
 
 /// The refusals that may stand in a trace.

@@ -4,8 +4,8 @@ ghost use Rattle.std.specs.Prelude.{◌≡◌, ◌<◌, IfOk, MatchResult, Some}
 ghost use Rattle.trace_reader.specs.Reading.{IsReading, IsUnread};
 ghost use Rattle.trace_reader.specs.Words.{byte_in, bytes_in, digit_in, serial_in};
 
-use crate::fault::Fault;
 use init_base::List;
+use script_lang::Fault;
 use std::alloc::Global;
 
 /// The serial that a word is: its eight bytes, the highest first.

@@ -3,7 +3,7 @@
 ghost use Rattle.std.specs.Prelude.{◌≡◌, map};
 ghost use Rattle.trace_reader.specs.Reading.{IsReading, choose};
 
-use crate::fault::Fault;
+use script_lang::Fault;
 
 /// What stands beside a word in a table. None exactly where no row has the word.
 pub fn look_up<T: Copy>(mut table: &[(&[u8], T)], word: &[u8]) -> Option<T>

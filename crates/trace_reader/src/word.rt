@@ -6,12 +6,12 @@ ghost use Rattle.init_machine.specs.Commands.{word_of};
 ghost use Rattle.trace_reader.specs.Reading.{IsReading, only, pair_of};
 ghost use Rattle.trace_reader.specs.Words.{kind_in, large_in, texts_in, tree_in};
 
-use crate::fault::Fault;
 use crate::fields::Fields;
 use crate::number::large;
 use crate::table::named;
 use init_base::{List, Text, unquoted};
 use init_machine::{DiagKind, FsRefusal, Word};
+use script_lang::Fault;
 use std::alloc::Global;
 
 const KINDS: [(&[u8], DiagKind); 16] = [

@@ -1,8 +1,8 @@
 //! Messages on services and their options.
 
 use super::text::Message;
-use crate::lines::{arguments, first_word};
 use init_base::{NoMemory, PropName, Text};
+use rc_parse::{arguments, first_word};
 use std::alloc::Global;
 
 /// The most bytes of a service's name.

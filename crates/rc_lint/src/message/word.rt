@@ -4,10 +4,10 @@ use super::nearest::{nearest_command, nearest_header, nearest_option};
 use super::options::option_arity;
 use super::text::Message;
 use crate::excuse::Part;
-use crate::lines::{arguments, first_word};
 use crate::not_modelled::{is_command_not_modelled, is_option_not_modelled};
 use init_base::{NoMemory, Text};
 use init_machine::{Arity, Word};
+use rc_parse::{arguments, first_word};
 use std::alloc::Global;
 
 /// Whether the word of a line is `onrestart`, behind which a command stands.

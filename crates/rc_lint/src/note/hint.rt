@@ -1,12 +1,12 @@
 //! Hints: what makes other mistakes hard to see.
 
 use super::{NoteKind, Notes};
-use crate::lines::first_word;
 use crate::message::Message;
 use crate::source::Source;
 use crate::watched::Seen;
 use init_base::{NoMemory, Text};
 use lint_findings::HintKind;
+use rc_parse::first_word;
 
 /// Adds the hints on the files that were read.
 ///

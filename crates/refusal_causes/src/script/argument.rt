@@ -4,9 +4,9 @@ ghost use Rattle.std.specs.Prelude.{◌≡◌, ◌^◌, ◌<◌, None, Some, IfO
 ghost use Rattle.refusal_causes.specs.Arguments.{act_arguments_of as act_arguments_of_lem, argument_cause as argument_cause_lem, arguments_of as arguments_of_lem, arguments_cause as arguments_cause_lem, legal_cause as legal_cause_lem, name_cause as name_cause_lem, number_cause as number_cause_lem, request_arguments_of as request_arguments_of_lem, text_cause as text_cause_lem};
 
 use super::cause::ScriptCause;
-use super::number::number;
-use crate::names::is_legal;
 use init_base::{NoMemory, Text, unquoted};
+use persist_file::is_legal;
+use script_lang::decimal;
 use std::alloc::Global;
 
 /// What a word behind the first one is.
@@ -135,7 +135,7 @@ fn number_cause(word: &Text, least: u64, most: u64) -> Result<Option<ScriptCause
     requires { most < 2 ^ 54 }
     ensures { IfOk result (λ cause. cause ≡ number_cause_lem least most word.now) }
 {
-    if number(word.bytes(), least, most).is_some() {
+    if decimal(word.bytes(), least, most).is_some() {
         return Ok(None);
     }
     let given = word.share()?;

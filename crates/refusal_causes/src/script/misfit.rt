@@ -6,8 +6,8 @@ ghost use Rattle.script_lang.specs.Lines.{words_of};
 ghost use Rattle.refusal_causes.specs.Misfits.{begins_declaration as begins_declaration_lem, client_cause as client_cause_lem, declaration_cause as declaration_cause_lem, declared_by, declares as declares_lem, first_of as first_of_lem, has_name as has_name_lem, is_act_line as is_act_line_lem, is_client_line as is_client_line_lem, is_declaring as is_declaring_lem, line_number, misfit_cause as misfit_cause_lem};
 
 use super::cause::ScriptCause;
-use super::words::{first_word, says_nothing};
 use init_base::{NoMemory, Text};
+use script_lang::{first_word, says_nothing};
 use std::alloc::Global;
 
 /// The most clients of a script.

@@ -6,9 +6,8 @@ ghost use Rattle.refusal_causes.specs.Store.{misspelled as misspelled_lem, name_
 ghost use Rattle.persist_file.specs.Causes.{value_in as value_in_lem};
 
 use super::cause::StoreFault;
-use crate::names::is_legal;
 use init_base::{BadValue, NoMemory, PropValue, Text};
-use persist_file::{Version, value_in, words_in};
+use persist_file::{Version, is_legal, value_in, words_in};
 use std::alloc::Global;
 
 /// Why a name isn't that of a property that is saved.

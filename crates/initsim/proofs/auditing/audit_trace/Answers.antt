@@ -9,7 +9,7 @@ use Rattle.initsim.specs.Tree.{TreeSays}
 use Rattle.init_words.specs.declared.form.Form.TheVariants.{Run}
 use Rattle.initsim.proofs.Ends.{audit_stop_ends, judged_ends}
 use Rattle.initsim.proofs.Judged.{counts_written, same_as_before, stop_of_audit, written_status}
-use Rattle.initsim.proofs.Says.{if_told, told as told_of}
+use Rattle.rc_import.proofs.Outcomes.{if_told, told as told_of}
 use Rattle.initsim.proofs.auditing.audit_trace.Goals as goal
 
 pub returns-in-Ok-clause-script : goal.returns-in-Ok-clause-script

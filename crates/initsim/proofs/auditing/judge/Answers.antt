@@ -6,7 +6,8 @@ use Rattle.initsim.specs.Prepared.{GivesSaved, ScriptOfJob, course_of}
 use Rattle.initsim.specs.Trace.{TraceSays}
 use Rattle.initsim.proofs.Judged.{asked_alone, judged_counts, judged_script, judged_store, judged_tree}
 use Rattle.initsim.proofs.Performed.{course_is, setup_fits}
-use Rattle.initsim.proofs.Says.{err_is, if_told, run_stop_trace, told as told_of}
+use Rattle.rc_import.proofs.Outcomes.{err_is, if_told, told as told_of}
+use Rattle.initsim.proofs.Says.{run_stop_trace}
 use Rattle.initsim.proofs.auditing.judge.Goals as goal
 
 pub returns-in_err-job-clause-trace : goal.returns-in_err-job-clause-trace

@@ -5,7 +5,7 @@ use Rattle.initsim.specs.Prepared.{course_of}
 use Rattle.initsim.specs.Stops.{GivesTrace}
 use Rattle.initsim.specs.Trace.{TraceSays}
 use Rattle.initsim.specs.Verdict.{IsVerdictOn}
-use Rattle.initsim.proofs.Says.{if_told, told as told_of}
+use Rattle.rc_import.proofs.Outcomes.{if_told, told as told_of}
 use Rattle.initsim.proofs.TextJudged.{judged_last, judged_said, judged_trace}
 use Rattle.initsim.proofs.auditing.judge_trace.Goals as goal
 

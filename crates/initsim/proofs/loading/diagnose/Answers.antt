@@ -2,8 +2,9 @@ use Rattle.std.proofs.Common.{refl, ◌∙◌, rules}
 use Rattle.init_base.specs.Faults.{Counted}
 use Rattle.initsim.specs.Stops.{GivesDiagnostics, has_read_fault}
 use Rattle.initsim.specs.declared.stop.Stop.TheVariants.{NoMemory}
-use Rattle.initsim.proofs.RcFiles.{told_alone, untold, world_viewed}
-use Rattle.initsim.proofs.Says.{err_is, told}
+use Rattle.rc_import.proofs.BuildFiles.{world_viewed}
+use Rattle.initsim.proofs.RcFiles.{told_alone, untold}
+use Rattle.rc_import.proofs.Outcomes.{err_is, told}
 use Rattle.initsim.proofs.loading.diagnose.Goals as goal
 
 pub returns-in_err-found-clause-diagnostics : goal.returns-in_err-found-clause-diagnostics

@@ -2,8 +2,9 @@ use Rattle.std.proofs.Common.{◌∙◌}
 use Rattle.init_base.specs.Faults.{Counted}
 use Rattle.initsim.specs.Stops.{GivesLoad, has_read_fault}
 use Rattle.initsim.specs.declared.stop.Stop.TheVariants.{NoMemory}
-use Rattle.initsim.proofs.RcFiles.{load_refused, world_viewed}
-use Rattle.initsim.proofs.Says.{err_is, told}
+use Rattle.rc_import.proofs.BuildFiles.{world_viewed}
+use Rattle.initsim.proofs.RcFiles.{load_refused}
+use Rattle.rc_import.proofs.Outcomes.{err_is, told}
 use Rattle.initsim.proofs.loading.load.Goals as goal
 
 pub returns-in_err-loaded-clause-load : goal.returns-in_err-loaded-clause-load

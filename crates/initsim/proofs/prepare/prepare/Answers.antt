@@ -6,7 +6,8 @@ use Rattle.initsim.specs.Stops.{status_of}
 use Rattle.initsim.specs.Prepared.{ArePrepared, GivesSaved, GivesSetup, IsAsked, ScriptOfJob}
 use Rattle.init_words.specs.declared.form.Form.TheVariants.{Run}
 use Rattle.initsim.proofs.Prepared.{setup_of_job, store_stop_counts, tree_fits}
-use Rattle.initsim.proofs.Says.{err_is, if_told, script_stop_of_run, store_stop_of_run, store_stop_script, store_stop_tree, told, tree_stop_of_run}
+use Rattle.rc_import.proofs.Outcomes.{err_is, if_told, told}
+use Rattle.initsim.proofs.Says.{script_stop_of_run, store_stop_of_run, store_stop_script, store_stop_tree, tree_stop_of_run}
 use Rattle.initsim.proofs.WellFormed.{job_is_fit}
 use Rattle.initsim.proofs.prepare.prepare.Goals as goal
 

@@ -7,7 +7,8 @@ use Rattle.initsim.specs.declared.stop.Stop.{Stop}
 use Rattle.initsim.specs.declared.stop.Stop.TheVariants as stop
 use Rattle.initsim.specs.Prepared.{GivesTree}
 use Rattle.initsim.proofs.RcFiles.{world_later}
-use Rattle.initsim.proofs.Says.{err_is, with_policy}
+use Rattle.rc_import.proofs.Outcomes.{err_is}
+use Rattle.initsim.proofs.Says.{with_policy}
 use Rattle.initsim.proofs.prepare.read_tree.Goals as goal
 
 -- what a check is refused by is of the tree

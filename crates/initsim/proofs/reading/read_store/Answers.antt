@@ -1,7 +1,7 @@
 use Rattle.persist_file.proofs.Printed.{stored_are_saved}
 use Rattle.std.specs.Prelude.{IfSome}
 use Rattle.initsim.specs.Stops.{GivesStore}
-use Rattle.initsim.proofs.Says.{err_is}
+use Rattle.rc_import.proofs.Outcomes.{err_is}
 use Rattle.initsim.proofs.Stores.{read_refused}
 use Rattle.initsim.proofs.reading.read_store.Goals as goal
 

@@ -1,6 +1,6 @@
 use Rattle.std.proofs.Common.{◌∙◌}
 use Rattle.initsim.specs.Stops.{GivesBuildFiles}
-use Rattle.initsim.proofs.Says.{err_is, if_told, told}
+use Rattle.rc_import.proofs.Outcomes.{err_is, if_told, told}
 use Rattle.initsim.proofs.TreeTexts.{build_files_read, unread_vendor}
 use Rattle.initsim.proofs.texts.read_build_files.Goals as goal
 

@@ -1,6 +1,6 @@
 use Rattle.std.proofs.Common.{◌∙◌}
 use Rattle.initsim.specs.Stops.{GivesPolicy}
-use Rattle.initsim.proofs.Says.{err_is, told}
+use Rattle.rc_import.proofs.Outcomes.{err_is, told}
 use Rattle.initsim.proofs.TreeTexts.{policy_read, policy_refused, read_as, unread_allow, unread_contexts}
 use Rattle.initsim.proofs.texts.read_policy.Goals as goal
 

@@ -5,7 +5,7 @@ use Rattle.init_words.specs.declared.form.Form.TheVariants.{Run}
 use Rattle.initsim.specs.Prepared.{GivesSaved, ScriptOfJob, course_of}
 use Rattle.initsim.proofs.Ends.{performed_ends, stop_ends}
 use Rattle.initsim.proofs.Performed.{counts_after, course_is, performed_as_before, performed_status, performed_tree}
-use Rattle.initsim.proofs.Says.{told as told_of}
+use Rattle.rc_import.proofs.Outcomes.{told as told_of}
 use Rattle.initsim.proofs.Seated.{run_given, run_records}
 use Rattle.initsim.proofs.top.run_script.Goals as goal
 

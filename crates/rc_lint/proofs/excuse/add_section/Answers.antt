@@ -1,6 +1,6 @@
 use Rattle.std.proofs.Common.{sym, ◌∙◌}
 use Rattle.rc_lint.proofs.Bodies.{in_action, in_service}
-use Rattle.rc_lint.proofs.Outcomes.{on_ok}
+use Rattle.rc_import.proofs.Outcomes.{on_ok}
 use Rattle.rc_lint.proofs.excuse.add_section.Goals as goal
 
 pub returns-in_ok-add_header : goal.returns-in_ok-add_header

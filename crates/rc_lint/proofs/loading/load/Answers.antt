@@ -3,7 +3,7 @@ use Rattle.init_base.specs.Faults.{Counted}
 use Rattle.rc_import.specs.Answers.{IsAnswer, is_read_fault}
 use Rattle.rc_import.specs.declared.loaded.LoadRefusal.TheVariants.{NoMemory}
 use Rattle.rc_lint.specs.Loads.{loaded}
-use Rattle.rc_lint.proofs.Outcomes.{err_is}
+use Rattle.rc_import.proofs.Outcomes.{err_is}
 use Rattle.rc_lint.proofs.loading.load.Goals as goal
 
 pub returns-in_err-append-clause-load : goal.returns-in_err-append-clause-load

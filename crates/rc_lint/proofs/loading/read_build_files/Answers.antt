@@ -1,6 +1,6 @@
 use Rattle.std.proofs.Common.{◌∙◌}
 use Rattle.rc_lint.proofs.Loads.{build_files_read}
-use Rattle.rc_lint.proofs.Outcomes.{if_told, told}
+use Rattle.rc_import.proofs.Outcomes.{if_told, told}
 use Rattle.rc_lint.proofs.loading.read_build_files.Goals as goal
 
 pub returns-clause-props : goal.returns-clause-props

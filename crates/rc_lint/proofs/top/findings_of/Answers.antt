@@ -4,7 +4,7 @@ use Rattle.rc_import.specs.Answers.{is_read_fault}
 use Rattle.rc_import.specs.declared.loaded.LoadRefusal.TheVariants.{NoMemory}
 use Rattle.rc_lint.specs.Excused.{errors_among}
 use Rattle.lint_findings.specs.Findings.{diagnostics_of}
-use Rattle.rc_lint.proofs.Outcomes.{err_is}
+use Rattle.rc_import.proofs.Outcomes.{err_is}
 use Rattle.rc_lint.proofs.top.findings_of.Goals as goal
 use Rattle.rc_lint.proofs.top.findings_of.Goals.{then-request+in_ok-add_notes, else-request}
 

@@ -4,7 +4,7 @@ use Rattle.rc_import.specs.Answers.{is_read_fault}
 use Rattle.rc_import.specs.declared.loaded.LoadRefusal.TheVariants.{NoMemory}
 use Rattle.rc_lint.specs.Code.Reported.{Finds}
 use Rattle.rc_lint.specs.Told.{IsTold}
-use Rattle.rc_lint.proofs.Outcomes.{err_is}
+use Rattle.rc_import.proofs.Outcomes.{err_is}
 use Rattle.rc_lint.proofs.Said.{later_answer}
 use Rattle.rc_lint.proofs.top.report_of.Goals as goal
 

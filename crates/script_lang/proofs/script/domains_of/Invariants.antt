@@ -1,5 +1,5 @@
 use Rattle.std.proofs.Common.{◌≡◌, ◌++◌, drop, map}
-use Rattle.initsim.proofs.prepare.domains_of.Given as goal
+use Rattle.script_lang.proofs.script.domains_of.Given as goal
 
 -- what is left decides
 abbrev pub invariant-loop-client : goal.invariant-loop-client

@@ -2,7 +2,7 @@ use Rattle.std.proofs.Common.{◌≡◌, ◌≤◌, IsTrue, drop}
 use Rattle.std.specs.Char.{is_ascii_digit}
 use Rattle.std.specs.List.{list_all}
 use Rattle.std.specs.Str.Parse.{digits_value, digits_value_after}
-use Rattle.script_lang.proofs.number.number.Given as goal
+use Rattle.script_lang.proofs.number.decimal.Given as goal
 
 -- what is left decides
 abbrev pub invariant-loop-digit : goal.invariant-loop-digit

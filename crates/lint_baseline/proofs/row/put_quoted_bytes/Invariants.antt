@@ -1,8 +1,0 @@
-use Rattle.std.proofs.Common.{◌≡◌, ◌++◌, drop}
-use Rattle.std.specs.List.{flat_map}
-use Rattle.init_base.specs.Quoted.{quoted_byte}
-use Rattle.lint_baseline.proofs.row.put_quoted_bytes.Given as goal
-
--- what is left decides
-abbrev pub invariant-loop-byte : goal.invariant-loop-byte
-invariant-loop-byte l = l.page.items ++ flat_map quoted_byte (drop l.byte-index l.bytes) ≡ l.initial.page.items ++ flat_map quoted_byte l.bytes
