@@ -23,5 +23,6 @@ pub mod Loads
 pub mod Stored
 pub mod Placed
 pub mod Ends
+pub mod Gaps
 pub mod Fronts
 pub mod Grown
