@@ -1,179 +1,228 @@
--- All gaps of a level: where a part goes that is none of its own, and what an addition changes.
-use Rattle.std.proofs.Common.{◌≡◌, ℕ, suc, ◌+◌, Bool, true, false, ⊎_elim, List, [], ◌∷◌, ◌++◌, filter, append-nil, append_assoc, sym, refl, ap, ◌∙◌, subst, arith}
+-- Where a part goes that no sibling has, and what its node changes.
+use Rattle.std.proofs.Common.{◌≡◌, ℕ, suc, ◌+◌, ◌<◌, ◌≤◌, true, false, not, ⊎_elim, List, [], ◌∷◌, ◌++◌, filter, Option, Some, None, sym, refl, ap, ◌∙◌, subst, arith}
+use Rattle.std.proofs.Common.{lt-ltb, le-ltb}
 use Rattle.std.specs.Prelude.{if◌then◌else◌}
-use Rattle.std.specs.Ordering.{is_lt, ordering_reverse}
+use Rattle.std.specs.BTreeMap.{insert_entry}
+use Rattle.std.specs.Ordering.{is_le, match_ordering}
 use Rattle.std.specs.declared.cmp.Ordering.{Ordering}
 use Rattle.std.specs.declared.cmp.Ordering.TheVariants.{Less, Equal, Greater}
 use Rattle.property_trie.specs.Parts.{compare_parts}
-use Rattle.property_trie.specs.Tree.{Tree, Cell, by_order, depth, chain, grown}
+use Rattle.property_trie.specs.Siblings.{Placed, nodes_in, first_of, last_of, is_up_to, node_before, node_from, free_link, GoesBefore, IsFreeAt, siblings_of}
+use Rattle.property_trie.specs.Tree.{Tree, Cell, depth, grown}
 use Rattle.property_trie.specs.Tree.Tree.{leaf, node}
 use Rattle.property_trie.specs.TreeWords.{link_at}
-use Rattle.property_trie.specs.Places.{EachSibling, IsOrdered}
+use Rattle.property_trie.specs.Places.{EachSibling, IsOrdered, IsRising, LiesFrom}
 use Rattle.property_trie.proofs.Orders.{at_less, at_equal, at_greater, orders}
-use Rattle.property_trie.proofs.Ends.{parts_total}
+use Rattle.property_trie.specs.PartOrder.{parts_total, turned, back, less_on, greater_on}
 
 abbrev Parts : Type 0
 Parts = List (List ℕ)
 
--- a part of a level, and the link behind it
-abbrev pub Gap : Type 0
-Gap = List ℕ × ℕ
+abbrev pub behind : List ℕ → List Placed → List Placed
+behind k ns = filter (λ n. not (is_up_to k n)) ns
 
--- the link in front of all siblings
-abbrev pub first_link : ℕ → Tree → ℕ
-first_link top leaf = top
-first_link top (node place part left right children cell) = first_link (place + 1) left
+abbrev pub up_to : List ℕ → List Placed → List Placed
+up_to k ns = filter (is_up_to k) ns
 
--- the siblings in order, each with the link behind it
-abbrev pub gaps : Tree → List Gap
-gaps leaf = []
-gaps (node place part left right children cell) = gaps left ++ (part, first_link (place + 2) right) ∷ gaps right
+-- a part compares so with each of these
+abbrev Each : Ordering → List ℕ → List Placed → Type 0
+Each o k [] = Unit {0}
+Each o k (n ∷ ns) = (compare_parts k n.0 ≡ o) × Each o k ns
 
-abbrev pub is_before : List ℕ → Gap → Bool
-is_before k g = is_lt (compare_parts g.0 k)
+each-append : (o : Ordering) (k : List ℕ) (xs ys : List Placed) → Each o k xs → Each o k ys → Each o k (xs ++ ys)
+each-append o k [] ys a b = b
+each-append o k (n ∷ xs) ys a b = (a.0, each-append o k xs ys a.1 b)
 
--- the parts before this one
-abbrev pub before : List ℕ → List Gap → List Gap
-before k xs = filter (is_before k) xs
+-- behind a node it is behind all siblings before it
+all_before : (t : Tree) (part k : List ℕ) → EachSibling Less t part → ((own : List ℕ) → compare_parts own part ≡ Less → compare_parts k own ≡ Greater) → Each Greater k (nodes_in t)
+all_before leaf part k each on = tt
+all_before (node place own left right children cell) part k each on =
+    each-append Greater k (nodes_in left) ((own, place) ∷ nodes_in right) (all_before left part k each.1 on) (on own each.0, all_before right part k each.2 on)
 
-abbrev pub last_link : ℕ → List Gap → ℕ
-last_link link [] = link
-last_link link (g ∷ xs) = last_link g.1 xs
+behind_part : (k part own : List ℕ) → compare_parts k part ≡ Greater → compare_parts own part ≡ Less → compare_parts k own ≡ Greater
+behind_part k part own on e = greater_on k part own on (turned own part e)
 
--- each of these parts compares so with another
-abbrev EachGap : Ordering → List Gap → List ℕ → Type 0
-EachGap o [] part = Unit {0}
-EachGap o (g ∷ xs) part = (compare_parts g.0 part ≡ o) × EachGap o xs part
+-- and the other way round
+all_behind : (t : Tree) (part k : List ℕ) → EachSibling Greater t part → compare_parts k part ≡ Less → Each Less k (nodes_in t)
+all_behind leaf part k each on = tt
+all_behind (node place own left right children cell) part k each on =
+    each-append Less k (nodes_in left) ((own, place) ∷ nodes_in right) (all_behind left part k each.1 on)
+    (less_on k part own on (back own part each.0), all_behind right part k each.2 on)
 
-each-append : (o : Ordering) (xs ys : List Gap) (part : List ℕ) → EachGap o xs part → EachGap o ys part → EachGap o (xs ++ ys) part
-each-append o [] ys part a b = b
-each-append o (g ∷ xs) ys part a b = (a.0, each-append o xs ys part a.1 b)
+-- ---- the neighbours
 
--- the siblings compare so as their gaps do
-each_gap : (o : Ordering) (t : Tree) (part : List ℕ) → EachSibling o t part → EachGap o (gaps t) part
-each_gap o leaf part each = tt
-each_gap o (node place own left right children cell) part each =
-    each-append o (gaps left) ((own, first_link (place + 2) right) ∷ gaps right) part (each_gap o left part each.1) (each.0, each_gap o right part each.2)
+-- the first of two that is there
+abbrev or_else : Option Placed → Option Placed → Option Placed
+or_else None b = b
+or_else (Some a) b = Some a
 
-less_on : (a b c : List ℕ) → compare_parts a b ≡ Less → compare_parts b c ≡ Less → compare_parts a c ≡ Less
-less_on a b c = parts_total.trans a b c
+behind_none : (k : List ℕ) (ns : List Placed) → Each Less k ns → behind k ns ≡ []
+behind_none k [] each = refl
+behind_none k (n ∷ ns) each = ap (λ o. if not (is_le o) then n ∷ behind k ns else behind k ns) each.0 ∙ behind_none k ns each.1
 
-turned : (a b : List ℕ) → compare_parts a b ≡ Less → compare_parts b a ≡ Greater
-turned a b e = parts_total.antisymm b a ∙ ap ordering_reverse e
+up_to_none : (k : List ℕ) (ns : List Placed) → Each Greater k ns → up_to k ns ≡ []
+up_to_none k [] each = refl
+up_to_none k (n ∷ ns) each = ap (λ o. if is_le o then n ∷ up_to k ns else up_to k ns) each.0 ∙ up_to_none k ns each.1
 
-back : (a b : List ℕ) → compare_parts a b ≡ Greater → compare_parts b a ≡ Less
-back a b e = parts_total.antisymm b a ∙ ap ordering_reverse e
+-- at a node that the part goes before
+behind_left : (k : List ℕ) (xs : List Placed) (n : Placed) (ys : List Placed) → compare_parts k n.0 ≡ Less → Each Less k ys → behind k (xs ++ n ∷ ys) ≡ behind k xs
+behind_left k [] n ys less each = ap (λ o. if not (is_le o) then n ∷ behind k ys else behind k ys) less ∙ behind_none k ys each
+behind_left k (x ∷ xs) n ys less each = ap (λ l. if not (is_up_to k x) then x ∷ l else l) (behind_left k xs n ys less each)
 
-each_less : (xs : List Gap) (part k : List ℕ) → EachGap Less xs part → compare_parts part k ≡ Less → EachGap Less xs k
-each_less [] part k each on = tt
-each_less (g ∷ xs) part k each on = (less_on g.0 part k each.0 on, each_less xs part k each.1 on)
+first_left : (k : List ℕ) (xs : List Placed) (n : Placed) (ys : List Placed) → is_up_to k n ≡ true → first_of (up_to k (xs ++ n ∷ ys)) ≡ or_else (first_of (up_to k xs)) (Some n)
+first_left k [] n ys on = ap (λ b. first_of (if b then n ∷ up_to k ys else up_to k ys)) on
+first_left k (x ∷ xs) n ys on = elim (is_up_to k x) as (λ b. first_of (if b then x ∷ up_to k (xs ++ n ∷ ys) else up_to k (xs ++ n ∷ ys))
+    ≡ or_else (first_of (if b then x ∷ up_to k xs else up_to k xs)) (Some n)) [
+      | true ↦ refl
+      | false ↦ first_left k xs n ys on
+    ]
 
-each_greater : (xs : List Gap) (part k : List ℕ) → EachGap Greater xs part → compare_parts k part ≡ Less → EachGap Greater xs k
-each_greater [] part k each on = tt
-each_greater (g ∷ xs) part k each on = (turned k g.0 (less_on k part g.0 on (back g.0 part each.0)), each_greater xs part k each.1 on)
+-- at a node that it goes behind
+up_to_right : (k : List ℕ) (xs : List Placed) (n : Placed) (ys : List Placed) → Each Greater k xs → compare_parts k n.0 ≡ Greater → up_to k (xs ++ n ∷ ys) ≡ up_to k ys
+up_to_right k [] n ys each more = ap (λ o. if is_le o then n ∷ up_to k ys else up_to k ys) more
+up_to_right k (x ∷ xs) n ys each more = ap (λ o. if is_le o then x ∷ up_to k (xs ++ n ∷ ys) else up_to k (xs ++ n ∷ ys)) each.0 ∙ up_to_right k xs n ys each.1 more
 
-before_all : (k : List ℕ) (xs ys : List Gap) → EachGap Less xs k → before k (xs ++ ys) ≡ xs ++ before k ys
-before_all k [] ys each = refl
-before_all k (g ∷ xs) ys each =
-    ap (λ o. if is_lt o then g ∷ before k (xs ++ ys) else before k (xs ++ ys)) each.0 ∙ ap (λ (l : List Gap). g ∷ l) (before_all k xs ys each.1)
+last_else : (n : Placed) (ns : List Placed) → last_of (n ∷ ns) ≡ or_else (last_of ns) (Some n)
+last_else n [] = refl
+last_else n (x ∷ ns) = refl
 
-before_none : (k : List ℕ) (xs : List Gap) → EachGap Greater xs k → before k xs ≡ []
-before_none k [] each = refl
-before_none k (g ∷ xs) each = ap (λ o. if is_lt o then g ∷ before k xs else before k xs) each.0 ∙ before_none k xs each.1
+last_right : (k : List ℕ) (xs : List Placed) (n : Placed) (ys : List Placed) → Each Greater k xs → compare_parts k n.0 ≡ Greater
+    → last_of (behind k (xs ++ n ∷ ys)) ≡ or_else (last_of (behind k ys)) (Some n)
+last_right k [] n ys each more = ap (λ o. last_of (if not (is_le o) then n ∷ behind k ys else behind k ys)) more ∙ last_else n (behind k ys)
+last_right k (x ∷ xs) n ys each more =
+    ap (λ o. last_of (if not (is_le o) then x ∷ behind k (xs ++ n ∷ ys) else behind k (xs ++ n ∷ ys))) each.0
+    ∙ last_else x (behind k (xs ++ n ∷ ys))
+    ∙ ap (λ o. or_else o (Some x)) (last_right k xs n ys each.1 more)
+    ∙ twice (last_of (behind k ys))
+  where
+    twice : (o : Option Placed) → or_else (or_else o (Some n)) (Some x) ≡ or_else o (Some n)
+    twice None = refl
+    twice (Some a) = refl
 
-before_front : (k : List ℕ) (xs : List Gap) (g : Gap) (ys : List Gap) → is_before k g ≡ false → EachGap Greater ys k → before k (xs ++ g ∷ ys) ≡ before k xs
-before_front k [] g ys off each = ap (λ b. if b then g ∷ before k ys else before k ys) off ∙ before_none k ys each
-before_front k (x ∷ xs) g ys off each = ap (λ l. if is_before k x then x ∷ l else l) (before_front k xs g ys off each)
+-- ---- the free link
 
-last-append : (link : ℕ) (xs : List Gap) (g : Gap) (ys : List Gap) → last_link link (xs ++ g ∷ ys) ≡ last_link g.1 ys
-last-append link [] g ys = refl
-last-append link (x ∷ xs) g ys = last-append x.1 xs g ys
+-- all nodes lie behind the place of this one
+abbrev Low : Option Placed → Tree → Type 0
+Low None t = Unit {0}
+Low (Some n) t = LiesFrom (n.1 + 1) t
+
+lies_left : (place : ℕ) (part : List ℕ) (left right children : Tree) (cell : Cell) (o : Option Placed) → Low o (node place part left right children cell) → Low o left
+lies_left place part left right children cell None h = tt
+lies_left place part left right children cell (Some n) h = h.1
+
+lies_right : (place : ℕ) (part : List ℕ) (left right children : Tree) (cell : Cell) (o : Option Placed) → Low o (node place part left right children cell) → Low o right
+lies_right place part left right children cell None h = tt
+lies_right place part left right children cell (Some n) h = h.2
+
+free_before : (top place : ℕ) (part : List ℕ) (left right children : Tree) (cell : Cell) (lo : Option Placed) → Low lo (node place part left right children cell)
+    → place + 1 ≡ free_link top lo (Some (part, place))
+free_before top place part left right children cell None h = refl
+free_before top place part left right children cell (Some a) h =
+    let low : a.1 < place = let at = h.0 in omega (arith, at) in ap (λ b. if b then place + 1 else a.1 + 2) (sym (lt-ltb a.1 place low))
+
+free_behind : (top place : ℕ) (part : List ℕ) (left right children : Tree) (cell : Cell) (hi : Option Placed) → Low hi (node place part left right children cell)
+    → place + 2 ≡ free_link top (Some (part, place)) hi
+free_behind top place part left right children cell None h = refl
+free_behind top place part left right children cell (Some b) h =
+    let low : b.1 ≤ place = let at = h.0 in omega (arith, at) in ap (λ t. if t then b.1 + 1 else place + 2) (sym (le-ltb place b.1 low))
+
+-- what is so of an option that another one fills
+or_else_twice : (o p : Option Placed) (n : Placed) → or_else (or_else o (Some n)) p ≡ or_else o (Some n)
+or_else_twice None p n = refl
+or_else_twice (Some a) p n = refl
+
+goes_before_left : (k : List ℕ) (o : Option Placed) (n : Placed) → GoesBefore k (or_else o (Some n)) → GoesBefore k o
+goes_before_left k None n h = tt
+goes_before_left k (Some a) n h = h
+
+abbrev Free : ℕ → Option Placed → Option Placed → Tree → List ℕ → ℕ → Type 0
+Free T lo hi t k link = link ≡ free_link T (or_else (node_before k (nodes_in t)) lo) (or_else (node_from k (nodes_in t)) hi)
+
+-- at the link that two neighbours leave free stand those siblings that go between them
+between : (T top : ℕ) (lo hi : Option Placed) (t : Tree) (k : List ℕ) (ps : Parts) → IsOrdered t → IsRising t → Low lo t → Low hi t → top ≡ free_link T lo hi
+    → GoesBefore k (node_from k (nodes_in t)) → Free T lo hi t k (link_at top t (k ∷ ps)) × (depth t (k ∷ ps) ≡ 0)
+between T top lo hi leaf k ps ord rise low_lo low_hi is goes = (is, refl)
+between T top lo hi (node place part left right children cell) k ps ord rise low_lo low_hi is goes =
+    let n : Placed = (part, place) in
+    let xs = nodes_in left in
+    let ys = nodes_in right in
+    ⊎_elim
+    (λ (l : compare_parts k part ≡ Less).
+    let first = first_left k xs n ys (ap is_le l) in
+    let last = ap last_of (behind_left k xs n ys l (all_behind right part k ord.1 l)) in
+    let more = between T (place + 1) lo (Some n) left k ps ord.2 rise.3 (lies_left place part left right children cell lo low_lo) rise.0
+    (free_before T place part left right children cell lo low_lo) (goes_before_left k (node_from k xs) n (subst (GoesBefore k) first goes)) in (
+      at_less (compare_parts k part) _ _ _ l ∙ more.0
+      ∙ (λ i. free_link T (or_else (sym last i) lo) ((sym (or_else_twice (node_from k xs) hi n) ∙ ap (λ o. or_else o hi) (sym first)) i)),
+      at_less (compare_parts k part) _ _ _ l ∙ more.1,
+    ))
+    (⊎_elim
+    (λ (s : compare_parts k part ≡ Equal).
+    let each = all_before left part k ord.0 (λ own e. parts_total.congr k part own s ∙ turned own part e) in
+    let first = first_left k xs n ys (ap is_le s) ∙ ap (λ ns. or_else (first_of ns) (Some n)) (up_to_none k xs each) in
+    let less : compare_parts k part ≡ Less = subst (GoesBefore k) first goes in
+    absurd (cc))
+    (λ (g : compare_parts k part ≡ Greater).
+    let each = all_before left part k ord.0 (λ own e. behind_part k part own g e) in
+    let first = ap first_of (up_to_right k xs n ys each g) in
+    let last = last_right k xs n ys each g in
+    let more = between T (place + 2) (Some n) hi right k ps ord.3 rise.4 rise.1 (lies_right place part left right children cell hi low_hi)
+    (free_behind T place part left right children cell hi low_hi) (subst (GoesBefore k) first goes) in (
+      at_greater (compare_parts k part) _ _ _ g ∙ more.0
+      ∙ (λ i. free_link T ((sym (or_else_twice (node_before k ys) lo n) ∙ ap (λ o. or_else o lo) (sym last)) i) (or_else (sym first i) hi)),
+      at_greater (compare_parts k part) _ _ _ g ∙ more.1,
+    )))
+    (orders (compare_parts k part))
+
+or_else_none : (o : Option Placed) → or_else o None ≡ o
+or_else_none None = refl
+or_else_none (Some a) = refl
+
+-- so is a part that no sibling has
+pub linked_free : (top : ℕ) (t : Tree) (k : List ℕ) (ps : Parts) (link : ℕ) → IsOrdered t → IsRising t → IsFreeAt k (siblings_of top t) link
+    → (link_at top t (k ∷ ps) ≡ link) × (depth t (k ∷ ps) ≡ 0)
+linked_free top t k ps link ord rise free =
+    let more = between top top None None t k ps ord rise tt tt refl free.0 in
+    (more.0 ∙ (λ i. free_link top (or_else_none (node_before k (nodes_in t)) i) (or_else_none (node_from k (nodes_in t)) i)) ∙ sym free.1, more.1)
+
+-- ---- a node more
+
+insert_left : (p : List ℕ) (place : ℕ) (xs : List Placed) (n : Placed) (ys : List Placed) → compare_parts p n.0 ≡ Less
+    → insert_entry compare_parts (xs ++ n ∷ ys) p place ≡ insert_entry compare_parts xs p place ++ n ∷ ys
+insert_left p place [] n ys less = ap (λ o. match_ordering o ((p, place) ∷ n ∷ ys) ((n.0, place) ∷ ys) (n ∷ insert_entry compare_parts ys p place)) less
+insert_left p place (x ∷ xs) n ys less =
+    ap (λ l. match_ordering (compare_parts p x.0) ((p, place) ∷ x ∷ xs ++ n ∷ ys) ((x.0, place) ∷ xs ++ n ∷ ys) (x ∷ l)) (insert_left p place xs n ys less)
+    ∙ elim (compare_parts p x.0) as (λ o. match_ordering o ((p, place) ∷ x ∷ xs ++ n ∷ ys) ((x.0, place) ∷ xs ++ n ∷ ys) (x ∷ insert_entry compare_parts xs p place ++ n ∷ ys)
+    ≡ match_ordering o ((p, place) ∷ x ∷ xs) ((x.0, place) ∷ xs) (x ∷ insert_entry compare_parts xs p place) ++ n ∷ ys) [
+      | Less ↦ refl
+      | Equal ↦ refl
+      | Greater ↦ refl
+    ]
+
+insert_right : (p : List ℕ) (place : ℕ) (xs : List Placed) (n : Placed) (ys : List Placed) → Each Greater p xs → compare_parts p n.0 ≡ Greater
+    → insert_entry compare_parts (xs ++ n ∷ ys) p place ≡ xs ++ n ∷ insert_entry compare_parts ys p place
+insert_right p place [] n ys each more = ap (λ o. match_ordering o ((p, place) ∷ n ∷ ys) ((n.0, place) ∷ ys) (n ∷ insert_entry compare_parts ys p place)) more
+insert_right p place (x ∷ xs) n ys each more =
+    ap (λ o. match_ordering o ((p, place) ∷ x ∷ xs ++ n ∷ ys) ((x.0, place) ∷ xs ++ n ∷ ys) (x ∷ insert_entry compare_parts (xs ++ n ∷ ys) p place)) each.0
+    ∙ ap (λ (l : List Placed). x ∷ l) (insert_right p place xs n ys each.1 more)
 
 not_zero : (n : ℕ) → 1 + n ≡ 0 → ⊥
 not_zero n e = omega arith
 
--- a part that is none of the level's is linked behind the last one before it
-pub linked_in_gap : (top : ℕ) (t : Tree) (k : List ℕ) (ps : Parts) → IsOrdered t → depth t (k ∷ ps) ≡ 0
-    → link_at top t (k ∷ ps) ≡ last_link (first_link top t) (before k (gaps t))
-linked_in_gap top leaf k ps ord none = refl
-linked_in_gap top (node place part left right children cell) k ps ord none =
-    ⊎_elim
-    (λ (l : compare_parts k part ≡ Less).
-    let off : is_lt (compare_parts part k) ≡ false = ap is_lt (turned k part l) in
-    at_less (compare_parts k part) _ _ _ l ∙ linked_in_gap (place + 1) left k ps ord.2 (sym (at_less (compare_parts k part) _ _ _ l) ∙ none)
-    ∙ ap (last_link (first_link (place + 1) left)) (sym (before_front k (gaps left) (part, first_link (place + 2) right) (gaps right) off
-    (each_greater (gaps right) part k (each_gap Greater right part ord.1) l))))
-    (⊎_elim
-    (λ (s : compare_parts k part ≡ Equal). absurd (not_zero (depth children ps) (sym (at_equal (compare_parts k part) _ _ _ s) ∙ none)))
-    (λ (g : compare_parts k part ≡ Greater).
-    let own : Gap = (part, first_link (place + 2) right) in
-    let on : compare_parts part k ≡ Less = back k part g in
-    at_greater (compare_parts k part) _ _ _ g ∙ linked_in_gap (place + 2) right k ps ord.3 (sym (at_greater (compare_parts k part) _ _ _ g) ∙ none)
-    ∙ sym (ap (last_link (first_link (place + 1) left)) (before_all k (gaps left) (own ∷ gaps right) (each_less (gaps left) part k (each_gap Less left part ord.0) on)
-    ∙ ap (λ l. gaps left ++ l) (ap (λ o. if is_lt o then own ∷ before k (gaps right) else before k (gaps right)) on))
-    ∙ last-append (first_link (place + 1) left) (gaps left) own (before k (gaps right)))))
-    (orders (compare_parts k part))
-
--- the first link and the gaps, with a part more whose node lies at this place
-abbrev pub put_first : List ℕ → ℕ → ℕ → List Gap → ℕ
-put_first p place first [] = place + 1
-put_first p place first (g ∷ xs) = if is_before p g then first else place + 1
-
-abbrev pub put_gap : List ℕ → ℕ → List Gap → List Gap
-put_gap p place [] = (p, place + 2) ∷ []
-put_gap p place (g ∷ xs) = if is_before p g then (g.0, put_first p place g.1 xs) ∷ put_gap p place xs else (p, place + 2) ∷ g ∷ xs
-
-first_before : (p : List ℕ) (place first : ℕ) (xs : List Gap) (g : Gap) (ys : List Gap) → is_before p g ≡ false → put_first p place first (xs ++ g ∷ ys) ≡ put_first p place first xs
-first_before p place first [] g ys off = ap (λ b. if b then first else place + 1) off
-first_before p place first (x ∷ xs) g ys off = refl
-
-put_before : (p : List ℕ) (place : ℕ) (xs : List Gap) (g : Gap) (ys : List Gap) → is_before p g ≡ false → put_gap p place (xs ++ g ∷ ys) ≡ put_gap p place xs ++ g ∷ ys
-put_before p place [] g ys off = ap (λ b. if b then (g.0, put_first p place g.1 ys) ∷ put_gap p place ys else (p, place + 2) ∷ g ∷ ys) off
-put_before p place (x ∷ xs) g ys off =
-    (λ i. if is_before p x then (x.0, first_before p place x.1 xs g ys off i) ∷ put_before p place xs g ys off i else (p, place + 2) ∷ x ∷ xs ++ g ∷ ys)
-    ∙ elim (is_before p x) as (λ b. (if b then (x.0, put_first p place x.1 xs) ∷ put_gap p place xs ++ g ∷ ys else (p, place + 2) ∷ x ∷ xs ++ g ∷ ys)
-    ≡ (if b then (x.0, put_first p place x.1 xs) ∷ put_gap p place xs else (p, place + 2) ∷ x ∷ xs) ++ g ∷ ys) [
-      | true ↦ refl
-      | false ↦ refl
-    ]
-
--- behind parts that go before it, the last of which has its link changed
-put_after : (p : List ℕ) (place first : ℕ) (xs : List Gap) (g : Gap) (ys : List Gap) → EachGap Less xs p → compare_parts g.0 p ≡ Less
-    → (put_first p place first (xs ++ g ∷ ys) ≡ first) × (put_gap p place (xs ++ g ∷ ys) ≡ xs ++ (g.0, put_first p place g.1 ys) ∷ put_gap p place ys)
-put_after p place first [] g ys each on = (
-  ap (λ o. if is_lt o then first else place + 1) on,
-  ap (λ o. if is_lt o then (g.0, put_first p place g.1 ys) ∷ put_gap p place ys else (p, place + 2) ∷ g ∷ ys) on,
-)
-put_after p place first (x ∷ xs) g ys each on =
-    let more = put_after p place x.1 xs g ys each.1 on in (
-      ap (λ o. if is_lt o then first else place + 1) each.0,
-      ap (λ o. if is_lt o then (x.0, put_first p place x.1 (xs ++ g ∷ ys)) ∷ put_gap p place (xs ++ g ∷ ys) else (p, place + 2) ∷ x ∷ xs ++ g ∷ ys) each.0
-      ∙ (λ i. (x.0, more.0 i) ∷ more.1 i),
-    )
-
--- an addition at the level
-pub grown_gaps : (n top : ℕ) (t : Tree) (p : List ℕ) (rest : Parts) (place : ℕ) → IsOrdered t → depth t (p ∷ rest) ≡ 0
-    → (first_link top (grown (suc n) t (p ∷ rest) place) ≡ put_first p place (first_link top t) (gaps t)) × (gaps (grown (suc n) t (p ∷ rest) place) ≡ put_gap p place (gaps t))
-grown_gaps n top leaf p rest place ord none = (refl, refl)
-grown_gaps n top (node at part left right children cell) p rest place ord none =
+pub grown_level : (n : ℕ) (t : Tree) (p : List ℕ) (rest : Parts) (place : ℕ) → IsOrdered t → depth t (p ∷ rest) ≡ 0
+    → nodes_in (grown (suc n) t (p ∷ rest) place) ≡ insert_entry compare_parts (nodes_in t) p place
+grown_level n leaf p rest place ord none = refl
+grown_level n (node at part left right children cell) p rest place ord none =
+    let own : Placed = (part, at) in
     ⊎_elim
     (λ (l : compare_parts p part ≡ Less).
-    let off : is_lt (compare_parts part p) ≡ false = ap is_lt (turned p part l) in
-    let own : Gap = (part, first_link (at + 2) right) in
-    let more = grown_gaps n (at + 1) left p rest place ord.2 (sym (at_less (compare_parts p part) _ _ _ l) ∙ none) in
-    let is = at_less (compare_parts p part) (node at part (grown (suc n) left (p ∷ rest) place) right children cell) _ _ l in (
-      ap (first_link top) is ∙ more.0 ∙ sym (first_before p place (first_link (at + 1) left) (gaps left) own (gaps right) off),
-      ap gaps is ∙ ap (λ (xs : List Gap). xs ++ own ∷ gaps right) more.1 ∙ sym (put_before p place (gaps left) own (gaps right) off),
-    ))
+    ap nodes_in (at_less (compare_parts p part) (node at part (grown (suc n) left (p ∷ rest) place) right children cell) _ _ l)
+    ∙ ap (λ (xs : List Placed). xs ++ own ∷ nodes_in right) (grown_level n left p rest place ord.2 (sym (at_less (compare_parts p part) _ _ _ l) ∙ none))
+    ∙ sym (insert_left p place (nodes_in left) own (nodes_in right) l))
     (⊎_elim
     (λ (s : compare_parts p part ≡ Equal). absurd (not_zero (depth children rest) (sym (at_equal (compare_parts p part) _ _ _ s) ∙ none)))
     (λ (g : compare_parts p part ≡ Greater).
-    let own : Gap = (part, first_link (at + 2) right) in
-    let on : compare_parts part p ≡ Less = back p part g in
-    let more = grown_gaps n (at + 2) right p rest place ord.3 (sym (at_greater (compare_parts p part) _ _ _ g) ∙ none) in
-    let is = at_greater (compare_parts p part) _ _ (node at part left (grown (suc n) right (p ∷ rest) place) children cell) g in
-    let after = put_after p place (first_link (at + 1) left) (gaps left) own (gaps right) (each_less (gaps left) part p (each_gap Less left part ord.0) on) on in (
-      ap (first_link top) is ∙ sym after.0,
-      ap gaps is ∙ (λ i. gaps left ++ (part, more.0 i) ∷ more.1 i) ∙ sym after.1,
-    )))
+    ap nodes_in (at_greater (compare_parts p part) _ _ (node at part left (grown (suc n) right (p ∷ rest) place) children cell) g)
+    ∙ ap (λ (ys : List Placed). nodes_in left ++ own ∷ ys) (grown_level n right p rest place ord.3 (sym (at_greater (compare_parts p part) _ _ _ g) ∙ none))
+    ∙ sym (insert_right p place (nodes_in left) own (nodes_in right) (all_before left part p ord.0 (λ own e. behind_part p part own g e)) g)))
     (orders (compare_parts p part))

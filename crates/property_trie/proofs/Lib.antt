@@ -24,5 +24,6 @@ pub mod Stored
 pub mod Placed
 pub mod Ends
 pub mod Gaps
+pub mod Neighbours
 pub mod Fronts
 pub mod Grown
