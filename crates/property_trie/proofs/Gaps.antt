@@ -153,7 +153,7 @@ between T top lo hi (node place part left right children cell) k ps ord rise low
     let more = between T (place + 1) lo (Some n) left k ps ord.2 rise.3 (lies_left place part left right children cell lo low_lo) rise.0
     (free_before T place part left right children cell lo low_lo) (goes_before_left k (node_from k xs) n (subst (GoesBefore k) first goes)) in (
       at_less (compare_parts k part) _ _ _ l ∙ more.0
-      ∙ (λ i. free_link T (or_else (sym last i) lo) ((sym (or_else_twice (node_from k xs) hi n) ∙ ap (λ o. or_else o hi) (sym first)) i)),
+          ∙ (λ i. free_link T (or_else (sym last i) lo) ((sym (or_else_twice (node_from k xs) hi n) ∙ ap (λ o. or_else o hi) (sym first)) i)),
       at_less (compare_parts k part) _ _ _ l ∙ more.1,
     ))
     (⊎_elim
@@ -169,7 +169,7 @@ between T top lo hi (node place part left right children cell) k ps ord rise low
     let more = between T (place + 2) (Some n) hi right k ps ord.3 rise.4 rise.1 (lies_right place part left right children cell hi low_hi)
     (free_behind T place part left right children cell hi low_hi) (subst (GoesBefore k) first goes) in (
       at_greater (compare_parts k part) _ _ _ g ∙ more.0
-      ∙ (λ i. free_link T ((sym (or_else_twice (node_before k ys) lo n) ∙ ap (λ o. or_else o lo) (sym last)) i) (or_else (sym first i) hi)),
+          ∙ (λ i. free_link T ((sym (or_else_twice (node_before k ys) lo n) ∙ ap (λ o. or_else o lo) (sym last)) i) (or_else (sym first i) hi)),
       at_greater (compare_parts k part) _ _ _ g ∙ more.1,
     )))
     (orders (compare_parts k part))

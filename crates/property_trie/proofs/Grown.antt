@@ -16,7 +16,7 @@ use Rattle.property_trie.specs.Walk.{EndsAt}
 use Rattle.property_trie.specs.TrieSteps.{sizes_of, tree_of, missing_parts}
 use Rattle.property_trie.specs.Additions.{mark_of}
 use Rattle.property_trie.specs.Siblings.{Siblings, IsFreeAt, with_node}
-use Rattle.property_trie.specs.Levels.{AreEnds, BeginsPart, ChangesLevel, Grows, LinkedAt, level_as, level_noted, front_of, front_parts, level_in, noted_at, noted_below}
+use Rattle.property_trie.specs.Levels.{AreLevels, BeginsPart, ChangesLevel, Grows, LinkedAt, level_as, level_noted, front_of, front_parts, level_in, noted_at, noted_below}
 use Rattle.property_trie.specs.declared.level.Level.{Level}
 use Rattle.property_trie.specs.declared.levels.Levels.{Levels}
 use Rattle.property_trie.proofs.Apart.{trie_lies}
@@ -51,11 +51,11 @@ put_changes front level old new top below = (
     at (Some f) apart = below f ∙ ap (λ b. if b then Some level else noted_below old.below f) (differ front f apart)
 
 -- what holds of the other levels, and of this one if it is noted, holds of all
-pub ends_changed : (sets : List Set) (front : Option (List ℕ)) (s : Option Siblings) (old new : Levels) → ChangesLevel front s old new
+pub levels_changed : (sets : List Set) (front : Option (List ℕ)) (s : Option Siblings) (old new : Levels) → ChangesLevel front s old new
     → ((e : Siblings) → s ≡ Some e → level_in 1 (tree_of sets) (front_parts front) ≡ Some e)
     → ((other : Option (List ℕ)) (e : Siblings) → other ≢ front → level_noted old other ≡ Some e → level_in 1 (tree_of sets) (front_parts other) ≡ Some e)
-    → AreEnds sets new
-ends_changed sets front s old new change own others other e is = ⊎_elim
+    → AreLevels sets new
+levels_changed sets front s old new change own others other e is = ⊎_elim
     (λ (same : other ≡ front).
     ap (λ (f : Option (List ℕ)). level_in 1 (tree_of sets) (front_parts f)) same ∙ own e (sym change.0 ∙ ap (level_noted new) (sym same) ∙ is))
     (λ (apart : other ≢ front). others other e apart (sym (change.1 other apart) ∙ is))
@@ -67,7 +67,7 @@ drop_front : (ds ps : Parts) → drop (length ds) (ds ++ ps) ≡ ps
 drop_front [] ps = refl
 drop_front (d ∷ ds) ps = drop_front ds ps
 
-pub linked_at : (sets : List Set) (levels : Levels) (name : List ℕ) (from : ℕ) (level : Level) (part : List ℕ) (ps : Parts) (link : ℕ) → AreEnds sets levels → from ≤ length name → BeginsPart name from
+pub linked_at : (sets : List Set) (levels : Levels) (name : List ℕ) (from : ℕ) (level : Level) (part : List ℕ) (ps : Parts) (link : ℕ) → AreLevels sets levels → from ≤ length name → BeginsPart name from
     → noted_at levels (front_of from name) ≡ Some level → parts_of (drop from name) ≡ part ∷ ps → IsFreeAt part (level_as level) link → LinkedAt sets name from link
 linked_at sets levels name from level part ps link ends within begins noted first free =
     let front = front_parts (front_of from name) in
@@ -111,7 +111,7 @@ module _ (sets : List Set) (name value : List ℕ) (from mark : ℕ) (g : Grows 
       ∙ level-with_cell 1 (grown (length (parts_of name)) (tree_of sets) (parts_of name) (mark_of sets)) (parts_of name) cell qs
       ∙ (λ i. level_in 1 (grown (length (parts_of name)) (tree_of sets) (parted i) (sym g.mark_is i)) qs)
 
-  pub level_elsewhere : (levels : Levels) → AreEnds sets levels → (other : Option (List ℕ)) (e : Siblings) → other ≢ front_of from name → level_noted levels other ≡ Some e
+  pub level_elsewhere : (levels : Levels) → AreLevels sets levels → (other : Option (List ℕ)) (e : Siblings) → other ≢ front_of from name → level_noted levels other ≡ Some e
       → level_in 1 later (front_parts other) ≡ Some e
   level_elsewhere levels ends other e apart is =
       level_is (front_parts other)
@@ -134,11 +134,11 @@ module _ (sets : List Set) (name value : List ℕ) (from mark : ℕ) (g : Grows 
       omega (arith, long, both)
 
   -- the level that it adds to has its first node
-  pub ends_extended : (levels new : Levels) → AreEnds sets levels
+  pub levels_extended : (levels new : Levels) → AreLevels sets levels
       → ChangesLevel (front_of from name) (option_map (with_node p mark) (level_noted levels (front_of from name))) levels new
-      → AreEnds (sets ++ (name, value) ∷ []) new
-  ends_extended levels new ends change =
-      ends_changed (sets ++ (name, value) ∷ []) (front_of from name) (option_map (with_node p mark) (level_noted levels (front_of from name))) levels new change
+      → AreLevels (sets ++ (name, value) ∷ []) new
+  levels_extended levels new ends change =
+      levels_changed (sets ++ (name, value) ∷ []) (front_of from name) (option_map (with_node p mark) (level_noted levels (front_of from name))) levels new change
       (own (level_noted levels (front_of from name)) refl) (level_elsewhere levels ends)
     where
       own : (o : Option Siblings) → level_noted levels (front_of from name) ≡ o → (e : Siblings) → option_map (with_node p mark) o ≡ Some e → level_in 1 later front ≡ Some e
@@ -252,10 +252,10 @@ module _ (sets : List Set) (name rest : List ℕ) (from n place : ℕ) (is : res
       next_front name from n (parts_behind n (drop from name)) room begins (ap parts_of (sym is) ∙ first ∙ (λ i. take n (is i) ∷ parts_behind n (is i)))
       ∙ (λ i. front_parts (front_of from name) ++ (ap (take n) (sym is) ∙ sym part_is) i ∷ [])
 
-  pub ends_last : from + n ≡ length name → (old later : Levels) (level : Level) → level_as level ≡ record { link = place + 3; nodes = [] }
-      → ChangesLevel (Some (take (from + n) name)) (Some (level_as level)) old later → AreEnds sets old → AreEnds sets later
-  ends_last all old later level empty change ends =
-      ends_changed sets (Some (take (from + n) name)) (Some (level_as level)) old later change
+  pub levels_last : from + n ≡ length name → (old later : Levels) (level : Level) → level_as level ≡ record { link = place + 3; nodes = [] }
+      → ChangesLevel (Some (take (from + n) name)) (Some (level_as level)) old later → AreLevels sets old → AreLevels sets later
+  levels_last all old later level empty change ends =
+      levels_changed sets (Some (take (from + n) name)) (Some (level_as level)) old later change
       (λ e same. ap (level_in 1 (tree_of sets)) front_is ∙ level_last (tree_of sets) name from place new (parts_are ∙ last_part name from n within all) ∙ ap Some (sym empty) ∙ same)
       (λ other e apart is. ends other e is)
 
@@ -264,10 +264,10 @@ module _ (sets : List Set) (name rest : List ℕ) (from n place : ℕ) (is : res
     then_is = let one_on : from + n + 1 ≡ suc (from + n) = omega arith in
         parts_are ∙ more_parts name from n within more ∙ ap (λ (k : ℕ). parts_of (drop k name)) one_on ∙ next
 
-    pub ends_next : (old later : Levels) (level : Level) → level_as level ≡ record { link = place + 3; nodes = (q, place + node_size (take n rest)) ∷ [] }
-        → ChangesLevel (Some (take (from + n) name)) (Some (level_as level)) old later → AreEnds sets old → AreEnds sets later
-    ends_next old later level one_node change ends =
-        ends_changed sets (Some (take (from + n) name)) (Some (level_as level)) old later change
+    pub levels_next : (old later : Levels) (level : Level) → level_as level ≡ record { link = place + 3; nodes = (q, place + node_size (take n rest)) ∷ [] }
+        → ChangesLevel (Some (take (from + n) name)) (Some (level_as level)) old later → AreLevels sets old → AreLevels sets later
+    levels_next old later level one_node change ends =
+        levels_changed sets (Some (take (from + n) name)) (Some (level_as level)) old later change
         (λ e same. ap (level_in 1 (tree_of sets)) front_is ∙ level_next (tree_of sets) name from place new q qs then_is
         ∙ ap (λ (p : List ℕ). Some (record { link = place + 3; nodes = (q, place + node_size p) ∷ [] })) part_is ∙ ap Some (sym one_node) ∙ same)
         (λ other e apart is. ends other e is)
@@ -312,9 +312,9 @@ ends_full (node at part left right children cell) (p ∷ x ∷ ps) link ends =
     one_on n = omega arith
 
 -- a name that missed its cell alone
-pub ends_cell : (sets : List Set) (name value : List ℕ) (levels : Levels) (link : ℕ) → find (tree_of sets) (parts_of name) ≡ 0 → EndsAt (tree_of sets) (parts_of name) link
-    → AreEnds sets levels → AreEnds (sets ++ (name, value) ∷ []) levels
-ends_cell sets name value levels link absent there ends front e is =
+pub levels_cell : (sets : List Set) (name value : List ℕ) (levels : Levels) (link : ℕ) → find (tree_of sets) (parts_of name) ≡ 0 → EndsAt (tree_of sets) (parts_of name) link
+    → AreLevels sets levels → AreLevels (sets ++ (name, value) ∷ []) levels
+levels_cell sets name value levels link absent there ends front e is =
     let trie : Trie = trie_of (sizes_of sets) in
     let ps = parts_of name in
     let cell : Cell = record { place = cell_place trie ps; words = cell_words (length value) } in
@@ -324,12 +324,12 @@ ends_cell sets name value levels link absent there ends front e is =
     ∙ ends front e is
 
 -- the same trie
-pub ends_same : (sets later : List Set) (levels : Levels) → tree_of later ≡ tree_of sets → AreEnds sets levels → AreEnds later levels
-ends_same sets later levels same ends front e is = ap (λ (t : Tree). level_in 1 t (front_parts front)) same ∙ ends front e is
+pub levels_same : (sets later : List Set) (levels : Levels) → tree_of later ≡ tree_of sets → AreLevels sets levels → AreLevels later levels
+levels_same sets later levels same ends front e is = ap (λ (t : Tree). level_in 1 t (front_parts front)) same ∙ ends front e is
 
 -- and the same ends
-pub ends_told : (sets : List Set) (old new : Levels) → new.top ≡ old.top → ((front : List ℕ) → noted_below new.below front ≡ noted_below old.below front) → AreEnds sets old → AreEnds sets new
-ends_told sets old new top below ends front e is = ends front e (sym (ap (option_map level_as) (at front)) ∙ is)
+pub levels_told : (sets : List Set) (old new : Levels) → new.top ≡ old.top → ((front : List ℕ) → noted_below new.below front ≡ noted_below old.below front) → AreLevels sets old → AreLevels sets new
+levels_told sets old new top below ends front e is = ends front e (sym (ap (option_map level_as) (at front)) ∙ is)
   where
     at : (front : Option (List ℕ)) → noted_at new front ≡ noted_at old front
     at None = top

@@ -27,3 +27,4 @@ pub mod Gaps
 pub mod Neighbours
 pub mod Fronts
 pub mod Grown
+pub mod Needed

@@ -58,8 +58,8 @@ abbrev pub level_noted : Levels → Option (List ℕ) → Option Siblings
 level_noted levels front = option_map level_as (noted_at levels front)
 
 -- each noted level is that of the trie of the names of these sets
-abbrev pub AreEnds : List Set → Levels → Type 0
-AreEnds sets levels = (front : Option (List ℕ)) (s : Siblings) → level_noted levels front ≡ Some s → level_in 1 (tree_of sets) (front_parts front) ≡ Some s
+abbrev pub AreLevels : List Set → Levels → Type 0
+AreLevels sets levels = (front : Option (List ℕ)) (s : Siblings) → level_noted levels front ≡ Some s → level_in 1 (tree_of sets) (front_parts front) ≡ Some s
 
 -- one level may be noted anew, and of the others is noted what was
 abbrev pub ChangesLevel : Option (List ℕ) → Option Siblings → Levels → Levels → Type 0

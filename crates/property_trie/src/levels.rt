@@ -10,7 +10,7 @@ ghost use Rattle.std.specs.Option.{option_copied, option_map};
 ghost use Rattle.std.specs.Str.{bytes_eq};
 ghost use Rattle.init_machine.specs.Sets.{Set};
 ghost use Rattle.property_trie.specs.Siblings.{with_node};
-ghost use Rattle.property_trie.specs.Levels.{front_of as front_of_lem, level_as, level_noted, noted_at, noted_below, AreEnds, BeginsPart, ChangesLevel, Grows, LinkedAt};
+ghost use Rattle.property_trie.specs.Levels.{front_of as front_of_lem, level_as, level_noted, noted_at, noted_below, AreLevels, BeginsPart, ChangesLevel, Grows, LinkedAt};
 
 use crate::level::Level;
 use crate::part::node_size;
@@ -66,7 +66,7 @@ fn begins_part(name: &[u8], from: usize) -> bool
 impl Levels {
     /// Those of a trie without names.
     pub fn new() -> Levels
-        ensures { AreEnds [] result }
+        ensures { AreLevels [] result }
     {
         Levels {
             top: Some(Level::empty(1)),
@@ -76,7 +76,7 @@ impl Levels {
 
     /// None is noted.
     pub fn unknown() -> Levels
-        ensures { (sets : Items Set) → AreEnds sets result }
+        ensures { (sets : Items Set) → AreLevels sets result }
     {
         Levels {
             top: None,
@@ -142,7 +142,7 @@ impl Levels {
     /// Where the link stands that would lead to the first node that a name misses, and the byte from which on its parts have none.
     /// None where nothing is missed but a cell, or the level isn't noted, or memory lacks.
     pub fn missing(&self, name: &[u8]) -> Option<(usize, usize)>
-        ensures { IfSome result (λ found. (sets : Items Set) → AreEnds sets self.now → LinkedAt sets name.now found.1 found.0) }
+        ensures { IfSome result (λ found. (sets : Items Set) → AreLevels sets self.now → LinkedAt sets name.now found.1 found.0) }
     {
         let alloc = *self.below.as_ref()?.allocator();
         let mut from = last_start(name);
@@ -165,8 +165,8 @@ impl Levels {
         requires name { length name.now ≤ 255 }
         requires within { from ≤ length name.now }
         requires mark { mark < 2 ^ 32 }
-        ensures { (sets : Items Set) (value : Items ℕ) → Grows sets name.now from mark → AreEnds sets self.old
-            → AreEnds (sets ++ (name.now, value) ∷ []) self.new }
+        ensures { (sets : Items Set) (value : Items ℕ) → Grows sets name.now from mark → AreLevels sets self.old
+            → AreLevels (sets ++ (name.now, value) ∷ []) self.new }
     {
         if self.try_grow(name, from, mark).is_err() {
             *self = Levels::unknown();
@@ -177,8 +177,8 @@ impl Levels {
         requires name { length name.now ≤ 255 }
         requires within { from ≤ length name.now }
         requires mark { mark < 2 ^ 32 }
-        ensures { OnOk result ((sets : Items Set) (value : Items ℕ) → Grows sets name.now from mark → AreEnds sets self.old
-            → AreEnds (sets ++ (name.now, value) ∷ []) self.new) }
+        ensures { OnOk result ((sets : Items Set) (value : Items ℕ) → Grows sets name.now from mark → AreLevels sets self.old
+            → AreLevels (sets ++ (name.now, value) ∷ []) self.new) }
     {
         let Some(below) = &self.below else {
             return Err(NoMemory);
@@ -202,8 +202,8 @@ impl Levels {
     ) -> Result<(), NoMemory>
         requires within { from ≤ length name.now }
         requires begins { BeginsPart name.now from }
-        ensures { OnOk result ((sets : Items Set) (value : Items ℕ) → Grows sets name.now from mark → AreEnds sets self.old
-            → AreEnds (sets ++ (name.now, value) ∷ []) self.new) }
+        ensures { OnOk result ((sets : Items Set) (value : Items ℕ) → Grows sets name.now from mark → AreLevels sets self.old
+            → AreLevels (sets ++ (name.now, value) ∷ []) self.new) }
     {
         let rest = &name[from..];
         let part = &rest[..part_len(rest)];
@@ -225,7 +225,7 @@ impl Levels {
         requires begins { BeginsPart name.now first }
         requires mark { mark < 2 ^ 32 }
         ensures { OnOk result ((sets : Items Set) (value : Items ℕ) → Grows sets name.now first mark
-            → AreEnds (sets ++ (name.now, value) ∷ []) self.old → AreEnds (sets ++ (name.now, value) ∷ []) self.new) }
+            → AreLevels (sets ++ (name.now, value) ∷ []) self.old → AreLevels (sets ++ (name.now, value) ∷ []) self.new) }
     {
         let mut from = first;
         let mut place = mark;

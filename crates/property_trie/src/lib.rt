@@ -32,7 +32,7 @@ pub use level::Level;
 pub use levels::Levels;
 pub use part::{compare_parts, node_size};
 pub use part_key::PartKey;
-pub use room::need;
+pub use room::{need, words_from};
 pub use rule::{Added, Sought, TrieRule};
 pub use view::{Adding, Trail, TrieView};
 pub use walk::find;

@@ -2,7 +2,7 @@ use Rattle.std.proofs.Common.{◌≡◌, ◌≢◌, ◌+◌, ◌-◌, ◌≤◌,
 use Rattle.std.proofs.lemmas.List.{length-drop, length-take-le}
 use Rattle.property_trie.specs.TrieSteps.{tree_of}
 use Rattle.property_trie.specs.Parts.{parts_of, parts_behind}
-use Rattle.property_trie.proofs.Grown.{NewFrom, ends_last, ends_next, new_from, next_new, put_changes, tail_is}
+use Rattle.property_trie.proofs.Grown.{NewFrom, levels_last, levels_next, new_from, next_new, put_changes, tail_is}
 use Rattle.property_trie.proofs.levels.Levels.add_new.Goals as goal
 
 pub parts-init : goal.parts-init
@@ -22,7 +22,7 @@ returns-then-end-name c = λ sets value g ends.
     let tail = tail_is name from inv.within in
     let rest = take (length name - from) (drop from name) in
     let here = inv.ends sets value g ends in
-    ends_last (sets ++ (name, value) ∷ []) name rest from n c.parts.place tail inv.begins inv.within c.part_len-len.ensures.inside c.part_len-len.ensures.first here.1
+    levels_last (sets ++ (name, value) ∷ []) name rest from n c.parts.place tail inv.begins inv.within c.part_len-len.ensures.inside c.part_len-len.ensures.first here.1
     c.if-end-name.true c.parts.self c.put.new.self c.empty.result c.empty.ensures
     (put_changes (take (from + n) name) c.empty.result c.parts.self c.put.new.self c.in_ok-put.ensures.top c.in_ok-put.ensures.below) here.0
 
@@ -56,7 +56,7 @@ parts-preserved c =
           let here = inv.ends sets value g ends in
           let new = next_new (sets ++ (name, value) ∷ []) name rest from n c.parts.place tail inv.begins inv.within inside c.part_len-len.ensures.first here.1 more (take m next) (parts_behind m next) then
           (c.parts.place + c.node_size.result) (ap (λ (k : ℕ). c.parts.place + k) size) in (
-            ends_next (sets ++ (name, value) ∷ []) name rest from n c.parts.place tail inv.begins inv.within inside c.part_len-len.ensures.first here.1 more (take m next) (parts_behind m next) then
+            levels_next (sets ++ (name, value) ∷ []) name rest from n c.parts.place tail inv.begins inv.within inside c.part_len-len.ensures.first here.1 more (take m next) (parts_behind m next) then
                 c.parts.self c.put-in-parts.new.self level (c.in_ok-level.ensures ∙ ap (λ (k : ℕ). record { link = c.parts.place + 3; nodes = (take m next, c.parts.place + k) ∷ [] }) size)
                 (put_changes (take (from + n) name) level c.parts.self c.put-in-parts.new.self c.in_ok-put-2.ensures.top c.in_ok-put-2.ensures.below) here.0,
             subst (λ (k : ℕ). NewFrom (tree_of (sets ++ (name, value) ∷ [])) name k (c.parts.place + c.node_size.result)) (sym one_on) new,
