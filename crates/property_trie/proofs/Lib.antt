@@ -23,6 +23,7 @@ pub mod Loads
 pub mod Stored
 pub mod Placed
 pub mod Ends
+pub mod Keys
 pub mod Gaps
 pub mod Neighbours
 pub mod Fronts

@@ -6,7 +6,6 @@ ghost use Rattle.std.specs.Option.{option_map};
 ghost use Rattle.property_trie.specs.Siblings.{IsFreeAt, free_link as free_link_of, node_before as node_before_of, node_from as node_from_of, with_node};
 ghost use Rattle.property_trie.specs.Levels.{level_as};
 
-use crate::part::compare_parts;
 use crate::part_key::PartKey;
 use init_base::NoMemory;
 use std::alloc::Global;
@@ -65,7 +64,7 @@ impl Level {
         let key = PartKey::of(alloc, part).ok()?;
         let from = node_from(places, &key);
         if let Some((next, _)) = from {
-            if compare_parts(part, next.bytes()) != Ordering::Less {
+            if key.cmp(next) != Ordering::Less {
                 return None;
             }
         }
