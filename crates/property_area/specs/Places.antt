@@ -6,7 +6,7 @@ use Rattle.atomic_table.specs.Seated.{TableId}
 use Rattle.indexmap.specs.IndexMap.{IndexMap}
 use Rattle.init_machine.specs.Props.{Property, lookup_in, is_absent}
 use Rattle.serial_value.specs.Steps.{HasCell}
-use Rattle.property_trie.specs.Levels.{AreEnds}
+use Rattle.property_trie.specs.Levels.{AreLevels}
 use Rattle.property_area.specs.declared.index.Index.{Index}
 use Rattle.property_area.specs.declared.places.Places.{Places}
 use Rattle.property_area.specs.declared.view.AreaView.{AreaView}
@@ -32,6 +32,6 @@ pub record AreNoted (table : TableId) (known : List (List ℕ × ℕ)) (held : L
       → HasCell table place × Contains known (name, place) × (is_absent (lookup_in held name) ≡ false)
   pub others : IsTrue places.whole → (name : List ℕ) → place_in places name ≡ None → lookup_in held name ≡ None
 
--- the index holds of a view: it has noted places and ends of levels
+-- the index holds of a view: it has noted places and levels
 abbrev pub IsIndex : TableId → AreaView → Index → Type 0
-IsIndex table v index = AreNoted table v.trie.known (store_of v).held index.places × AreEnds (sets_in v) index.levels
+IsIndex table v index = AreNoted table v.trie.known (store_of v).held index.places × AreLevels (sets_in v) index.levels

@@ -7,7 +7,7 @@ ghost use Rattle.init_machine.specs.Words.{cell_words as cell_words_of, need_of}
 ghost use Rattle.serial_value.specs.Cell.{HasShortCell};
 ghost use Rattle.serial_value.specs.Steps.{IsSameSeat, HasCell};
 ghost use Rattle.property_trie.specs.Additions.{mark_of, new_place, IsMissing};
-ghost use Rattle.property_trie.specs.Levels.{AreEnds};
+ghost use Rattle.property_trie.specs.Levels.{AreLevels};
 ghost use Rattle.property_trie.specs.Parts.{parts_of};
 ghost use Rattle.property_trie.specs.Tree.{each_once, find as find_in};
 ghost use Rattle.property_trie.specs.TrieSteps.{sizes_of, tree_of};
@@ -24,7 +24,7 @@ use crate::view::AreaView;
 use atomic_table::Seat;
 use init_base::{PropName, PropValue};
 use init_machine::cell_words;
-use property_trie::{Levels, Missing, add, find, need, search_missing};
+use property_trie::{Levels, Missing, add, find, need, search_missing, words_from};
 use serial_value::{Asked, CellAnswer, first_serial, parts, read_cell, write_cell};
 use std::marker::Brand;
 
@@ -110,22 +110,29 @@ pub(crate) fn number_of(
     Some(number_at::<Brand>(area, seat, at, name.bytes))
 }
 
-/// The words that a set of the name by a value of so many bytes would add, 0 where the name is in a set.
+/// The words that a set of the name by a value of so many bytes would add, 0 where the name is in a set: by what is noted, or else by
+/// a walk.
 pub(crate) fn words_needed(
     area: &Area,
     seat: &mut Seat<(), AreaView>,
-    places: &Places,
+    index: &mut Index,
     name: PropName<'_>,
     len: usize,
 ) -> u64
     requires writer { (seat.old.table_id ≡ area.now) × (seat.old.me.1 ≡ []) × IsWriterView seat.old.table_id seat.old.me.0 }
-    requires noted { AreNoted area.now seat.old.me.0.trie.known (store_of seat.old.me.0).held places.now }
+    requires index { IsIndex area.now seat.old.me.0 index.old }
     ensures seat { IsSameSeat seat.old seat.new × (seat.new.me.1 ≡ []) × IsWriterView seat.new.table_id seat.new.me.0 }
     ensures view { IsBeside seat.old.me.0 seat.new.me.0 }
-    ensures noted { AreNoted area.now seat.new.me.0.trie.known (store_of seat.new.me.0).held places.now }
+    ensures index { IsIndex area.now seat.new.me.0 index.new }
     ensures need { result ≡ need_of (each_once (sizes_of (sets_in seat.old.me.0))) name.entry.bytes.now len }
 {
-    need(&area.table, seat, name, len)
+    if find_cell(area, seat, &mut index.places, name).is_some() {
+        return 0;
+    }
+    match index.levels.missing(name.bytes) {
+        Some((_, from)) => words_from(name.bytes, from, len),
+        None => need(&area.table, seat, name, len),
+    }
 }
 
 /// Sets the property at its cell, and then stores the area serial.
@@ -149,7 +156,7 @@ fn set_at(
     store_serial(area, seat, number);
 }
 
-/// What the name misses, which is in no set: by the end of its level that is noted, or else by a walk.
+/// What the name misses, which is in no set: by what is noted of its level, or else by a walk.
 fn missing_of(
     area: &Area,
     seat: &mut Seat<(), AreaView>,
@@ -157,7 +164,7 @@ fn missing_of(
     name: PropName<'_>,
 ) -> Missing
     requires writer { (seat.old.table_id ≡ area.now) × (seat.old.me.1 ≡ []) × IsWriterView seat.old.table_id seat.old.me.0 }
-    requires ends { AreEnds (sets_in seat.old.me.0) levels.now }
+    requires levels { AreLevels (sets_in seat.old.me.0) levels.now }
     requires absent { find_in (tree_of (sets_in seat.old.me.0)) (parts_of name.bytes.now) ≡ 0 }
     ensures seat { IsSameSeat seat.old seat.new × (seat.new.me ≡ seat.old.me) }
     ensures missing { IsMissing area.now.words (sets_in seat.old.me.0) name.entry.bytes.now result }

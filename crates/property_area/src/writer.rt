@@ -183,7 +183,7 @@ impl<'a> PropStore for AreaWriter<'a> {
         if has_room_for_any(used, len, words) {
             return check_numbers(self.count);
         }
-        let need = words_needed(self.area, &mut self.seat, &self.index.places, name, len);
+        let need = words_needed(self.area, &mut self.seat, &mut self.index, name, len);
         check_room(need, used, words, self.count)
     }
 

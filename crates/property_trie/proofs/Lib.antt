@@ -23,5 +23,9 @@ pub mod Loads
 pub mod Stored
 pub mod Placed
 pub mod Ends
+pub mod Keys
+pub mod Gaps
+pub mod Neighbours
 pub mod Fronts
 pub mod Grown
+pub mod Needed

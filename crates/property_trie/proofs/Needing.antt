@@ -30,7 +30,7 @@ none_among sized name none =
     is_false true e = absurd (cc)
     is_false false e = refl
 
-need_missing : (sized : List Sized) (name : List ℕ) (len : ℕ) → find (trie_of sized).tree (parts_of name) ≡ 0
+pub need_missing : (sized : List Sized) (name : List ℕ) (len : ℕ) → find (trie_of sized).tree (parts_of name) ≡ 0
     → need_of (each_once sized) name len ≡ cell_words len + node_sizes (missing_parts (trie_of sized).tree (parts_of name))
 need_missing sized name len none =
     need_parts (each_once sized) name len (none_among sized name none)
@@ -42,7 +42,7 @@ is_some n some = elim (n == 0) as (λ t. (n == 0) ≡ t → t ≡ false) [
   | false ↦ λ e. refl
 ] refl
 
-present : (sized : List Sized) (name : List ℕ) (len : ℕ) → find (trie_of sized).tree (parts_of name) ≢ 0 → need_of (each_once sized) name len ≡ 0
+pub present : (sized : List Sized) (name : List ℕ) (len : ℕ) → find (trie_of sized).tree (parts_of name) ≢ 0 → need_of (each_once sized) name len ≡ 0
 present sized name len some =
     let told = (trie_is sized).finds name in
     held_needs (each_once sized) name len (is_true (is_among (names_in (each_once sized)) name) (sym (is_some (find (trie_of sized).tree (parts_of name)) some) ∙ told))

@@ -8,4 +8,6 @@ pub mod Laws
 pub mod TrieSteps
 pub mod Additions
 pub mod Held
+pub mod PartOrder
+pub mod Siblings
 pub mod Levels

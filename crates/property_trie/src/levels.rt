@@ -1,48 +1,36 @@
-//! The ends of the levels of a trie, as far as they are noted: a name whose first missing part goes behind all others of its level is
-//! linked there, and no walk looks for the place. So names that come in ascending order, which make a chain of their level, take no
-//! time of its length.
+//! The levels of a trie, as far as they are noted: where each node of a level lies. So the link to the first node that a name misses is
+//! found without a walk, wherever it goes among its siblings, which are a chain of nodes if they came in their order.
 //!
-//! `specs/Levels.antt` says what the end of a level is. Where memory lacks, or a part isn't where it should be, nothing is noted from
-//! then on.
+//! `specs/Siblings.antt` says which link two siblings leave free, and `specs/Levels.antt` what is noted. Where memory lacks, or a part
+//! isn't where it should be, nothing is noted from then on.
 
-ghost use Rattle.std.specs.Prelude.{◌≡◌, ◌≤◌, ◌<◌, ◌+◌, ◌++◌, ◌∷◌, ◌^◌, ℕ, List as Items, Option as Maybe, [], drop, length, OnOk, IfSome, IsTrue, None, Some, if◌then◌else◌};
+ghost use Rattle.std.specs.Prelude.{◌≡◌, ◌≤◌, ◌<◌, ◌+◌, ◌++◌, ◌∷◌, ◌^◌, ℕ, List as Items, Option as Maybe, [], drop, length, OnOk, IfSome, IsTrue, None, Some, false, if◌then◌else◌};
+ghost use Rattle.std.specs.HashMap.{get_by};
 ghost use Rattle.std.specs.Option.{option_copied, option_map};
-ghost use Rattle.std.specs.declared.cmp.Ordering.TheVariants.{Greater};
 ghost use Rattle.std.specs.Str.{bytes_eq};
 ghost use Rattle.init_machine.specs.Sets.{Set};
-ghost use Rattle.property_trie.specs.Parts.{parts_of};
-ghost use Rattle.property_trie.specs.TreeWords.{link_at};
-ghost use Rattle.property_trie.specs.TrieSteps.{tree_of, missing_parts};
-ghost use Rattle.property_trie.specs.Levels.{end_as, end_in, front_of as front_of_lem, noted_at, noted_below, order_behind, AreEnds, BeginsPart, Grows, LinkedAt};
+ghost use Rattle.property_trie.specs.Siblings.{with_node};
+ghost use Rattle.property_trie.specs.Levels.{front_of as front_of_lem, level_as, level_noted, noted_at, noted_below, AreLevels, BeginsPart, ChangesLevel, Grows, LinkedAt};
 
-use crate::part::{compare_parts, node_size};
+use crate::level::Level;
+use crate::part::node_size;
 use crate::walk::part_len;
 use indexmap::IndexMap;
-use init_base::{NoMemory, Text};
+use init_base::NoMemory;
 use std::alloc::Global;
-use std::cmp::Ordering;
 use text_index::{Spelled, TextKey};
 
 /// The byte between two parts.
 const DOT: u8 = b'.';
 
-/// Where the links of a node stand to the siblings behind it, and to its children.
-const BEHIND: usize = 2;
-
+/// Where the link of a node to its children stands.
 const CHILDREN: usize = 3;
 
-/// The last part of a level, if it has one, and where the link stands that would lead behind it.
-#[derive(Drop)]
-pub struct LevelEnd {
-    pub last: Option<Text>,
-    pub link: usize,
-}
-
-/// The ends of levels: of that at the top, and of those below the fronts of names.
+/// The levels that are noted: that at the top, and those below the fronts of names.
 #[derive(Drop)]
 pub struct Levels {
-    pub top: Option<LevelEnd>,
-    pub below: Option<IndexMap<TextKey, LevelEnd>>,
+    pub top: Option<Level>,
+    pub below: Option<IndexMap<TextKey, Level>>,
 }
 
 /// The front of a name before the part that begins at this byte.
@@ -78,20 +66,17 @@ fn begins_part(name: &[u8], from: usize) -> bool
 impl Levels {
     /// Those of a trie without names.
     pub fn new() -> Levels
-        ensures { AreEnds [] result }
+        ensures { AreLevels [] result }
     {
         Levels {
-            top: Some(LevelEnd {
-                last: None,
-                link: 1,
-            }),
+            top: Some(Level::empty(1)),
             below: None,
         }
     }
 
     /// None is noted.
     pub fn unknown() -> Levels
-        ensures { (sets : Items Set) → AreEnds sets result }
+        ensures { (sets : Items Set) → AreLevels sets result }
     {
         Levels {
             top: None,
@@ -99,7 +84,7 @@ impl Levels {
         }
     }
 
-    /// Gives the allocator from which ends are noted.
+    /// Gives the allocator from which levels are noted.
     pub fn prepare(&mut self, alloc: Global)
         ensures top { self.new.top ≡ self.old.top }
         ensures below { (front : Items ℕ) → noted_below self.new.below front ≡ noted_below self.old.below front }
@@ -110,7 +95,7 @@ impl Levels {
     }
 
     /// What is noted of the level below a front.
-    fn end(&self, front: Option<&[u8]>) -> Option<&LevelEnd>
+    fn level(&self, front: Option<&[u8]>) -> Option<&Level>
         ensures { option_copied result ≡ noted_at self.now (option_copied front.entry) }
     {
         match front {
@@ -119,47 +104,53 @@ impl Levels {
         }
     }
 
-    /// The order of a part and the last of the level below a front, where the level's end is noted.
-    fn order(&self, front: Option<&[u8]>, part: &[u8]) -> Option<Ordering>
-        ensures { result ≡ option_map (λ end. order_behind part.now end.last) (noted_at self.now (option_copied front.entry)) }
+    /// Notes the level below a front.
+    fn put(&mut self, front: &[u8], level: Level) -> Result<(), NoMemory>
+        ensures top { OnOk result (self.new.top ≡ self.old.top) }
+        ensures below { OnOk result ((other : Items ℕ) → noted_below self.new.below other ≡ (if bytes_eq front.now other then Some level else noted_below self.old.below other)) }
     {
-        let end = self.end(front)?;
-        match &end.last {
-            None => Some(Ordering::Greater),
-            Some(last) => Some(compare_parts(part, last.bytes())),
-        }
-    }
-
-    /// Notes the end of the level below a front.
-    fn put(&mut self, front: Option<&[u8]>, end: LevelEnd) -> Result<(), NoMemory>
-        ensures top { OnOk result (option_copied front.entry ≡ None → (self.new.top ≡ Some end) × (self.new.below ≡ self.old.below)) }
-        ensures below { OnOk result ((own : Items ℕ) → option_copied front.entry ≡ Some own → (self.new.top ≡ self.old.top)
-            × ((other : Items ℕ) → noted_below self.new.below other ≡ (if bytes_eq own other then Some end else noted_below self.old.below other))) }
-    {
-        let Some(front) = front else {
-            self.top = Some(end);
-            return Ok(());
-        };
         let Some(below) = &mut self.below else {
             return Err(NoMemory);
         };
         let alloc = *below.allocator();
-        below.insert(TextKey::of(alloc, front)?, end)?;
+        below.insert(TextKey::of(alloc, front)?, level)?;
         Ok(())
     }
 
-    /// Where the link stands that would lead to the first node that a name misses, and the byte from which on its parts have none:
-    /// the name goes behind all others of its level. None where that isn't so, or isn't known.
-    pub fn missing(&self, name: &[u8]) -> Option<(usize, usize)>
-        ensures { IfSome result (λ found. (sets : Items Set) → AreEnds sets self.now → LinkedAt sets name.now found.1 found.0) }
+    /// Adds a node to the level below a front, where that is noted.
+    fn add(
+        &mut self,
+        alloc: Global,
+        front: Option<&[u8]>,
+        part: &[u8],
+        place: usize,
+    ) -> Result<(), NoMemory>
+        ensures { OnOk result (ChangesLevel (option_copied front.entry) (option_map (with_node part.now place) (level_noted self.old (option_copied front.entry))) self.old self.new) }
     {
+        let Some(front) = front else {
+            let Some(level) = &mut self.top else {
+                return Ok(());
+            };
+            return level.add(alloc, part, place);
+        };
+        let Some(below) = &mut self.below else {
+            return Ok(());
+        };
+        add_below(below, alloc, front, part, place)
+    }
+
+    /// Where the link stands that would lead to the first node that a name misses, and the byte from which on its parts have none.
+    /// None where nothing is missed but a cell, or the level isn't noted, or memory lacks.
+    pub fn missing(&self, name: &[u8]) -> Option<(usize, usize)>
+        ensures { IfSome result (λ found. (sets : Items Set) → AreLevels sets self.now → LinkedAt sets name.now found.1 found.0) }
+    {
+        let alloc = *self.below.as_ref()?.allocator();
         let mut from = last_start(name);
         'fronts: loop {
-            if let Some(end) = self.end(front_of(name, from)) {
-                if !is_behind(&name[from..], end) {
-                    return None;
-                }
-                return Some((end.link, from));
+            if let Some(level) = self.level(front_of(name, from)) {
+                let rest = &name[from..];
+                let link = level.link_of(alloc, &rest[..part_len(rest)])?;
+                return Some((link, from));
             }
             if from == 0 {
                 return None;
@@ -174,8 +165,8 @@ impl Levels {
         requires name { length name.now ≤ 255 }
         requires within { from ≤ length name.now }
         requires mark { mark < 2 ^ 32 }
-        ensures { (sets : Items Set) (value : Items ℕ) → Grows sets name.now from mark → AreEnds sets self.old
-            → AreEnds (sets ++ (name.now, value) ∷ []) self.new }
+        ensures { (sets : Items Set) (value : Items ℕ) → Grows sets name.now from mark → AreLevels sets self.old
+            → AreLevels (sets ++ (name.now, value) ∷ []) self.new }
     {
         if self.try_grow(name, from, mark).is_err() {
             *self = Levels::unknown();
@@ -186,8 +177,8 @@ impl Levels {
         requires name { length name.now ≤ 255 }
         requires within { from ≤ length name.now }
         requires mark { mark < 2 ^ 32 }
-        ensures { OnOk result ((sets : Items Set) (value : Items ℕ) → Grows sets name.now from mark → AreEnds sets self.old
-            → AreEnds (sets ++ (name.now, value) ∷ []) self.new) }
+        ensures { OnOk result ((sets : Items Set) (value : Items ℕ) → Grows sets name.now from mark → AreLevels sets self.old
+            → AreLevels (sets ++ (name.now, value) ∷ []) self.new) }
     {
         let Some(below) = &self.below else {
             return Err(NoMemory);
@@ -211,27 +202,17 @@ impl Levels {
     ) -> Result<(), NoMemory>
         requires within { from ≤ length name.now }
         requires begins { BeginsPart name.now from }
-        requires mark { mark < 2 ^ 32 }
-        ensures { OnOk result ((sets : Items Set) (value : Items ℕ) → Grows sets name.now from mark → AreEnds sets self.old
-            → AreEnds (sets ++ (name.now, value) ∷ []) self.new) }
+        ensures { OnOk result ((sets : Items Set) (value : Items ℕ) → Grows sets name.now from mark → AreLevels sets self.old
+            → AreLevels (sets ++ (name.now, value) ∷ []) self.new) }
     {
         let rest = &name[from..];
         let part = &rest[..part_len(rest)];
         let front = front_of(name, from);
-        match self.order(front, part) {
-            None => Ok(()),
-            Some(Ordering::Less) => Ok(()),
-            Some(Ordering::Equal) => Err(NoMemory),
-            Some(Ordering::Greater) => {
-                let last = Some(Text::of(alloc, part)?);
-                let link = mark + BEHIND;
-                self.put(front, LevelEnd { last, link })?;
-                Ok(())
-            }
-        }
+        self.add(alloc, front, part, mark)?;
+        Ok(())
     }
 
-    /// Notes the ends of the levels of the new nodes.
+    /// Notes the levels of the new nodes.
     fn add_new(
         &mut self,
         alloc: Global,
@@ -244,7 +225,7 @@ impl Levels {
         requires begins { BeginsPart name.now first }
         requires mark { mark < 2 ^ 32 }
         ensures { OnOk result ((sets : Items Set) (value : Items ℕ) → Grows sets name.now first mark
-            → AreEnds (sets ++ (name.now, value) ∷ []) self.old → AreEnds (sets ++ (name.now, value) ∷ []) self.new) }
+            → AreLevels (sets ++ (name.now, value) ∷ []) self.old → AreLevels (sets ++ (name.now, value) ∷ []) self.new) }
     {
         let mut from = first;
         let mut place = mark;
@@ -252,32 +233,38 @@ impl Levels {
             let rest = &name[from..];
             let len = part_len(rest);
             let end = from + len;
-            let front = Some(&name[..end]);
+            let link = place + CHILDREN;
             if end == name.len() {
-                let link = place + CHILDREN;
-                self.put(front, LevelEnd { last: None, link })?;
+                self.put(&name[..end], Level::empty(link))?;
                 return Ok(());
             }
             if !begins_part(name, end + 1) {
                 return Err(NoMemory);
             }
             let next = &name[end + 1..];
-            let last = Some(Text::of(alloc, &next[..part_len(next)])?);
             let free = place + node_size(&rest[..len]);
-            let link = free + BEHIND;
-            self.put(front, LevelEnd { last, link })?;
+            let level = Level::of_one(alloc, link, &next[..part_len(next)], free)?;
+            self.put(&name[..end], level)?;
             from = end + 1;
             place = free;
         }
     }
 }
 
-/// Whether the first part of a text goes behind the last of a level.
-fn is_behind(rest: &[u8], end: &LevelEnd) -> bool
-    ensures { IsTrue result → (part : Items ℕ) × (parts : Items (Items ℕ)) × (parts_of rest.now ≡ part ∷ parts) × (order_behind part end.now.last ≡ Greater) }
+/// Adds a node to the level below a front, where that is noted.
+fn add_below(
+    below: &mut IndexMap<TextKey, Level>,
+    alloc: Global,
+    front: &[u8],
+    part: &[u8],
+    place: usize,
+) -> Result<(), NoMemory>
+    ensures own { OnOk result (option_map level_as (get_by (bytes_eq front.now) below.new)
+        ≡ option_map (with_node part.now place) (option_map level_as (get_by (bytes_eq front.now) below.old))) }
+    ensures others { OnOk result ((other : Items ℕ) → bytes_eq front.now other ≡ false → get_by (bytes_eq other) below.new ≡ get_by (bytes_eq other) below.old) }
 {
-    match &end.last {
-        None => true,
-        Some(last) => compare_parts(&rest[..part_len(rest)], last.bytes()) == Ordering::Greater,
-    }
+    let Some(level) = below.get_mut(Spelled { bytes: front }) else {
+        return Ok(());
+    };
+    level.add(alloc, part, place)
 }

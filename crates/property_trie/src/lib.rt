@@ -11,8 +11,10 @@ mod addition;
 mod compare;
 mod lacking;
 mod laws;
+mod level;
 mod levels;
 mod part;
+mod part_key;
 mod room;
 mod rule;
 mod steps;
@@ -26,9 +28,11 @@ pub use laws::{
     always_lies_well, finds_its_names, has_its_prefixes, mark_is_words_used, only_extends,
     parts_tell_names,
 };
-pub use levels::{LevelEnd, Levels};
+pub use level::Level;
+pub use levels::Levels;
 pub use part::{compare_parts, node_size};
-pub use room::need;
+pub use part_key::PartKey;
+pub use room::{need, words_from};
 pub use rule::{Added, Sought, TrieRule};
 pub use view::{Adding, Trail, TrieView};
 pub use walk::find;

@@ -1,7 +1,7 @@
 //! The words that a name needs.
 
-ghost use Rattle.std.specs.Prelude.{◌≡◌, ◌+◌, ◌*◌, ◌≤◌, length};
-ghost use Rattle.init_machine.specs.Words.{need_of};
+ghost use Rattle.std.specs.Prelude.{◌≡◌, ◌+◌, ◌*◌, ◌≤◌, drop, length};
+ghost use Rattle.init_machine.specs.Words.{cell_words as cell_words_of, need_of};
 ghost use Rattle.serial_value.specs.Cell.{sets_of, IsWriter};
 ghost use Rattle.serial_value.specs.Steps.{IsSameSeat};
 ghost use Rattle.property_trie.specs.Parts.{parts_of};
@@ -46,8 +46,17 @@ fn words_at(name: &[u8], len: usize, end: SearchEnd) -> u64
     match end {
         SearchEnd::Cell(_) => 0,
         SearchEnd::NoCell(_) => cell_words(len),
-        SearchEnd::NoNode(_, from) => cell_words(len) + nodes_size(&name[from..]) as u64,
+        SearchEnd::NoNode(_, from) => words_from(name, from, len),
     }
+}
+
+/// The words of a cell, and of the nodes of a name's parts from a byte on.
+pub fn words_from(name: &[u8], from: usize, len: usize) -> u64
+    requires short { length name.now ≤ 255 }
+    requires within { from ≤ length name.now }
+    ensures { result ≡ cell_words_of len + node_sizes (parts_of (drop from name.now)) }
+{
+    cell_words(len) + nodes_size(&name[from..]) as u64
 }
 
 fn need_as<V, K, R: TrieRule<V, K>, Q: Sought>(

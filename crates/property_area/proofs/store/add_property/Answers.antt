@@ -3,8 +3,8 @@ use Rattle.atomic_table.specs.Seated.{TableId}
 use Rattle.init_machine.specs.Props.{Property, Props}
 use Rattle.init_machine.specs.Sets.{Set}
 use Rattle.property_trie.specs.Additions.{IsMissing}
-use Rattle.property_trie.specs.Levels.{AreEnds}
-use Rattle.property_trie.proofs.Grown.{ends_cell}
+use Rattle.property_trie.specs.Levels.{AreLevels}
+use Rattle.property_trie.proofs.Grown.{levels_cell}
 use Rattle.property_area.specs.declared.index.Index.{Index}
 use Rattle.property_area.specs.declared.view.AreaView.{AreaView}
 use Rattle.property_area.specs.Places.{AreNoted}
@@ -33,19 +33,19 @@ returns-clause-index c =
     (noted_new table w.trie.known (store_of w).held c.args.index.now.places c.note.new.self new place c.set_new-place.ensures.cell c.note.ensures noted)) in
     let sets : sets_in u ≡ sets_in v ++ (name, value) ∷ [] =
     sets_after w name value u c.set_new-place.ensures.view ∙ ap (λ (x : AreaView). sets_in x ++ (name, value) ∷ []) same in
-    elim c.match-missing.branch as (λ _. AreNoted table u.trie.known (store_of u).held c.match-missing.index.places × AreEnds (sets_in u) c.match-missing.index.levels) [
+    elim c.match-missing.branch as (λ _. AreNoted table u.trie.known (store_of u).held c.match-missing.index.places × AreLevels (sets_in u) c.match-missing.index.levels) [
       | in-Cell b ↦
           let is = subst (IsMissing table.words (sets_in v) name) b.in-Cell.is c.missing_of-missing.ensures.missing in
-          subst (λ (x : Index). AreNoted table u.trie.known (store_of u).held x.places × AreEnds (sets_in u) x.levels) (sym b.index-is) (
+          subst (λ (x : Index). AreNoted table u.trie.known (store_of u).held x.places × AreLevels (sets_in u) x.levels) (sym b.index-is) (
             places,
-            subst (λ (s : List Set). AreEnds s c.args.index.now.levels) (sym sets)
-                (ends_cell (sets_in v) name value c.args.index.now.levels b.in-Cell.link c.requires.absent is.0 c.requires.index.1),
+            subst (λ (s : List Set). AreLevels s c.args.index.now.levels) (sym sets)
+                (levels_cell (sets_in v) name value c.args.index.now.levels b.in-Cell.link c.requires.absent is.0 c.requires.index.1),
           )
       | in-Nodes b ↦
           let is = subst (IsMissing table.words (sets_in v) name) b.in-Nodes.is c.missing_of-missing.ensures.missing in
-          subst (λ (x : Index). AreNoted table u.trie.known (store_of u).held x.places × AreEnds (sets_in u) x.levels) (sym b.index-is) (
+          subst (λ (x : Index). AreNoted table u.trie.known (store_of u).held x.places × AreLevels (sets_in u) x.levels) (sym b.index-is) (
             places,
-            subst (λ (s : List Set). AreEnds s b.grow.new.self) (sym sets)
+            subst (λ (s : List Set). AreLevels s b.grow.new.self) (sym sets)
                 (b.grow.ensures (sets_in v) value (record { absent = c.requires.absent; missing = is.1; within = is.2; mark_is = c.requires.used }) c.requires.index.1),
           )
     ]

@@ -6,7 +6,7 @@ use Rattle.init_machine.specs.Words.{cell_words}
 use Rattle.property_trie.specs.Additions.{new_place}
 use Rattle.property_trie.specs.Parts.{parts_of}
 use Rattle.property_trie.specs.Tree.{Trie, find}
-use Rattle.property_trie.proofs.Grown.{ends_same}
+use Rattle.property_trie.proofs.Grown.{levels_same}
 use Rattle.property_trie.specs.TrieSteps.{tree_of}
 use Rattle.property_trie.specs.declared.view.TrieView.{TrieView}
 use Rattle.property_area.specs.Kept.Trees.{trie_same}
@@ -68,7 +68,7 @@ returns-in-Some-clause-index c =
       subst (λ (t : TrieView). AreNoted c.args.area.now t.known (store_of u).held c.find_cell.new.places) (sym c.set_at.ensures.trie)
           (subst (λ (p : Props). AreNoted c.args.area.now w.trie.known p.held c.find_cell.new.places) (sym (store_after w name value u c.set_at.ensures.view))
           (noted_set c.args.area.now w.trie.known (store_of w).held c.find_cell.new.places new there c.find_cell.ensures.noted)),
-      ends_same (sets_in v) (sets_in u) c.args.index.now.levels
+      levels_same (sets_in v) (sets_in u) c.args.index.now.levels
           (ap tree_of sets ∙ ap (λ (t : Trie). t.tree) (trie_same (sets_in v) name value (has_cell v.words (sets_in v) name c.in-Some.ensures.held)))
           c.requires.index.1,
     )

@@ -1,9 +1,8 @@
-use Rattle.std.proofs.Common.{◌≡◌, ◌≢◌, ◌+◌, ◌-◌, ◌≤◌, ℕ, suc, List, [], ◌∷◌, ◌++◌, Some, None, take, drop, length, sym, refl, ap, ◌∙◌, subst, arith}
+use Rattle.std.proofs.Common.{◌≡◌, ◌≢◌, ◌+◌, ◌-◌, ◌≤◌, ℕ, suc, List, [], ◌∷◌, ◌++◌, take, drop, length, sym, ap, ◌∙◌, subst, arith}
 use Rattle.std.proofs.lemmas.List.{length-drop, length-take-le}
 use Rattle.property_trie.specs.TrieSteps.{tree_of}
 use Rattle.property_trie.specs.Parts.{parts_of, parts_behind}
-use Rattle.property_trie.specs.declared.levels.LevelEnd.{LevelEnd}
-use Rattle.property_trie.proofs.Grown.{NewFrom, ends_last, ends_next, new_from, next_new, puts, tail_is}
+use Rattle.property_trie.proofs.Grown.{NewFrom, levels_last, levels_next, new_from, next_new, put_changes, tail_is}
 use Rattle.property_trie.proofs.levels.Levels.add_new.Goals as goal
 
 pub parts-init : goal.parts-init
@@ -23,10 +22,9 @@ returns-then-end-name c = λ sets value g ends.
     let tail = tail_is name from inv.within in
     let rest = take (length name - from) (drop from name) in
     let here = inv.ends sets value g ends in
-    let end : LevelEnd = record { last = None; link = c.parts.place + 3 } in
-    ends_last (sets ++ (name, value) ∷ []) name rest from n c.parts.place tail inv.begins inv.within c.part_len-len.ensures.inside c.part_len-len.ensures.first here.1
-    c.if-end-name.true c.parts.self c.put.new.self end refl refl
-    (puts (Some (take (from + n) name)) end c.parts.self c.put.new.self c.in_ok-put.ensures.top c.in_ok-put.ensures.below) here.0
+    levels_last (sets ++ (name, value) ∷ []) name rest from n c.parts.place tail inv.begins inv.within c.part_len-len.ensures.inside c.part_len-len.ensures.first here.1
+    c.if-end-name.true c.parts.self c.put.new.self c.empty.result c.empty.ensures
+    (put_changes (take (from + n) name) c.empty.result c.parts.self c.put.new.self c.in_ok-put.ensures.top c.in_ok-put.ensures.below) here.0
 
 pub parts-preserved : goal.parts-preserved
 parts-preserved c =
@@ -48,7 +46,7 @@ parts-preserved c =
     let then : parts_of (drop (suc end) name) ≡ take m next ∷ parts_behind m next =
     ap (λ (k : ℕ). parts_of (drop k name)) (sym one_on) ∙ ap parts_of (sym (tail_is name (end + 1) on)) ∙ c.part_len.ensures.first in
     let size = c.node_size.ensures in
-    let last : LevelEnd = record { last = Some c.in_ok-of.field-0; link = c.parts.place + c.node_size.result + 2 } in
+    let level = c.in_ok-level.level in
     let low = inv.low in
     record {
       within = on;
@@ -58,9 +56,9 @@ parts-preserved c =
           let here = inv.ends sets value g ends in
           let new = next_new (sets ++ (name, value) ∷ []) name rest from n c.parts.place tail inv.begins inv.within inside c.part_len-len.ensures.first here.1 more (take m next) (parts_behind m next) then
           (c.parts.place + c.node_size.result) (ap (λ (k : ℕ). c.parts.place + k) size) in (
-            ends_next (sets ++ (name, value) ∷ []) name rest from n c.parts.place tail inv.begins inv.within inside c.part_len-len.ensures.first here.1 more (take m next) (parts_behind m next) then
-                c.parts.self c.put-in-parts.new.self last (ap Some c.in_ok-of.ensures) (ap (λ (k : ℕ). c.parts.place + k + 2) size)
-                (puts (Some (take (from + n) name)) last c.parts.self c.put-in-parts.new.self c.in_ok-put-2.ensures.top c.in_ok-put-2.ensures.below) here.0,
+            levels_next (sets ++ (name, value) ∷ []) name rest from n c.parts.place tail inv.begins inv.within inside c.part_len-len.ensures.first here.1 more (take m next) (parts_behind m next) then
+                c.parts.self c.put-in-parts.new.self level (c.in_ok-level.ensures ∙ ap (λ (k : ℕ). record { link = c.parts.place + 3; nodes = (take m next, c.parts.place + k) ∷ [] }) size)
+                (put_changes (take (from + n) name) level c.parts.self c.put-in-parts.new.self c.in_ok-put-2.ensures.top c.in_ok-put-2.ensures.below) here.0,
             subst (λ (k : ℕ). NewFrom (tree_of (sets ++ (name, value) ∷ [])) name k (c.parts.place + c.node_size.result)) (sym one_on) new,
           );
     }
