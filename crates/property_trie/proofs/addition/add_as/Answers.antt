@@ -1,5 +1,4 @@
 use Rattle.std.proofs.Common.{◌≡◌, ℕ, List, rules, ◌<◌, ◌≤◌, ◌^◌, ◌+◌, [], sym, ◌∙◌, ap, subst, length, arith}
-use Rattle.serial_value.specs.declared.view.CellView.{CellView}
 use Rattle.init_base.specs.Value.{max_value_len}
 use Rattle.serial_value.specs.Words.{IsValue}
 use Rattle.serial_value.specs.Kept.Bodies.{most_len}

@@ -1,4 +1,4 @@
-use Rattle.std.proofs.Common.{ℕ, refl, ◌∙◌, length, arith}
+use Rattle.std.proofs.Common.{refl, ◌∙◌, arith}
 use Rattle.property_trie.specs.Additions.{first_words, new_node_word}
 use Rattle.property_trie.proofs.Additional.{Parted, sits_far, fresh_far, next_word, one_more, far_none, length-first_words}
 use Rattle.property_trie.proofs.addition.store_node.Given as given
