@@ -7,6 +7,7 @@ use Rattle.atomic_table.specs.Seated.{TableId}
 use Rattle.serial_value.specs.declared.view.CellView.{CellView}
 use Rattle.serial_value.specs.declared.view.CellView.TheVariants.{Writer, Reader}
 use Rattle.serial_value.specs.Cell.{sets_of, accepted, IsWriter}
+use Rattle.serial_value.specs.Steps.{IsSameSeat}
 use Rattle.init_machine.specs.declared.report.Reading.{Reading}
 use Rattle.serial_value.specs.Words.{text_word, body_word}
 use Rattle.init_machine.specs.Sets.{Set}
@@ -171,6 +172,28 @@ module _ {V X : Type 0} {cell : V → CellView} {trie : V → TrieView} {with_tr
   -- nothing has happened yet
   pub far_none : (m : V × X) (name : List ℕ) (linked : ℕ) (fresh : List ℕ) → (trie m.0).adding ≡ addition name linked fresh → Far trie with_trie m m name linked fresh
   far_none m name linked fresh is = (λ i. (sym (ap (with_trie m.0) (adding_same (trie m.0) name linked fresh is) ∙ L.trie_same m.0) i, m.1))
+
+module _ {S V : Type 0} {cell : V → CellView} {trie : V → TrieView} {with_trie : V → TrieView → V} {words : V → ℕ} {Settled : V → Type 0}
+    (L : Parted cell trie with_trie words Settled) where
+  -- what the store of the next fresh word asks
+  pub next_asks : {before after : Seat S V} {name : List ℕ} {linked : ℕ} {fresh : List ℕ} → Stores trie with_trie before after name linked fresh
+      → (table : TableId) (place k linked' : ℕ) (fresh' : List ℕ) → (before.table_id ≡ table) × HasWords table (words before.me.0) → place ≡ free_place (sets_of (cell before.me.0)) name linked → length fresh ≡ k
+      → Settled before.me.0 × IsAdding (cell before.me.0) (trie before.me.0) name linked' fresh'
+      → ((after.table_id ≡ table) × HasWords table (words after.me.0)) × (place + k ≡ free_place (sets_of (cell after.me.0)) name linked + length (fresh_in (trie after.me.0).adding))
+      × (Settled after.me.0 × IsAdding (cell after.me.0) (trie after.me.0) name linked (fresh_in (trie after.me.0).adding))
+  next_asks {before = b} {after = a} {name = name} {linked = linked} {fresh = fresh} h table place k linked' fresh' sits is long may =
+      let next = next_word L b.me a.me name linked fresh h.far place k linked' fresh' is long may in
+      (sits_far L b.me a.me name linked fresh h.far b.table_id a.table_id table h.table sits, next.0, (next.1, next.2))
+
+  -- and leaves
+  pub stores_more : {before after : Seat S V} {name : List ℕ} {linked : ℕ} (word : ℕ → ℕ) (k : ℕ) → Stores trie with_trie before after name linked (first_words word k)
+      → (next : Seat S V) (w : ℕ) → IsSameSeat after next → w ≡ word k → Far trie with_trie after.me next.me name linked (fresh_in (trie after.me.0).adding ++ w ∷ [])
+      → Stores trie with_trie before next name linked (first_words word (k + 1))
+  stores_more {before = b} {after = a} {name = name} {linked = linked} word k h next w same is view = record {
+    table = same.0 ∙ h.table;
+    id = same.1 ∙ h.id;
+    far = one_more L b.me a.me name linked (first_words word k) h.far next.me word k w _ refl (fresh_far L b.me a.me name linked (first_words word k) h.far) is view;
+  }
 
 -- How far the nodes of a name are made: so many are linked, these parts have no node yet, and the next node is to be linked
 -- here and lies there.

@@ -125,6 +125,10 @@ IsMissing words sets name (MissingNodes link from) =
     (link ≡ link_at 1 (tree_of sets) (parts_of name)) × (parts_of (drop from name) ≡ missing_parts (tree_of sets) (parts_of name))
     × (from ≤ length name) × (link < words)
 
+-- the first free word, from which on the missing nodes of the name have room
+abbrev pub HasRoom : ℕ → List Set → List ℕ → ℕ → Type 0
+HasRoom words sets name mark = (mark ≡ mark_of sets) × (new_place sets name ≤ words)
+
 -- the view of the writer once all missing nodes of the name are linked
 abbrev pub with_path : {V : Type 0} → (V → TrieView → V) → CellView → TrieView → V → List ℕ → V
 with_path with_trie cell trie v name = with_trie v (adding trie name (missing_count (sets_of cell) name) [])

@@ -32,7 +32,7 @@ first : (g : given.Over) (c : After-part_len-len g) → parts_of (drop c.parts.f
 first g c = ap parts_of (sym (whole g c)) ∙ c.part_len-len.ensures.first
 
 room : (g : given.Over) (c : After-part_len-len g) → c.parts.place + node_size (part g c) ≤ c.args.table.now.shared.table_id.words
-room g c = node_room c.parts.invariant.made (first g c) c.requires.room
+room g c = node_room c.parts.invariant.made (first g c) c.requires.room.1
 
 small : (g : given.Over) (c : After-part_len-len g) → c.args.table.now.shared.table_id.words ≤ 2 ^ 32
 small g c = subst (λ (k : ℕ). k ≤ 2 ^ 32) c.requires.table.1.0 c.requires.table.1.1
@@ -44,7 +44,7 @@ parts-init g c =
       table = refl;
       id = refl;
       made = none_made (laws g) m (sets_of (g.R.CellRule.cell m.0)) g.Q.Added.name c.args.table.now.shared.table_id.words c.args.top c.args.mark (parts_of (drop c.args.first c.args.name.now))
-          c.requires.adds.1.under_way c.requires.rest c.requires.top.1 c.requires.mark c.requires.top.0;
+          c.requires.adds.1.under_way c.requires.rest c.requires.top.1 c.requires.room.0 c.requires.top.0;
       within = c.requires.name.2;
     }
 

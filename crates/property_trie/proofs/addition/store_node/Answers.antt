@@ -1,6 +1,6 @@
-use Rattle.std.proofs.Common.{refl, ◌∙◌, arith}
+use Rattle.std.proofs.Common.{refl, arith}
 use Rattle.property_trie.specs.Additions.{first_words, new_node_word}
-use Rattle.property_trie.proofs.Additional.{Parted, sits_far, fresh_far, next_word, one_more, far_none, length-first_words}
+use Rattle.property_trie.proofs.Additional.{Parted, next_asks, stores_more, far_none, length-first_words}
 use Rattle.property_trie.proofs.addition.store_node.Given as given
 use Rattle.property_trie.proofs.addition.store_node.Goals as goal
 
@@ -16,27 +16,10 @@ loop-k-init g c =
 
 pub fresh_word-requires : goal.fresh_word-requires
 fresh_word-requires g c =
-    let word = new_node_word c.args.part.now in
-    let m = c.args.seat.now.me in
-    let n = c.loop-k.seat.me in
-    let inv = c.loop-k.invariant in
-    let next = next_word (laws g) m n g.Q.Added.name g.Q.Added.linked (first_words word c.loop-k.k) inv.far c.args.place c.loop-k.k g.Q.Added.linked _ c.requires.place.0 (length-first_words word c.loop-k.k) c.requires.adds in
-    record {
-      table = sits_far (laws g) m n g.Q.Added.name g.Q.Added.linked (first_words word c.loop-k.k) inv.far c.args.seat.now.table_id c.loop-k.seat.table_id _ inv.table c.requires.table;
-      place = (omega arith, next.0);
-      adds = (next.1, next.2);
-    }
+    let long = length-first_words (new_node_word c.args.part.now) c.loop-k.k in
+    let asks = next_asks (laws g) c.loop-k.invariant _ c.args.place c.loop-k.k _ _ c.requires.table c.requires.place.0 long c.requires.adds in
+    record { table = asks.0; place = (omega arith, asks.1); adds = asks.2 }
 
 pub loop-k-preserved : goal.loop-k-preserved
 loop-k-preserved g c =
-    let word = new_node_word c.args.part.now in
-    let m = c.args.seat.now.me in
-    let n = c.loop-k.seat.me in
-    let inv = c.loop-k.invariant in
-    let so_far = first_words word c.loop-k.k in
-    record {
-      table = c.fresh_word.ensures.seat.0 ∙ inv.table;
-      id = c.fresh_word.ensures.seat.1 ∙ inv.id;
-      far = one_more (laws g) m n g.Q.Added.name g.Q.Added.linked so_far inv.far c.fresh_word.new.seat.me word c.loop-k.k _ _ refl
-          (fresh_far (laws g) m n g.Q.Added.name g.Q.Added.linked so_far inv.far) c.word_of_node.ensures c.fresh_word.ensures.view;
-    }
+    stores_more (laws g) (new_node_word c.args.part.now) c.loop-k.k c.loop-k.invariant c.fresh_word.new.seat c.word_of_node.result c.fresh_word.ensures.seat c.word_of_node.ensures c.fresh_word.ensures.view
