@@ -175,6 +175,10 @@ module _ {V X : Type 0} {cell : V → CellView} {trie : V → TrieView} {with_tr
 
 module _ {S V : Type 0} {cell : V → CellView} {trie : V → TrieView} {with_trie : V → TrieView → V} {words : V → ℕ} {Settled : V → Type 0}
     (L : Parted cell trie with_trie words Settled) where
+  -- none stands yet
+  pub stores_none : (seat : Seat S V) (word : ℕ → ℕ) (name : List ℕ) (linked : ℕ) → (trie seat.me.0).adding ≡ addition name linked [] → Stores trie with_trie seat seat name linked (first_words word 0)
+  stores_none seat word name linked is = record { table = refl; id = refl; far = far_none L seat.me name linked [] is }
+
   -- what the store of the next fresh word asks
   pub next_asks : {before after : Seat S V} {name : List ℕ} {linked : ℕ} {fresh : List ℕ} → Stores trie with_trie before after name linked fresh
       → (table : TableId) (place k linked' : ℕ) (fresh' : List ℕ) → (before.table_id ≡ table) × HasWords table (words before.me.0) → place ≡ free_place (sets_of (cell before.me.0)) name linked → length fresh ≡ k

@@ -1,6 +1,6 @@
-use Rattle.std.proofs.Common.{refl, arith}
-use Rattle.property_trie.specs.Additions.{first_words, new_cell_word}
-use Rattle.property_trie.proofs.Additional.{Parted, next_asks, stores_more, far_none, length-first_words}
+use Rattle.std.proofs.Common.{arith}
+use Rattle.property_trie.specs.Additions.{new_cell_word}
+use Rattle.property_trie.proofs.Additional.{Parted, next_asks, stores_none, stores_more, length-first_words}
 use Rattle.property_trie.proofs.addition.store_cell.Given as given
 use Rattle.property_trie.proofs.addition.store_cell.Goals as goal
 
@@ -10,9 +10,7 @@ laws g =
     record { trie_with = M.trie_with; trie_same = M.trie_same; trie_twice = M.trie_twice; cell_beside = M.cell_beside; words_stay = M.words_stay; settled_beside = M.settled_beside }
 
 pub loop-k-init : goal.loop-k-init
-loop-k-init g c =
-    let none = first_words (new_cell_word c.args.number c.args.value.now) 0 in
-    record { table = refl; id = refl; far = far_none (laws g) c.args.seat.now.me g.Q.Added.name g.Q.Added.linked none c.requires.adds.1.under_way }
+loop-k-init g c = stores_none (laws g) c.args.seat.now (new_cell_word c.args.number c.args.value.now) g.Q.Added.name g.Q.Added.linked c.requires.adds.1.under_way
 
 pub fresh_word-requires : goal.fresh_word-requires
 fresh_word-requires g c =
