@@ -4,9 +4,8 @@
 #![tactic(auto)]
 
 ghost use Rattle.std.specs.Prelude.{◌≡◌, ◌<◌, ◌≤◌, ◌+◌, ◌^◌, ◌∷◌, [], None, length};
-ghost use Rattle.serial_value.specs.declared.view.CellView.TheVariants.{Writer};
-ghost use Rattle.serial_value.specs.Cell.{sets_of, making_of, HasShortCell};
-ghost use Rattle.serial_value.specs.One.{the_name};
+ghost use Rattle.serial_value.specs.Cell.{making_of};
+ghost use Rattle.serial_value.specs.One.{HasMade};
 
 use init_base::{PropName, PropValue};
 use serial_value::{CellAnswer, OneSeat, OneTable, one_cell, one_reader, read_cell, write_cell};
@@ -58,8 +57,8 @@ fn writes(
 )
     requires table { (writer.old.table_id ≡ table.now.shared.table_id) × (table.now.shared.table_id.words ≡ 29) }
     requires name { name.bytes.now ≡ 97 ∷ [] }
-    requires writer { (writer.old.me.0.cell ≡ Writer (sets_of writer.old.me.0.cell) None) × (length (sets_of writer.old.me.0.cell) ≡ 1) }
-    requires short { HasShortCell (sets_of writer.old.me.0.cell) the_name × (length value.bytes.now ≤ 91) }
+    requires writer { HasMade writer.old.me.0.cell 1 }
+    requires short { length value.bytes.now ≤ 91 }
     requires count { count < 2 ^ 41 }
 {
     for k in 0..count {

@@ -3,8 +3,8 @@ use Rattle.serial_value.proofs.steps.clean_serial.Goals as goal
 
 pub store-requires : goal.store-requires
 store-requires g c = (
-  c.requires.table,
+  c.requires.cell.0,
   omega arith,
-  rw (c.requires.place.1, c.requires.word) (g.met.R.CellRule.clean_serial _ _ _ _ _ _ _
+  rw (c.requires.cell.2, c.requires.word) (g.met.R.CellRule.clean_serial _ _ _ _ _ _ _
       c.requires.writer.0 c.requires.writer.1 c.requires.update.0 c.requires.update.1),
 )

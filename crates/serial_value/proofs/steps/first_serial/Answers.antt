@@ -3,7 +3,7 @@ use Rattle.serial_value.proofs.steps.first_serial.Goals as goal
 
 pub load-requires : goal.load-requires
 load-requires g c = (
-  c.requires.table,
+  c.requires.cell.0.0,
   omega arith,
-  rw c.requires.place.1 (g.met.R.CellRule.first_serial _ _ _ _ _ _ c.requires.linked),
+  rw c.requires.cell.0.2 (g.met.R.CellRule.first_serial _ _ _ _ _ _ c.requires.cell.1),
 )

@@ -3,8 +3,8 @@ use Rattle.serial_value.proofs.steps.value_word.Goals as goal
 
 pub store-requires : goal.store-requires
 store-requires g c = (
-  c.requires.table,
+  c.requires.cell.0,
   omega arith,
-  rw (c.requires.place.1, c.requires.update.2, c.requires.word) (g.met.R.CellRule.value_word _ _ _ _ _ _ _ _
+  rw (c.requires.cell.2, c.requires.update.2, c.requires.word) (g.met.R.CellRule.value_word _ _ _ _ _ _ _ _
       c.requires.writer.0 c.requires.writer.1 c.requires.update.0 c.requires.update.1),
 )
