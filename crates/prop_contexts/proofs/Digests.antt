@@ -1,19 +1,23 @@
 -- The digests of texts and of the fronts of a text, and which names have a line.
-use Rattle.std.proofs.Common.{◌≡◌, ℕ, ◌+◌, ◌%◌, ◌<◌, ◌≤◌, Bool, length, slice_set, subst, Result, Ok, Err, OnOk, OnErr, true, false, ◌||◌, nat_eq, List, [], ◌∷◌, ◌++◌, take, refl, ap, sym, ◌∙◌, if◌then◌else◌, arith}
+use Rattle.std.proofs.Common.{◌≡◌, ℕ, ◌+◌, ◌%◌, ◌<◌, ◌≤◌, Bool, length, slice_set, subst, Option, Some, None, is_some, Result, Ok, Err, OnOk, OnErr, true, false, ◌||◌, nat_eq, List, [], ◌∷◌, ◌++◌, take, refl, ap, sym, ◌∙◌, if◌then◌else◌, arith}
 use Rattle.std.proofs.lemmas.Grind.{common_steps}
 use Rattle.std.proofs.lemmas.Bool.{eqb-true, eq-eqb, false_from_ne_true, true≢false}
 use Rattle.std.proofs.lemmas.List.{get_or-set_same, get_or-set_other}
 use Rattle.std.proofs.lemmas.List.Folds.{list_any-append}
+use Rattle.std.proofs.lemmas.Option.{none-some}
 use Rattle.std.specs.Cmp.Lexicographic.{bytes_decides}
 use Rattle.std.specs.List.{list_any, slice_index_or}
+use Rattle.std.specs.Option.{option_map}
 use Rattle.std.specs.Str.{bytes_eq}
 use Rattle.indexmap.specs.IndexMap.{insert_entry}
 use Rattle.indexmap.specs.IndexSet.{insert_key}
 use Rattle.init_machine.specs.Policy.{ContextLine}
 use Rattle.init_machine.specs.declared.policy.Context.{Context}
 use Rattle.prop_contexts.specs.Digests.{digest_of, AreMarked, HaveDigests}
-use Rattle.prop_contexts.specs.NameLines.{has_name}
+use Rattle.prop_contexts.specs.NameLines.{context_in, has_name}
+use Rattle.prop_contexts.specs.declared.names.Front.{Front}
 use Rattle.prop_contexts.proofs.Entries.{entry_lines}
+use Rattle.prop_contexts.proofs.Fronts.{none_for}
 
 -- ---- names
 
@@ -108,6 +112,12 @@ no_line : (lines : List ContextLine) (digests : List ℕ) (name : List ℕ) (dig
 no_line lines digests name digest have is none = false_from_ne_true (has_name lines name) (λ there.
     true≢false (sym (have name there) ∙ ap (λ d. list_any (nat_eq d) digests) (sym is) ∙ none))
 
+-- and no context
+pub no_context : (lines : List ContextLine) (digests : List ℕ) (name : List ℕ) (digest : ℕ) → HaveDigests lines digests → digest ≡ digest_of name
+    → list_any (nat_eq digest) digests ≡ false → None ≡ context_in lines name
+no_context lines digests name digest have is none =
+    ap (option_map (λ line. line.context)) (sym (none_for lines name (no_line lines digests name digest have is none)))
+
 -- ---- fronts
 
 -- of the fronts of at most so many bytes, none that is longer has a line
@@ -117,18 +127,35 @@ IsLongest lines name known i = (n : ℕ) → known < n → n ≤ i → has_name 
 below_last : (n i : ℕ) → nat_eq n (i + 1) ≡ false → n ≤ i + 1 → n ≤ i
 below_last n i differ less = grind (arith, common_steps)
 
-pub front_more : (lines : List ContextLine) (digests : List ℕ) (name : List ℕ) (i known digest : ℕ) → HaveDigests lines digests → digest ≡ digest_of (take (i + 1) name) → known ≤ i
-    → IsLongest lines name known i → IsLongest lines name (if list_any (nat_eq digest) digests then i + 1 else known) (i + 1)
-front_more lines digests name i known digest have is within longest n = by (list_any (nat_eq digest) digests) refl
-  where
-    last : list_any (nat_eq digest) digests ≡ false → (v : Bool) → nat_eq n (i + 1) ≡ v → known < n → n ≤ i + 1 → has_name lines (take n name) ≡ false
-    last none true same more less =
-        ap (λ k. has_name lines (take k name)) (eqb-true n (i + 1) same) ∙ no_line lines digests (take (i + 1) name) digest have is none
-    last none false differ more less = longest n more (below_last n i differ less)
+-- where the front has no place, no front has a line
+abbrev pub IsNone : List ContextLine → Front → Type 0
+IsNone lines front = front.place ≡ None → (front.len ≡ 0) × (has_name lines [] ≡ false)
 
-    by : (v : Bool) → list_any (nat_eq digest) digests ≡ v → (if v then i + 1 else known) < n → n ≤ i + 1 → has_name lines (take n name) ≡ false
-    by true there more less = absurd (omega (arith, more, less))
-    by false none more less = last none (nat_eq n (i + 1)) refl more less
+-- no byte was walked over yet
+pub front_first : (lines : List ContextLine) (digests : List ℕ) (place : Option ℕ) (front : Front) → HaveDigests lines digests → is_some place ≡ list_any (nat_eq 0) digests
+    → front ≡ (if is_some place then record { len = 0; place = place } else record { len = 0; place = None }) → (front.len ≡ 0) × IsNone lines front
+front_first lines digests None front have at is = (ap (λ f. f.len) is, λ none. (ap (λ f. f.len) is, no_line lines digests [] 0 have refl (sym at)))
+front_first lines digests (Some place) front have at is = (ap (λ f. f.len) is, λ none. absurd (none-some place (sym none ∙ ap (λ f. f.place) is)))
+
+-- one byte more
+pub front_more : (lines : List ContextLine) (digests : List ℕ) (name : List ℕ) (i digest : ℕ) (known front : Front) (place : Option ℕ)
+    → HaveDigests lines digests → digest ≡ digest_of (take (i + 1) name) → is_some place ≡ list_any (nat_eq digest) digests
+    → front ≡ (if is_some place then record { len = i + 1; place = place } else known) → known.len ≤ i → IsLongest lines name known.len i → IsNone lines known
+    → (front.len ≤ i + 1) × IsLongest lines name front.len (i + 1) × IsNone lines front
+front_more lines digests name i digest known front (Some place) have digest_is at is within longest none =
+    let long : front.len ≡ i + 1 = ap (λ f. f.len) is in
+    (omega (arith, long), λ n more less. absurd (omega (arith, long, more, less)), λ is_none. absurd (none-some place (sym is_none ∙ ap (λ f. f.place) is)))
+front_more lines digests name i digest known front None have digest_is at is within longest none =
+    let same : front.len ≡ known.len = ap (λ f. f.len) is in (
+      omega (arith, same, within),
+      λ n more less. last n (nat_eq n (i + 1)) refl (omega (arith, same, more)) less,
+      λ is_none. let these = none (sym (ap (λ f. f.place) is) ∙ is_none) in (same ∙ these.0, these.1),
+    )
+  where
+    last : (n : ℕ) (v : Bool) → nat_eq n (i + 1) ≡ v → known.len < n → n ≤ i + 1 → has_name lines (take n name) ≡ false
+    last n true equal more less =
+        ap (λ k. has_name lines (take k name)) (eqb-true n (i + 1) equal) ∙ no_line lines digests (take (i + 1) name) digest have digest_is (sym at)
+    last n false differ more less = longest n more (below_last n i differ less)
 
 -- ---- marks
 

@@ -1,5 +1,5 @@
 -- The longest name that is a front of another, by looking up each front.
-use Rattle.std.proofs.Common.{◌≡◌, ℕ, suc, zero, ◌+◌, ◌-◌, ◌<◌, ◌≤◌, inl, inr, ◌⊎◌, ◌||◌, Bool, true, false, cond, nat_lt, Option, Some, None, List, [], ◌∷◌, ◌++◌, length, length-append, take, take-take, refl, ap, sym, ◌∙◌, find, filter, arith}
+use Rattle.std.proofs.Common.{◌≡◌, ℕ, suc, zero, ◌+◌, ◌-◌, ◌<◌, ◌≤◌, inl, inr, ◌⊎◌, ◌||◌, Bool, true, false, cond, nat_lt, Option, Some, None, List, [], ◌∷◌, ◌++◌, length, length-append, take, take-take, refl, ap, sym, ◌∙◌, subst, find, filter, arith}
 use Rattle.std.proofs.Math.Seq.{take-append_seam}
 use Rattle.std.proofs.lemmas.Bool.{cases_lt, ltb-true, lt-ltb, false_from_ne_true}
 use Rattle.std.proofs.lemmas.List.{length-take}
@@ -9,7 +9,9 @@ use Rattle.std.specs.Option.{option_map}
 use Rattle.std.specs.Str.{bytes_eq}
 use Rattle.init_machine.specs.Policy.{ContextLine, is_line_for, is_prefix_for, longest, longer}
 use Rattle.init_machine.specs.declared.policy.Context.{Context}
-use Rattle.prop_contexts.specs.NameLines.{named, has_name}
+use Rattle.prop_contexts.specs.NameLines.{context_in, named, has_name}
+use Rattle.prop_contexts.specs.Walks.{IsWalked}
+use Rattle.prop_contexts.specs.declared.names.Front.{Front}
 use Rattle.prop_contexts.proofs.Entries.{entry_lines}
 
 abbrev pub or_else : {A : Type 0} → Option A → Option A → Option A
@@ -176,6 +178,14 @@ lookup-is (entry ∷ entries) name =
       | false ↦ lookup-is entries name
     ]
 
+-- the line at a place, where its name is the one that is asked for
+pub found_at : (entries : List (List ℕ × Context)) (key bytes name : List ℕ) (context : Context) (equal : Bool)
+    → lookup (λ k. bytes_eq key k) entries ≡ Some context → bytes ≡ key → equal ≡ bytes_eq bytes name → equal ≡ true → Some context ≡ context_in (entry_lines entries) name
+found_at entries key bytes name context equal there bytes_are is equals =
+    sym there
+    ∙ ap (λ (k : List ℕ). lookup (bytes_eq k) entries) (sym bytes_are ∙ same bytes name (sym is ∙ equals))
+    ∙ lookup-is entries name
+
 -- what a front decides
 decided : (name front : List ℕ) (lines : List ContextLine) → IsLeft name lines front
     → longest (filter (is_prefix_for name) lines) ≡ or_else (find (is_line_for front) lines) (below name lines (length front))
@@ -229,7 +239,7 @@ one_less name front shorter last lines left none is =
     }
 
 -- a name without a line is for none
-none_for : (lines : List ContextLine) (name : List ℕ) → has_name lines name ≡ false → find (is_line_for name) lines ≡ None
+pub none_for : (lines : List ContextLine) (name : List ℕ) → has_name lines name ≡ false → find (is_line_for name) lines ≡ None
 none_for [] name none = refl
 none_for (line ∷ lines) name none = by (is_line_for name line) none (λ rest. none_for lines name rest)
   where
@@ -252,6 +262,20 @@ decides_down name lines known (suc n) less none = by (cases_lt n known)
         ap (down name lines) is
     by (inr low) rest = rest low ∙ ap (λ f. or_else f (down name lines n)) (sym (none (suc n) (omega (arith, low)) (omega arith)))
 
+-- the same fronts of a front
+down_front : (name shorter : List ℕ) (lines : List ContextLine) (n : ℕ) → shorter ≡ take (length shorter) name → n ≤ length shorter → down shorter lines n ≡ down name lines n
+down_front name shorter lines zero is less = refl
+down_front name shorter lines (suc n) is less =
+    let same : take (suc n) shorter ≡ take (suc n) name = ap (take (suc n)) is ∙ take-take (suc n) (length shorter) name less in
+    ap (λ front. or_else (find (is_line_for front) lines) (down shorter lines n)) same
+    ∙ ap (or_else (find (is_line_for (take (suc n) name)) lines)) (down_front name shorter lines n is (omega (arith, less)))
+
+-- the longest line for a front is that for the name
+pub left_is : (name shorter : List ℕ) (lines : List ContextLine) → IsLeft name lines shorter
+    → longest (filter (is_prefix_for shorter) lines) ≡ longest (filter (is_prefix_for name) lines)
+left_is name shorter lines left =
+    sym (down-is shorter lines) ∙ down_front name shorter lines (length shorter) left.is (omega arith) ∙ left.decides ∙ down-is name lines
+
 pub known_first : (name front : List ℕ) (lines : List ContextLine) → front ≡ take (length front) name
     → ((n : ℕ) → length front < n → n ≤ length name → has_name lines (take n name) ≡ false) → IsLeft name lines front
 known_first name front lines is none = record {
@@ -259,3 +283,16 @@ known_first name front lines is none = record {
   decides = decides_down name lines (length front) (length name) (omega (arith, ap length is, length-take (length front) name))
       (λ m more less. none_for lines (take m name) (none m more less));
 }
+
+-- the front that a walk tells of
+pub walked_first : (name : List ℕ) (digest : ℕ) (front : Front) (lines : List ContextLine) → IsWalked lines name digest front → IsLeft name lines (take front.len name)
+walked_first name digest front lines walked =
+    let long : length (take front.len name) ≡ front.len = omega (arith, length-take front.len name, walked.within) in
+    known_first name (take front.len name) lines (ap (λ n. take n name) (sym long)) (λ n more less. walked.longer n (omega (arith, long, more)) less)
+
+pub nothing_known : (name : List ℕ) (digest : ℕ) (front : Front) (lines : List ContextLine) → IsWalked lines name digest front → front.place ≡ None
+    → None ≡ option_map (λ line. line.context) (longest (filter (is_prefix_for name) lines))
+nothing_known name digest front lines walked none =
+    let nothing = walked.none none in
+    let left : IsLeft name lines [] = subst (λ n. IsLeft name lines (take n name)) nothing.0 (walked_first name digest front lines walked) in
+    none_left name [] lines left (ap (option_map (λ line. line.context)) (none_for lines [] nothing.1)) refl

@@ -1,8 +1,6 @@
 -- The context of a name, by what was looked up; and why two texts are no policy.
 use Rattle.std.proofs.Common.{◌≡◌, ℕ, ◌≤◌, Option, Some, None, List, [], ◌∷◌, length, filter, find, refl, ap, sym, ◌∙◌, true, false, arith}
-use Rattle.std.specs.Map.{lookup}
 use Rattle.std.specs.Option.{option_map, option_map_or}
-use Rattle.std.specs.Str.{bytes_eq}
 use Rattle.init_machine.specs.Policy.{ContextLine, PolicyLines, is_line_for, is_prefix_for, longest, context_of}
 use Rattle.init_machine.specs.declared.policy.Context.{Context}
 use Rattle.prop_contexts.specs.Allowed.{IsAllowRefusal}
@@ -10,11 +8,10 @@ use Rattle.prop_contexts.specs.Contexts.{default_contexts}
 use Rattle.prop_contexts.specs.Given.{AreGiven, first_of}
 use Rattle.prop_contexts.specs.Grammar.{IsRefused}
 use Rattle.prop_contexts.specs.Lines.{lines_of}
+use Rattle.prop_contexts.specs.NameLines.{context_in}
 use Rattle.prop_contexts.specs.declared.contexts.Contexts.{Contexts}
 use Rattle.prop_contexts.specs.declared.refusal.PolicyRefusal.{PolicyRefusal}
 use Rattle.prop_contexts.specs.declared.refusal.PolicyRefusal.TheVariants as refusal
-use Rattle.prop_contexts.proofs.Entries.{entry_lines}
-use Rattle.prop_contexts.proofs.Fronts.{lookup-is}
 use Rattle.prop_contexts.proofs.Steps.{fits_of}
 
 -- ---- a context
@@ -28,27 +25,21 @@ not_here : (other : Context) (found : Option ContextLine) → None ≡ option_ma
 not_here other None h = refl
 not_here other (Some line) h = absurd (cc h)
 
-pub exact_found : (policy : PolicyLines) (name : List ℕ) (entries : List (List ℕ × Context)) (context : Context) → policy.exact ≡ entry_lines entries
-    → Some context ≡ lookup (λ k. bytes_eq name k) entries → context ≡ context_of policy name
+pub exact_found : (policy : PolicyLines) (name : List ℕ) (context : Context) → Some context ≡ context_in policy.exact name → context ≡ context_of policy name
 unfolding context_of
-exact_found policy name entries context is found =
-    here context _ (find (is_line_for name) policy.exact) (found ∙ lookup-is entries name ∙ ap (λ lines. option_map (λ line. line.context) (find (is_line_for name) lines)) (sym is))
+exact_found policy name context found = here context _ (find (is_line_for name) policy.exact) found
 
-pub prefix_found : (policy : PolicyLines) (name : List ℕ) (entries : List (List ℕ × Context)) (context : Context) → policy.exact ≡ entry_lines entries
-    → None ≡ lookup (λ k. bytes_eq name k) entries
+pub prefix_found : (policy : PolicyLines) (name : List ℕ) (context : Context) → None ≡ context_in policy.exact name
     → Some context ≡ option_map (λ line. line.context) (longest (filter (is_prefix_for name) policy.prefixes)) → context ≡ context_of policy name
 unfolding context_of
-prefix_found policy name entries context is none found =
-    here context policy.default (longest (filter (is_prefix_for name) policy.prefixes)) found
-    ∙ not_here _ (find (is_line_for name) policy.exact) (none ∙ lookup-is entries name ∙ ap (λ lines. option_map (λ line. line.context) (find (is_line_for name) lines)) (sym is))
+prefix_found policy name context none found =
+    here context policy.default (longest (filter (is_prefix_for name) policy.prefixes)) found ∙ not_here _ (find (is_line_for name) policy.exact) none
 
-pub default_used : (policy : PolicyLines) (name : List ℕ) (entries : List (List ℕ × Context)) → policy.exact ≡ entry_lines entries
-    → None ≡ lookup (λ k. bytes_eq name k) entries
+pub default_used : (policy : PolicyLines) (name : List ℕ) → None ≡ context_in policy.exact name
     → None ≡ option_map (λ line. line.context) (longest (filter (is_prefix_for name) policy.prefixes)) → policy.default ≡ context_of policy name
 unfolding context_of
-default_used policy name entries is none no_prefix =
-    not_here policy.default (longest (filter (is_prefix_for name) policy.prefixes)) no_prefix
-    ∙ not_here _ (find (is_line_for name) policy.exact) (none ∙ lookup-is entries name ∙ ap (λ lines. option_map (λ line. line.context) (find (is_line_for name) lines)) (sym is))
+default_used policy name none no_prefix =
+    not_here policy.default (longest (filter (is_prefix_for name) policy.prefixes)) no_prefix ∙ not_here _ (find (is_line_for name) policy.exact) none
 
 -- ---- two texts
 

@@ -2,7 +2,7 @@
 use Rattle.std.specs.Prelude.{◌≡◌, ◌≤◌, ℕ, ⊤, Bool, true, false, IsTrue, is_some, List, [], ◌∷◌, ◌++◌, length, Option, Some, None}
 use Rattle.init_machine.specs.Policy.{ContextLine}
 use Rattle.init_machine.specs.declared.policy.Context.{Context}
-use Rattle.prop_contexts.specs.NameLines.{lines_in, has_name}
+use Rattle.prop_contexts.specs.NameLines.{has_name}
 use Rattle.prop_contexts.specs.Contexts.{ScopedLine, default_contexts, exact_lines, prefix_lines}
 use Rattle.prop_contexts.specs.Grammar.{contexts_fit, IsBadContext, IsTwice}
 use Rattle.prop_contexts.specs.Lines.{lines_of}
@@ -32,7 +32,7 @@ given_by lines = record {
 }
 
 abbrev pub given : Contexts → Given
-given contexts = record { default = contexts.default; exact = lines_in contexts.exact; prefixes = contexts.prefixes }
+given contexts = record { default = contexts.default; exact = contexts.exact; prefixes = contexts.prefixes }
 
 abbrev pub nothing_given : Given
 nothing_given = record { default = None; exact = []; prefixes = [] }

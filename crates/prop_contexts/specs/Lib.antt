@@ -9,3 +9,4 @@ pub mod Allowed
 pub mod Allows
 pub mod Grammar
 pub mod Examples
+pub mod Walks

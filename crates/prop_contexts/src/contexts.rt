@@ -8,8 +8,7 @@ ghost use Rattle.prop_contexts.specs.Named.{scoped};
 
 use crate::context_line::{NamedLine, Scope, read_line};
 use crate::line::{Reading, first_line};
-use crate::names::{Names, put};
-use crate::prefixes::Prefixes;
+use crate::names::Names;
 use crate::refusal::PolicyRefusal;
 use init_base::NoMemory;
 use init_machine::Context;
@@ -22,7 +21,7 @@ pub struct Contexts {
     pub lines: u32,
     pub default: Option<Context>,
     pub exact: Names,
-    pub prefixes: Prefixes,
+    pub prefixes: Names,
 }
 
 impl Contexts {
@@ -34,7 +33,7 @@ impl Contexts {
             lines: 0,
             default: None,
             exact: Names::new(alloc),
-            prefixes: Prefixes::new(alloc),
+            prefixes: Names::new(alloc),
         }
     }
 
@@ -77,7 +76,7 @@ impl Contexts {
     {
         match line.scope {
             Scope::Default => Ok(self.add_default(line.context)),
-            Scope::Exact => put(&mut self.exact, line.name, line.context),
+            Scope::Exact => self.exact.put(line.name, line.context),
             Scope::Prefix => self.prefixes.put(line.name, line.context),
         }
     }

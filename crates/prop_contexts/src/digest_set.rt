@@ -1,6 +1,6 @@
-//! A set of digests. Most digests that aren't in it are told by their last byte alone.
+//! Digests in the order in which they were added. Most digests that aren't in it are told by their last byte alone.
 
-ghost use Rattle.std.specs.Prelude.{◌≡◌, ◌%◌, [], nat_eq, OnOk, OnErr};
+ghost use Rattle.std.specs.Prelude.{◌≡◌, ◌%◌, [], is_some, nat_eq, OnOk, OnErr};
 ghost use Rattle.std.specs.List.{list_any};
 ghost use Rattle.indexmap.specs.IndexSet.{insert_key};
 
@@ -56,10 +56,13 @@ impl DigestSet {
         Ok(())
     }
 
-    /// Whether the digest is there.
-    pub fn has(&self, digest: u64) -> bool
-        ensures { result ≡ list_any (nat_eq digest) self.now }
+    /// Where the digest stands, in the order in which they were added. None exactly where it isn't there.
+    pub fn place(&self, digest: u64) -> Option<usize>
+        ensures { is_some result ≡ list_any (nat_eq digest) self.now }
     {
-        self.marks[last_byte(digest)] && self.keys.contains(&digest)
+        if !self.marks[last_byte(digest)] {
+            return None;
+        }
+        self.keys.get_index_of(&digest)
     }
 }

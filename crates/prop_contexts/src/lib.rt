@@ -15,7 +15,6 @@ mod laws;
 mod line;
 mod names;
 mod policy;
-mod prefixes;
 mod refusal;
 
 pub use init_machine::{AllowLine, Context, PolicyView};

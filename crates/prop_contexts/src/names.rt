@@ -1,23 +1,183 @@
-//! Contexts by the names of their lines.
+//! Contexts by the names of their lines, and the longest line for a front of a name.
+//!
+//! One walk over a name makes the digests of its fronts, so that a long name isn't hashed at each of its lengths. A front
+//! whose digest is none of the lines' has no line; else the digest stands at the place of a line, which is looked at
+//! before any other.
 
-ghost use Rattle.std.specs.Prelude.{◌≡◌, ◌++◌, ◌∷◌, [], ◌||◌, ℕ, List, not, IsTrue, IfOk, OnOk, OnErr};
+ghost use Rattle.std.specs.Prelude.{◌≡◌, ◌++◌, ◌∷◌, [], ◌||◌, ℕ, List, filter, if◌then◌else◌, is_some, not, IsTrue, IfOk, OnOk, OnErr};
+ghost use Rattle.std.specs.Option.{option_copied, option_map};
 ghost use Rattle.std.specs.Str.{bytes_eq};
-ghost use Rattle.prop_contexts.specs.NameLines.{has_name, lines_in, named};
+ghost use Rattle.init_machine.specs.Policy.{is_prefix_for, longest};
+ghost use Rattle.prop_contexts.specs.NameLines.{context_in, has_name, lines_in, named};
+ghost use Rattle.prop_contexts.specs.Digests.{digest_of as digest_of_lem, with_byte as with_byte_lem};
+ghost use Rattle.prop_contexts.specs.Walks.{IsWalked};
 
+use crate::digest_set::DigestSet;
 use indexmap::IndexMap;
 use init_base::NoMemory;
 use init_machine::Context;
-use text_index::TextKey;
+use std::alloc::Global;
+use std::marker::Model;
+use text_index::{Spelled, TextKey};
 
-/// Contexts by the names of their lines, in the order of the lines.
-pub type Names = IndexMap<TextKey, Context>;
+/// The contexts of lines by their names, in the order of the lines.
+#[derive(Drop)]
+pub struct Names {
+    contexts: IndexMap<TextKey, Context>,
+    /// The digests of the names. That of a name stands at the place of its line, while no two names have one digest.
+    digests: DigestSet,
+}
+
+impl Model for Names {
+    ghost use Rattle.std.specs.Prelude.{List};
+    ghost use Rattle.init_machine.specs.Policy.{ContextLine};
+    ghost use Rattle.prop_contexts.specs.NameLines.{lines_in};
+    ghost use Rattle.prop_contexts.specs.Digests.{HaveDigests};
+
+    ghost Value = { List ContextLine };
+
+    ghost view = { λ n. lines_in n.contexts };
+
+    ghost invariant = { λ n. HaveDigests (lines_in n.contexts) n.digests };
+}
+
+/// How many bytes of a name a line may be for, and where their digest stands, if it does.
+#[derive(Clone, Copy)]
+pub struct Front {
+    pub len: usize,
+    pub place: Option<usize>,
+}
+
+/// What a walk over a name tells of it.
+#[derive(Clone, Copy)]
+pub struct Walked<'a> {
+    pub name: &'a [u8],
+    pub digest: u64,
+    /// The longest front that a line may be for.
+    pub front: Front,
+}
+
+impl Names {
+    pub fn new(alloc: Global) -> Names
+        ensures { result ≡ [] }
+    {
+        Names {
+            contexts: IndexMap::new(alloc),
+            digests: DigestSet::new(alloc),
+        }
+    }
+
+    /// Puts a context at a name. False where the name has one, which goes.
+    pub fn put(&mut self, name: Vec<u8>, context: Context) -> Result<bool, NoMemory>
+        ensures fresh { IfOk result (λ fresh. fresh ≡ not (has_name self.old name.items)) }
+        ensures added { IfOk result (λ fresh. IsTrue fresh → self.new ≡ self.old ++ named name.items context ∷ []) }
+    {
+        self.digests.insert(digest_of(name.as_slice()))?;
+        put(&mut self.contexts, name, context)
+    }
+
+    /// The context of the line for a name that has this digest. It takes no memory.
+    pub fn get(&self, name: &[u8], digest: u64) -> Option<&Context>
+        requires { digest ≡ digest_of_lem name.now }
+        ensures { option_copied result ≡ context_in self.now name.now }
+    {
+        let place = self.digests.place(digest)?;
+        self.at(place, name)
+    }
+
+    /// The same, of a name whose line most likely stands at this place.
+    fn at(&self, place: usize, name: &[u8]) -> Option<&Context>
+        ensures { option_copied result ≡ context_in self.now name.now }
+    {
+        match self.contexts.get_index(place) {
+            Some((key, context)) if key.bytes() == name => Some(context),
+            _ => self.contexts.get(Spelled { bytes: name }),
+        }
+    }
+
+    /// Walks over a name.
+    pub fn walk<'a>(&self, name: &'a [u8]) -> Walked<'a>
+        ensures name { result.name ≡ name.entry }
+        ensures walked { IsWalked self.now result.name.now result.digest result.front }
+    {
+        let digests = &self.digests;
+        let mut digest = 0;
+        let mut front = later_front(
+            Front {
+                len: 0,
+                place: None,
+            },
+            0,
+            digests.place(0),
+        );
+        for (at, byte) in name.iter().enumerate() {
+            digest = with_byte(digest, *byte);
+            front = later_front(front, at + 1, digests.place(digest));
+        }
+        Walked {
+            name,
+            digest,
+            front,
+        }
+    }
+
+    /// The context of the longest line for a front of a name that was walked over. It takes no memory.
+    pub fn longest(&self, walked: Walked<'_>) -> Option<&Context>
+        requires { IsWalked self.now walked.name.now walked.digest walked.front }
+        ensures { option_copied result ≡ option_map (λ line. line.context) (longest (filter (is_prefix_for walked.entry.name.now) self.now)) }
+    {
+        let place = walked.front.place?;
+        let front = &walked.name[..walked.front.len];
+        if let Some(context) = self.at(place, front) {
+            return Some(context);
+        }
+        let (_, shorter) = front.split_last()?;
+        self.longest(self.walk(shorter))
+    }
+}
 
 /// Puts a context at a name. False where the name has one, which goes.
-pub fn put(names: &mut Names, name: Vec<u8>, context: Context) -> Result<bool, NoMemory>
-    ensures fresh { IfOk result (λ fresh. fresh ≡ not (has_name (lines_in names.old) name.items)) }
-    ensures added { IfOk result (λ fresh. IsTrue fresh → lines_in names.new ≡ lines_in names.old ++ named name.items context ∷ []) }
-    ensures names { OnOk result ((other : List ℕ) → has_name (lines_in names.new) other ≡ (bytes_eq other name.items || has_name (lines_in names.old) other)) }
-    ensures err { OnErr result (lines_in names.new ≡ lines_in names.old) }
+fn put(
+    contexts: &mut IndexMap<TextKey, Context>,
+    name: Vec<u8>,
+    context: Context,
+) -> Result<bool, NoMemory>
+    ensures fresh { IfOk result (λ fresh. fresh ≡ not (has_name (lines_in contexts.old) name.items)) }
+    ensures added { IfOk result (λ fresh. IsTrue fresh → lines_in contexts.new ≡ lines_in contexts.old ++ named name.items context ∷ []) }
+    ensures names { OnOk result ((other : List ℕ) → has_name (lines_in contexts.new) other ≡ (bytes_eq other name.items || has_name (lines_in contexts.old) other)) }
+    ensures err { OnErr result (lines_in contexts.new ≡ lines_in contexts.old) }
 {
-    Ok(names.insert(TextKey::from_vec(name), context)?.is_none())
+    Ok(contexts.insert(TextKey::from_vec(name), context)?.is_none())
 }
+
+/// The longer front, where its digest stands, and else the one that is known.
+fn later_front(known: Front, len: usize, place: Option<usize>) -> Front
+    ensures { result ≡ (if is_some place then record { len = len; place = place } else known) }
+{
+    if place.is_some() {
+        Front { len, place }
+    } else {
+        known
+    }
+}
+
+/// The digest of a text.
+fn digest_of(text: &[u8]) -> u64
+    ensures { result ≡ digest_of_lem text.now }
+{
+    let mut digest = 0;
+    for byte in text {
+        digest = with_byte(digest, *byte);
+    }
+    digest
+}
+
+/// The digest of a text with a byte more behind it.
+fn with_byte(digest: u64, byte: u8) -> u64
+    ensures { result ≡ with_byte_lem digest byte }
+{
+    digest.wrapping_mul(FACTOR).wrapping_add(u64::from(byte))
+}
+
+/// Odd, so that no byte of a text is lost; it is that of the FNV hashes.
+const FACTOR: u64 = 1_099_511_628_211;

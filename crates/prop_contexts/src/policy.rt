@@ -8,30 +8,27 @@ use crate::allowances::Allowances;
 use crate::allows::read_allows;
 use crate::contexts::{Contexts, read_contexts};
 use crate::names::Names;
-use crate::prefixes::Prefixes;
 use crate::refusal::PolicyRefusal;
 use init_base::PropName;
 use init_machine::{Context, PolicyView};
 use std::alloc::Global;
 use std::marker::Model;
-use text_index::Spelled;
 
 /// The policy of property sets.
 #[derive(Drop)]
 pub struct Policy {
     default: Context,
     exact: Names,
-    prefixes: Prefixes,
+    prefixes: Names,
     allows: Allowances,
 }
 
 impl Model for Policy {
     ghost use Rattle.init_machine.specs.Policy.{PolicyLines};
-    ghost use Rattle.prop_contexts.specs.NameLines.{lines_in};
 
     ghost Value = { PolicyLines };
 
-    ghost view = { λ p. record { default = p.default; exact = lines_in p.exact; prefixes = p.prefixes; allows = p.allows } };
+    ghost view = { λ p. record { default = p.default; exact = p.exact; prefixes = p.prefixes; allows = p.allows } };
 }
 
 impl PolicyView for Policy {
@@ -70,11 +67,11 @@ impl Policy {
     pub fn context_of(&self, name: PropName<'_>) -> &Context
         ensures { result.now ≡ context_of self.now name.entry.bytes.now }
     {
-        let name = name.bytes();
-        if let Some(context) = self.exact.get(Spelled { bytes: name }) {
+        let walked = self.prefixes.walk(name.bytes());
+        if let Some(context) = self.exact.get(walked.name, walked.digest) {
             return context;
         }
-        match self.prefixes.longest(name) {
+        match self.prefixes.longest(walked) {
             Some(context) => context,
             None => &self.default,
         }

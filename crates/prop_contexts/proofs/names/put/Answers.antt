@@ -19,17 +19,17 @@ put_at entries new key name context is there = there ∙ ap (λ (k : List ℕ). 
 
 pub returns-clause-fresh : goal.returns-clause-fresh
 returns-clause-fresh c =
-    put_fresh c.args.names.now.entries c.args.name.items c.in_ok-insert.field-0 c.is_none.result
-    (old_at c.args.names.now.entries c.from_vec.result c.args.name.items c.in_ok-insert.field-0 c.from_vec.ensures c.in_ok-insert.ensures.old) c.is_none.ensures
+    put_fresh c.args.contexts.now.entries c.args.name.items c.in_ok-insert.field-0 c.is_none.result
+    (old_at c.args.contexts.now.entries c.from_vec.result c.args.name.items c.in_ok-insert.field-0 c.from_vec.ensures c.in_ok-insert.ensures.old) c.is_none.ensures
 
 pub returns-clause-added : goal.returns-clause-added
 returns-clause-added c =
-    put_added c.args.names.now.entries c.insert.new.self.entries c.args.name.items c.args.context c.in_ok-insert.field-0 c.is_none.result
-    (old_at c.args.names.now.entries c.from_vec.result c.args.name.items c.in_ok-insert.field-0 c.from_vec.ensures c.in_ok-insert.ensures.old) c.is_none.ensures
-    (put_at c.args.names.now.entries c.insert.new.self.entries c.from_vec.result c.args.name.items c.args.context c.from_vec.ensures c.in_ok-insert.ensures.entries)
+    put_added c.args.contexts.now.entries c.insert.new.self.entries c.args.name.items c.args.context c.in_ok-insert.field-0 c.is_none.result
+    (old_at c.args.contexts.now.entries c.from_vec.result c.args.name.items c.in_ok-insert.field-0 c.from_vec.ensures c.in_ok-insert.ensures.old) c.is_none.ensures
+    (put_at c.args.contexts.now.entries c.insert.new.self.entries c.from_vec.result c.args.name.items c.args.context c.from_vec.ensures c.in_ok-insert.ensures.entries)
 
 pub returns-clause-names : goal.returns-clause-names
 returns-clause-names c other =
     ap (λ entries. has_name (entry_lines entries) other)
-    (put_at c.args.names.now.entries c.insert.new.self.entries c.from_vec.result c.args.name.items c.args.context c.from_vec.ensures c.in_ok-insert.ensures.entries)
-    ∙ names_put c.args.names.now.entries c.args.name.items c.args.context other
+    (put_at c.args.contexts.now.entries c.insert.new.self.entries c.from_vec.result c.args.name.items c.args.context c.from_vec.ensures c.in_ok-insert.ensures.entries)
+    ∙ names_put c.args.contexts.now.entries c.args.name.items c.args.context other
