@@ -4,12 +4,12 @@
 #![tactic(auto)]
 
 ghost use Rattle.std.specs.Prelude.{◌≡◌, ◌<◌, ◌≤◌, ◌+◌, ◌^◌, ◌∷◌, [], None, length};
-ghost use Rattle.serial_value.specs.declared.view.CellView.TheVariants.{Writer};
-ghost use Rattle.serial_value.specs.Cell.{sets_of, making_of, HasShortCell};
-ghost use Rattle.serial_value.specs.One.{the_name};
+ghost use Rattle.serial_value.specs.Cell.{making_of};
+ghost use Rattle.serial_value.specs.One.{HasMade};
 
 use init_base::{PropName, PropValue};
 use serial_value::{CellAnswer, OneSeat, OneTable, one_cell, one_reader, read_cell, write_cell};
+use std::alloc::Global;
 use std::process::ExitCode;
 
 /// Where the cell lies.
@@ -58,8 +58,8 @@ fn writes(
 )
     requires table { (writer.old.table_id ≡ table.now.shared.table_id) × (table.now.shared.table_id.words ≡ 29) }
     requires name { name.bytes.now ≡ 97 ∷ [] }
-    requires writer { (writer.old.me.0.cell ≡ Writer (sets_of writer.old.me.0.cell) None) × (length (sets_of writer.old.me.0.cell) ≡ 1) }
-    requires short { HasShortCell (sets_of writer.old.me.0.cell) the_name × (length value.bytes.now ≤ 91) }
+    requires writer { HasMade writer.old.me.0.cell 1 }
+    requires short { length value.bytes.now ≤ 91 }
     requires count { count < 2 ^ 41 }
 {
     for k in 0..count {
@@ -67,21 +67,27 @@ fn writes(
     }
 }
 
-/// None where the words are no run, or memory is short.
-fn run(rt: &HostRuntime) -> Option<u64> {
-    let mut words = std::env::args(rt).ok()?.skip(1);
-    let kind = words.next()?;
-    let count: u64 = words.next()?.as_str().parse().ok()?;
-    let count = count.min(MOST);
+/// So many reads or writes at a new cell. None where memory is short.
+fn measure(alloc: Global, kind: &str, count: u64) -> Option<u64>
+    requires { count < 2 ^ 41 }
+{
     let name = PropName::of(b"a")?;
     let value = PropValue::of(b"a value of middling length").ok()?;
-    let (table, mut writer) = one_cell(rt.alloc(), value).ok()?;
-    if kind.as_str() == "write" {
+    let (table, mut writer) = one_cell(alloc, value).ok()?;
+    if kind == "write" {
         writes(&table, &mut writer, name, value, count);
         return Some(count);
     }
     let mut reader = one_reader(&table, &mut writer).ok()?;
     Some(reads(&table, &mut reader, name, count))
+}
+
+/// None where the words are no run, or memory is short.
+fn run(rt: &HostRuntime) -> Option<u64> {
+    let mut words = std::env::args(rt).ok()?.skip(1);
+    let kind = words.next()?;
+    let count: u64 = words.next()?.as_str().parse().ok()?;
+    measure(rt.alloc(), kind.as_str(), count.min(MOST))
 }
 
 fn main(rt: HostRuntime) -> ExitCode {

@@ -7,9 +7,8 @@
 
 ghost use Rattle.std.specs.Prelude.{◌≡◌, ◌<◌, ◌≤◌, ◌+◌, ◌^◌, ◌∷◌, [], None, length, IfOk, IfSome};
 ghost use Rattle.std.specs.Thread.{IsSync};
-ghost use Rattle.serial_value.specs.declared.view.CellView.TheVariants.{Writer};
-ghost use Rattle.serial_value.specs.Cell.{sets_of, making_of, HasShortCell};
-ghost use Rattle.serial_value.specs.One.{the_name};
+ghost use Rattle.serial_value.specs.Cell.{making_of};
+ghost use Rattle.serial_value.specs.One.{HasMade};
 
 use init_base::{PropName, PropValue};
 use serial_value::{CellAnswer, OneSeat, OneTable, one_cell, one_reader, read_cell, write_cell};
@@ -65,8 +64,7 @@ fn torn(table: &OneTable, reader: &mut OneSeat, name: PropName<'_>, count: u64) 
 fn write_all(table: &OneTable, writer: &mut OneSeat, name: PropName<'_>, count: u64)
     requires table { (writer.old.table_id ≡ table.now.shared.table_id) × (table.now.shared.table_id.words ≡ 29) }
     requires name { name.bytes.now ≡ 97 ∷ [] }
-    requires writer { (writer.old.me.0.cell ≡ Writer (sets_of writer.old.me.0.cell) None) × (length (sets_of writer.old.me.0.cell) ≡ 1) }
-    requires short { HasShortCell (sets_of writer.old.me.0.cell) the_name }
+    requires writer { HasMade writer.old.me.0.cell 1 }
     requires count { count < 2 ^ 41 }
 {
     for k in 0..count {
@@ -113,8 +111,7 @@ fn writer_and_reader<R: Threads + Sync>(
     requires seats { (writer.old.table_id ≡ table.now.shared.table_id) × (reader.old.table_id ≡ table.now.shared.table_id) }
     requires name { name.bytes.now ≡ 97 ∷ [] }
     requires idle { making_of reader.old.me.0.cell ≡ None }
-    requires rest { (writer.old.me.0.cell ≡ Writer (sets_of writer.old.me.0.cell) None) × (length (sets_of writer.old.me.0.cell) ≡ 1) }
-    requires short { HasShortCell (sets_of writer.old.me.0.cell) the_name }
+    requires rest { HasMade writer.old.me.0.cell 1 }
     requires count { count < 2 ^ 41 }
 {
     let ((), wrong) = join(
@@ -143,8 +140,7 @@ fn all_beside<R: Threads + Sync>(
     requires three { three.old.table_id ≡ table.now.shared.table_id }
     requires name { name.bytes.now ≡ 97 ∷ [] }
     requires idle { (making_of one.old.me.0.cell ≡ None) × (making_of two.old.me.0.cell ≡ None) × (making_of three.old.me.0.cell ≡ None) }
-    requires rest { (writer.old.me.0.cell ≡ Writer (sets_of writer.old.me.0.cell) None) × (length (sets_of writer.old.me.0.cell) ≡ 1) }
-    requires short { HasShortCell (sets_of writer.old.me.0.cell) the_name }
+    requires rest { HasMade writer.old.me.0.cell 1 }
     requires count { count < 2 ^ 41 }
 {
     let (a, b) = join(
@@ -157,8 +153,7 @@ fn all_beside<R: Threads + Sync>(
         || -> u64
             requires { IsSync R.row × (table.now.shared.table_id.words ≡ 29) × (writer.now.table_id ≡ table.now.shared.table_id)
                 × (three.now.table_id ≡ table.now.shared.table_id) × (name.bytes.now ≡ 97 ∷ []) × (count < 2 ^ 41)
-                × (writer.now.me.0.cell ≡ Writer (sets_of writer.now.me.0.cell) None) × (length (sets_of writer.now.me.0.cell) ≡ 1)
-                × (making_of three.now.me.0.cell ≡ None) × HasShortCell (sets_of writer.now.me.0.cell) the_name }
+                × HasMade writer.now.me.0.cell 1 × (making_of three.now.me.0.cell ≡ None) }
         { writer_and_reader(rt, table, writer, three, name, count) },
     );
     a.saturating_add(b)

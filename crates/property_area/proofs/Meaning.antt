@@ -3,7 +3,6 @@ use Rattle.std.proofs.Common.{◌≡◌, ◌≢◌, ℕ, zero, suc, ◌+◌, ◌
 use Rattle.std.specs.Str.{bytes_eq}
 use Rattle.std.proofs.lemmas.Bool.{cases_Bool}
 use Rattle.std.proofs.lemmas.Slice.Eq.{bytes_eq-Decides}
-use mathlib.Core.Option.{some, some-injective}
 use mathlib.Core.Logic.{dite}
 use native.Mathlib.Decide.{dec_le}
 use Rattle.std.specs.Prelude.{map, sum, filter}
@@ -25,7 +24,7 @@ use Rattle.atomic_table.specs.Seated.{TableId}
 use Rattle.serial_value.specs.Cell.{HasShortCell}
 use Rattle.serial_value.specs.Steps.{HasCell}
 use Rattle.serial_value.specs.Kept.Places.{at_below}
-use Rattle.serial_value.specs.Kept.Sets.{last_once, last_at}
+use Rattle.serial_value.specs.Kept.Sets.{none_more, first_last, last_behind, last_once, last_at}
 use Rattle.property_trie.specs.Parts.{parts_of}
 use Rattle.property_trie.specs.Tree.{Trie, find, node_sizes, each_once_from, each_once}
 use Rattle.property_trie.specs.TrieSteps.{sizes_of, tree_of}
@@ -111,14 +110,6 @@ LookedUp p sets name =
     ⊎ ((number : ℕ) × (value : List ℕ) × LastSet sets (length sets) name number value
     × (lookup_in (props_from p sets).held name ≡ Some (record { name = name; value = value; number = p.count + number })))
 
-none_behind : (s : Set) (sets : List Set) (name : List ℕ) (low high : ℕ) → NoneBetween sets name low high → NoneBetween (s ∷ sets) name (low + 1) (high + 1)
-none_behind s sets name low high none zero value above below e = absurd (omega arith)
-none_behind s sets name low high none (suc k) value above below e = none k value (omega arith) (omega arith) e
-
-none_more : (s : Set) (sets : List Set) (name : List ℕ) (high : ℕ) → (s.0 ≡ name → ⊥) → NoneBetween sets name 0 high → NoneBetween (s ∷ sets) name 0 (high + 1)
-none_more s sets name high other none zero value above below e = other (ap (λ (t : Set). t.0) (some-injective _ _ e))
-none_more s sets name high other none (suc k) value above below e = none k value (omega arith) (omega arith) e
-
 looked_up : (p : Props) (sets : List Set) (name : List ℕ) → LookedUp p sets name
 unfolding LookedUp
 looked_up p [] name = inl ((λ k value above below e. omega arith), refl)
@@ -130,11 +121,7 @@ looked_up p (s ∷ sets) name =
     (λ (same : s.0 ≡ name). inr (
       1,
       s.1,
-      record {
-        numbered = record { place = 0; number_is = refl; set_is = λ i. some (same i, s.1) };
-        early = omega arith;
-        last = λ k value above below. none_behind s sets name 0 (length sets) t.0 k value above (omega arith);
-      },
+      first_last s sets name same t.0,
       t.1 ∙ (lookup-put p.held new name ∙ (ap (λ (b : Bool). if b then Some new else lookup_in p.held name) (name_eq s.0 name same)
           ∙ (λ i. Some (record { name = same i; value = s.1; number = p.count + 1 })))),
     ))
@@ -145,16 +132,11 @@ looked_up p (s ∷ sets) name =
     (same_or_other s.0 name))
     (λ (t : (number : ℕ) × (value : List ℕ) × LastSet sets (length sets) name number value
     × (lookup_in (props_from next sets).held name ≡ Some (record { name = name; value = value; number = p.count + 1 + number }))).
-    let last = t.2 in let early = last.early in
     let sum : p.count + 1 + t.0 ≡ p.count + (t.0 + 1) = omega arith in
     inr (
       t.0 + 1,
       t.1,
-      record {
-        numbered = record { place = suc last.numbered.place; number_is = let e = last.numbered.number_is in omega arith; set_is = last.numbered.set_is };
-        early = omega arith;
-        last = λ k value above below. none_behind s sets name t.0 (length sets) last.last k value above (omega arith);
-      },
+      last_behind s sets name t.0 t.1 t.2,
       t.3 ∙ (λ i. Some (record { name = name; value = t.1; number = sum i })),
     ))
     (looked_up next sets name)

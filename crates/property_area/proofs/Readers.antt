@@ -36,7 +36,7 @@ use Rattle.property_area.specs.Area.{requests_in, requests_of, out_seat, list_in
 use Rattle.property_area.specs.Seats.{sets_in, IsStill}
 use Rattle.property_area.specs.Readers.{client_in, others_in, IsIn, without, handing, handed, client_of, arriving, put_away, spent, synced, seen_by, caught, asker_of, request_of, recording, opening_with, ComesNext, EachClientStands}
 use Rattle.property_area.specs.Kept.Requests.{requests_told, requests_asked, requests_own, requests_other, asked_told}
-use Rattle.property_area.specs.Kept.Frame.{St, Carried, mine, reads}
+use Rattle.property_area.specs.Kept.Frame.{St, Carried, Mine, mine, reads}
 
 -- an empty list that begins with the sets that there are, or with none
 fresh_list : (w : World) (began more : List Set) → w.sets ≡ began ++ more → ListHolds w began []
@@ -166,12 +166,16 @@ module _ (words : List ℕ) (m : Moment) (out : List (ℕ × ℕ)) (seats : ℕ)
             (known.writes, known.sets_are, known.making_is, known.adding_is, known.head_is, h, (refl, refl, refl, refl, inside, arrival));
       }
 
+-- what the rule says of the writer's own view
+own_known : (s : St) (h : AreaHolds s) (id : ℕ) (v : AreaView) (making : Option Making) → get_elem? s.views id ≡ some v → v.cell ≡ Writer (sets_of v.cell) making
+    → Mine s.words h.moment id v (sets_of v.cell) making
+own_known s h id v making here is = mine s.words h.moment id v (sets_of v.cell) making (h.each id v here) is
+
 pub area_splits : (who id : ℕ) (v : AreaView) (making : Option Making) → v.cell ≡ Writer (sets_of v.cell) making → IsStill v → IsIn v who → Splits AreaHolds id v (handing who v) (handed who v)
 area_splits who id v making is still free s h here =
     let m = h.moment in
     let w = world_of s.words m in
-    let view = h.each id v here in
-    let known = mine s.words m id v (sets_of v.cell) making view is in
+    let known = own_known s h id v making here is in
     let kept = known.requests in
     let count = ap (λ (x : List Set). length x) known.sets_are in
     let list = client_holds w v.clients who (sets_of v.cell) known.sets_are known.clients in
@@ -197,7 +201,7 @@ area_splits who id v making is still free s h here =
       each = λ seat u e. ⊎_elim
           (λ old. ⊎_elim
           (λ (t : (seat ≡ id) × (left ≡ u)). subst (λ (x : ℕ × AreaView). ViewHolds s.words (record m { out = out; seats = seats; opening = v.opening; log = v.log }) x.0 x.1) (λ j. (sym t.0 j, t.1 j))
-          (own_on s.words m out seats v.opening v.log id v view making is (others_in v.clients who) (others_hold w v.clients who known.clients)
+          (own_on s.words m out seats v.opening v.log id v (h.each id v here) making is (others_in v.clients who) (others_hold w v.clients who known.clients)
           (λ q none. let other : who ≢ q = λ same. let z : out_seat out q ≡ suc v.seats = ap (out_seat out) (sym same) ∙ seat_first v.out who v.seats in absurd (omega arith) in
           ap requests_in (list_others v.clients who q other)
           ∙ kept.4 q (ap (λ (o : List (ℕ × ℕ)). out_seat o q) (sym kept.0) ∙ sym (seat_behind v.out who v.seats q other) ∙ none)
@@ -207,7 +211,7 @@ area_splits who id v making is still free s h here =
           view_on s.words m out seats v.opening v.log seat u (λ is_writer. t.0 (is_writer ∙ sym known.writes)) (others u seat) (h.each seat u t.1))
           (at_set s.views id seat left u old))
           (λ (t : (seat ≡ length (set s.views id left)) × (handed who v ≡ u)). subst (ViewHolds s.words (record m { out = out; seats = seats; opening = v.opening; log = v.log }) seat) t.1 record {
-            width = view.width;
+            width = (h.each id v here).width;
             trie = record { known = λ name place none. let small = none.1 in absurd (omega arith); trail = tt };
             part = (
               (λ same. let at = t.0 in omega arith),
@@ -231,8 +235,7 @@ area_joins id other came_from v r making number words is own_seat reads_is live 
     let m = h.moment in
     let new : AreaView = arriving came_from v r in
     let w = world_of s.words m in
-    let view = h.each id v here in
-    let known = mine s.words m id v (sets_of v.cell) making view is in
+    let known = own_known s h id v making here is in
     let kept = known.requests in
     let old_there = sym (set_else s.views id other new apart) ∙ there in
     let reader = subst (λ (c : CellView). PartHolds w m other c r) reads_is (h.each other r old_there).part in
@@ -265,13 +268,13 @@ area_joins id other came_from v r making number words is own_seat reads_is live 
       count = omega arith;
       each = λ seat u e. ⊎_elim
           (λ (t : (seat ≡ other) × (spent words ≡ u)). subst (λ (x : ℕ × AreaView). ViewHolds s.words (record m { out = out; seats = v.seats; opening = v.opening; log = v.log }) x.0 x.1) (λ j. (sym t.0 j, t.1 j)) record {
-            width = sym wide ∙ view.width;
+            width = sym wide ∙ (h.each id v here).width;
             trie = record { known = λ name place none. let small = none.1 in absurd (omega arith); trail = tt };
             part = (reader.0, spent_holds w, (λ none. absurd (cc)));
           })
           (λ (t : (seat ≢ other) × (get_elem? (set s.views id new) seat ≡ some u)). ⊎_elim
           (λ (k : (seat ≡ id) × (new ≡ u)). subst (λ (x : ℕ × AreaView). ViewHolds s.words (record m { out = out; seats = v.seats; opening = v.opening; log = v.log }) x.0 x.1) (λ j. (sym k.0 j, k.1 j))
-          (own_on s.words m out v.seats v.opening v.log id v view making is clients (reader.1.holds, others_hold w v.clients r.who known.clients)
+          (own_on s.words m out v.seats v.opening v.log id v (h.each id v here) making is clients (reader.1.holds, others_hold w v.clients r.who known.clients)
           (λ q none. dite (ℕ_discrete r.who q)
           (λ (same : r.who ≡ q). subst (λ (x : ℕ). requests_in (list_in clients x) ≡ requests_of x v.log) same
           (ap requests_in (list_first client (others_in v.clients r.who)) ∙ asked.2 ∙ ap (requests_of r.who) (sym kept.3)))
@@ -296,8 +299,7 @@ pub area_records : (who id i : ℕ) (cs : Carried) (v : AreaView) (making : Opti
 area_records who id i cs v making s h here is client log opening named list own others free still opened =
     let m = h.moment in
     let w = world_of s.words m in
-    let view = h.each id v here in
-    let known = mine s.words m id v (sets_of v.cell) making view is in
+    let known = own_known s h id v making here is in
     let kept = known.requests in
     let clients = client ∷ others_in v.clients who in
     let new = record v { clients = clients; opening = opening; log = log } in
@@ -319,7 +321,7 @@ area_records who id i cs v making s h here is client log opening named list own 
       count = omega arith;
       each = λ seat u e. ⊎_elim
           (λ (t : (seat ≡ id) × (new ≡ u)). subst (λ (x : ℕ × AreaView). ViewHolds s.words (record m { out = v.out; seats = v.seats; opening = opening; log = log }) x.0 x.1) (λ j. (sym t.0 j, t.1 j))
-          (own_on s.words m v.out v.seats opening log id v view making is clients (list, others_hold w v.clients who known.clients)
+          (own_on s.words m v.out v.seats opening log id v (h.each id v here) making is clients (list, others_hold w v.clients who known.clients)
           (λ q none. dite (ℕ_discrete who q)
           (λ (same : who ≡ q). subst (λ (x : ℕ). requests_in (list_in clients x) ≡ requests_of x log) same
           (ap (λ (x : ℕ). requests_in (list_in clients x)) (sym named) ∙ ap requests_in (list_first client (others_in v.clients who)) ∙ own free))
@@ -340,8 +342,7 @@ area_synced who slots id m making i is still free s h size here fits =
     let v = m.0 in
     let mo = h.moment in
     let w = world_of s.words mo in
-    let view = h.each id v here in
-    let known = mine s.words mo id v (sets_of v.cell) making view is in
+    let known = own_known s h id v making here is in
     let kept = known.requests in
     let count = ap (λ (x : List Set). length x) known.sets_are in
     let client = client_in v.clients who (sets_of v.cell) in
@@ -372,8 +373,7 @@ pub area_begun : (opening : LogOpening) (slots id : ℕ) (m : Me (Unit {0}) Area
 area_begun opening slots id me making i is still none s h size here fits =
     let v = me.0 in
     let m = h.moment in
-    let view = h.each id v here in
-    let known = mine s.words m id v (sets_of v.cell) making view is in
+    let known = own_known s h id v making here is in
     let kept = known.requests in
     let new = opening_with opening v in
     let long = length-set s.views id new in
@@ -392,7 +392,7 @@ area_begun opening slots id me making i is still none s h size here fits =
         count = omega arith;
         each = λ seat u e. ⊎_elim
             (λ (t : (seat ≡ id) × (new ≡ u)). subst (λ (x : ℕ × AreaView). ViewHolds s.words (record m { out = v.out; seats = v.seats; opening = Some opening; log = v.log }) x.0 x.1) (λ j. (sym t.0 j, t.1 j))
-            (own_on s.words m v.out v.seats (Some opening) v.log id v view making is v.clients known.clients
+            (own_on s.words m v.out v.seats (Some opening) v.log id v (h.each id v here) making is v.clients known.clients
             (λ q free. kept.4 q (ap (λ (o : List (ℕ × ℕ)). out_seat o q) (sym kept.0) ∙ free) ∙ ap (requests_of q) (sym kept.3))
             v.came (none_comes new still)))
             (λ (t : (seat ≢ id) × (get_elem? s.views seat ≡ some u)).
@@ -437,8 +437,7 @@ area_noted entry slots id m making i is still next s h size here fits =
     let v = m.0 in
     let mo = h.moment in
     let w = world_of s.words mo in
-    let view = h.each id v here in
-    let known = mine s.words mo id v (sets_of v.cell) making view is in
+    let known = own_known s h id v making here is in
     let kept = known.requests in
     let who : ℕ = asker_of entry.input in
     let count = ap (λ (x : List Set). length x) known.sets_are in
@@ -470,8 +469,7 @@ area_caught slots id m number is s h size here fits =
     let v = m.0 in
     let mo = h.moment in
     let w = world_of s.words mo in
-    let view = h.each id v here in
-    let part = subst (λ (c : CellView). PartHolds w mo id c v) is view.part in
+    let part = subst (λ (c : CellView). PartHolds w mo id c v) is (h.each id v here).part in
     let n : ℕ = get_or s.words 0 0 in
     let head = h.words.head in
     let within : n ≤ length mo.sets = ⊎_elim (λ (e : mo.head ≡ length mo.sets). omega arith) (λ (e : mo.head + 1 ≡ length mo.sets). omega arith) h.words.late in
@@ -496,8 +494,8 @@ area_caught slots id m number is s h size here fits =
       keeps,
       tt,
       reads s h 0 id m.1 (caught n v) record {
-        width = view.width;
-        trie = view.trie;
+        width = (h.each id v here).width;
+        trie = (h.each id v here).trie;
         part = (
           part.0,
           subst (λ (k : ℕ). ReaderHolds w (max k n) None v.began (v.list ++ Told (Caught (max k n)) ∷ [])) (sym own) told,
@@ -520,16 +518,15 @@ area_put_away slots id m i is s h size here fits =
     let v = m.0 in
     let mo = h.moment in
     let w = world_of s.words mo in
-    let view = h.each id v here in
-    let known = mine s.words mo id v (sets_of v.cell) None view is in
+    let known = own_known s h id v None here is in
     let kept = known.requests in
     let new : AreaView = put_away v in (
       new,
       keeps,
       tt,
       reads s h i id m.1 new record {
-        width = view.width;
-        trie = view.trie;
+        width = (h.each id v here).width;
+        trie = (h.each id v here).trie;
         part = subst (λ (c : CellView). PartHolds w mo id c new) (sym is) (
           known.writes,
           known.sets_are,

@@ -14,7 +14,7 @@ use Rattle.init_machine.specs.declared.report.Entry.{Entry}
 use Rattle.machine_laws.specs.Histories.{history_from}
 use Rattle.property_area.specs.Readers.{asker_of, answer_of}
 use Rattle.property_area.specs.declared.view.LogEntry.{LogEntry}
-use Rattle.property_service.specs.Record.{log_from, log_of, inputs_in}
+use Rattle.property_service.specs.Record.{logged, log_from, log_of, inputs_in}
 use Rattle.property_service.specs.Service.{EachDeclared}
 
 -- the entry that an input gives in a state
@@ -35,19 +35,6 @@ after-end config policy s (x ∷ inputs) i = after-end config policy (step confi
 pub sets-end : (history : List Entry) (e : Entry) → sets_of (history ++ e ∷ []) ≡ sets_of history ++ sets_in e.outputs
 sets-end history e =
     flat_map-append (λ (x : Entry). sets_in x.outputs) history (e ∷ []) ∙ ap (λ (sets : List Set). sets_of history ++ sets) (append-nil (sets_in e.outputs))
-
--- an entry as it is recorded behind so many entries and so many sets
-abbrev pub logged : ℕ → ℕ → Entry → LogEntry
-logged place count e = record {
-  who = asker_of e.input;
-  request = record {
-    input = e.input;
-    answer = answer_of e.input e.outputs;
-    place = place + 1;
-    before = count;
-    after = count + length (sets_in e.outputs);
-  };
-}
 
 log_from-end : (place count : ℕ) (history : List Entry) (e : Entry)
     → log_from place count (history ++ e ∷ []) ≡ log_from place count history ++ logged (place + length history) (count + length (sets_of history)) e ∷ []

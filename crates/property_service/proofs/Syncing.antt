@@ -50,8 +50,8 @@ told_count sets began list n h after within = record {
 }
 
 -- a reader comes in, its client is told the count, and it is handed out again
-module _ (area : TableId) (core : CoreView Seated) (seats : List Bool) (reader : Seated) (h : DeskHolds area core seats)
-    (first : Seated) (came_in : CameIn core.store reader first) where
+module _ {area : TableId} {core : CoreView Seated} {seats : List Bool} {reader : Seated} (h : DeskHolds area core seats)
+    {first : Seated} (came_in : CameIn core.store reader first) where
   abbrev v : AreaView
   v = core.store.view
 
@@ -67,21 +67,21 @@ module _ (area : TableId) (core : CoreView Seated) (seats : List Bool) (reader :
   abbrev pub synced_out : AreaView
   synced_out = handing reader.view.who told
 
-  pub may_sync : (who : ℕ) → who ≡ reader.view.who → IsIn first.view who
-  may_sync who is = (λ j. out_seat ((came_in.view j).out) (is j)) ∙ seat_own v.out reader.view.who
+  pub may_sync : {who : ℕ} → who ≡ reader.view.who → IsIn first.view who
+  may_sync is = (λ j. out_seat ((came_in.view j).out) (is j)) ∙ seat_own v.out reader.view.who
 
   -- the views of the writer's seat and of the reader then
-  pub view_told : (second : AreaView) (who : ℕ) → who ≡ reader.view.who → second ≡ synced who first.view → second ≡ told
-  view_told second who is made = made ∙ (λ j. synced (is j) (came_in.view j))
+  pub view_told : {second : AreaView} {who : ℕ} → who ≡ reader.view.who → second ≡ synced who first.view → second ≡ told
+  view_told is made = made ∙ (λ j. synced (is j) (came_in.view j))
 
-  pub may_go_out : (second : AreaView) (who : ℕ) → who ≡ reader.view.who → second ≡ synced who first.view → IsIn second who
-  may_go_out second who is made = (λ j. out_seat ((view_told second who is made j).out) (is j)) ∙ seat_own v.out reader.view.who
+  pub may_go_out : {second : AreaView} {who : ℕ} → who ≡ reader.view.who → second ≡ synced who first.view → IsIn second who
+  may_go_out is made = (λ j. out_seat ((view_told is made j).out) (is j)) ∙ seat_own v.out reader.view.who
 
-  pub view_out : (second third : AreaView) (who : ℕ) → who ≡ reader.view.who → second ≡ synced who first.view → third ≡ handing who second → third ≡ handing reader.view.who told
-  view_out second third who is made out = out ∙ (λ j. handing (is j) (view_told second who is made j))
+  pub view_out : {second third : AreaView} {who : ℕ} → who ≡ reader.view.who → second ≡ synced who first.view → third ≡ handing who second → third ≡ handing reader.view.who told
+  view_out is made out = out ∙ (λ j. handing (is j) (view_told is made j))
 
-  pub view_back : (second back : AreaView) (who : ℕ) → who ≡ reader.view.who → second ≡ synced who first.view → back ≡ handed who second → back ≡ handed reader.view.who told
-  view_back second back who is made out = out ∙ (λ j. handed (is j) (view_told second who is made j))
+  pub view_back : {second back : AreaView} {who : ℕ} → who ≡ reader.view.who → second ≡ synced who first.view → back ≡ handed who second → back ≡ handed reader.view.who told
+  view_back is made out = out ∙ (λ j. handed (is j) (view_told is made j))
 
   client_now : client_in came.clients reader.view.who (sets_in came) ≡ client_of reader.view
   client_now = client_first (client_of reader.view) (others_in v.clients reader.view.who) reader.view.who (sets_in came) refl

@@ -10,20 +10,23 @@ use Rattle.property_area.specs.declared.view.LogEntry.{LogEntry}
 use Rattle.property_area.specs.declared.view.LogLine.{LogLine}
 use Rattle.property_area.specs.declared.view.LogOpening.{LogOpening}
 
+-- an entry as it is recorded behind so many entries and so many sets
+abbrev pub logged : ℕ → ℕ → Entry → LogEntry
+logged place count e = record {
+  who = asker_of e.input;
+  request = record {
+    input = e.input;
+    answer = answer_of e.input e.outputs;
+    place = place + 1;
+    before = count;
+    after = count + length (sets_in e.outputs);
+  };
+}
+
 -- the entries of a history as they are recorded, where so many entries and so many sets came before them
 abbrev pub log_from : ℕ → ℕ → List Entry → List LogEntry
 log_from place count [] = []
-log_from place count (e ∷ history) =
-    record {
-      who = asker_of e.input;
-      request = record {
-        input = e.input;
-        answer = answer_of e.input e.outputs;
-        place = place + 1;
-        before = count;
-        after = count + length (sets_in e.outputs);
-      };
-    } ∷ log_from (place + 1) (count + length (sets_in e.outputs)) history
+log_from place count (e ∷ history) = logged place count e ∷ log_from (place + 1) (count + length (sets_in e.outputs)) history
 
 -- Each entry of a history, as it is recorded: whose input it is, the input, its answer, its place from 1, and how many sets
 -- there were before it and after it.

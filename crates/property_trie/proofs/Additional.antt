@@ -2,9 +2,12 @@
 use Rattle.std.proofs.Common.{◌≡◌, ℕ, zero, suc, ◌+◌, ◌-◌, ◌<◌, ◌≤◌, IsTrue, List, [], ◌∷◌, ◌++◌, length, take, drop, None, sym, refl, ap, ◌∙◌, subst, arith}
 use Rattle.std.specs.Prelude.{Contains}
 use Rattle.std.proofs.lemmas.List.{length-append}
+use Rattle.atomic_table.specs.declared.shared.Seat.{Seat}
+use Rattle.atomic_table.specs.Seated.{TableId}
 use Rattle.serial_value.specs.declared.view.CellView.{CellView}
 use Rattle.serial_value.specs.declared.view.CellView.TheVariants.{Writer, Reader}
 use Rattle.serial_value.specs.Cell.{sets_of, accepted, IsWriter}
+use Rattle.serial_value.specs.Steps.{IsSameSeat}
 use Rattle.init_machine.specs.declared.report.Reading.{Reading}
 use Rattle.serial_value.specs.Words.{text_word, body_word}
 use Rattle.init_machine.specs.Sets.{Set}
@@ -12,7 +15,7 @@ use Rattle.property_trie.specs.Parts.{parts_of, node_size}
 use Rattle.property_trie.specs.Tree.{Tree, node_sizes, find, cell_place, trie_of}
 use Rattle.property_trie.specs.TreeWords.{link_at}
 use Rattle.property_trie.specs.Walk.{EndsAt}
-use Rattle.property_trie.specs.TrieSteps.{sizes_of, tree_of, missing_parts, rested, Searches, LinkInside}
+use Rattle.property_trie.specs.TrieSteps.{HasWords, sizes_of, tree_of, missing_parts, rested, Searches, LinkInside}
 use Rattle.property_trie.specs.declared.addition.NewCell.{NewCell}
 use Rattle.property_trie.specs.declared.walk.SearchEnd.{SearchEnd}
 use Rattle.property_trie.specs.declared.walk.SearchEnd.TheVariants.{Cell, NoCell, NoNode}
@@ -64,6 +67,12 @@ module _ {V X : Type 0} (trie : V → TrieView) (with_trie : V → TrieView → 
   abbrev pub Far : V × X → V × X → List ℕ → ℕ → List ℕ → Type 0
   Far m n name linked fresh = n ≡ (with_trie m.0 (adding (trie m.0) name linked fresh), m.1)
 
+-- between two stores of fresh words: it is that seat, and these words stand
+pub record Stores {S V : Type 0} (trie : V → TrieView) (with_trie : V → TrieView → V) (before after : Seat S V) (name : List ℕ) (linked : ℕ) (fresh : List ℕ) : Type 0 where
+  pub table : after.table_id ≡ before.table_id
+  pub id : after.id ≡ before.id
+  pub far : Far trie with_trie before.me after.me name linked fresh
+
 -- what a rule says of the parts of its views
 pub record Parted {V : Type 0} (cell : V → CellView) (trie : V → TrieView) (with_trie : V → TrieView → V) (words : V → ℕ) (Settled : V → Type 0) : Type 0 where
   pub trie_with : (v : V) (t : TrieView) → trie (with_trie v t) ≡ t
@@ -110,6 +119,27 @@ module _ {V X : Type 0} {cell : V → CellView} {trie : V → TrieView} {with_tr
       under_way = refl;
     }
 
+    -- and the seat is at that table
+    pub sits_far : (a b table : TableId) → b ≡ a → (a ≡ table) × HasWords table (words m.0) → (b ≡ table) × HasWords table (words n.0)
+    sits_far a b table same sits = (same ∙ sits.0, subst (HasWords table) (sym words_far) sits.1)
+
+    -- the rule lets it go on
+    pub goes_on : (linked' : ℕ) (fresh' : List ℕ) → Settled m.0 × IsAdding (cell m.0) (trie m.0) name linked' fresh' → Settled n.0 × IsAdding (cell n.0) (trie n.0) name (linked_in (trie n.0).adding) fresh
+    goes_on linked' fresh' may =
+        (settled_far may.0, subst (λ (k : ℕ). IsAdding (cell n.0) (trie n.0) name k fresh) (sym linked_far) (adds_far linked' fresh' may.1))
+
+    pub free_far : (place : ℕ) → place ≡ free_place (sets_of (cell m.0)) name linked → place ≡ free_place (sets_of (cell n.0)) name (linked_in (trie n.0).adding)
+    free_far place is = is ∙ (λ i. free_place (sets_of (sym cell_far i)) name (sym linked_far i))
+
+    -- the next fresh word
+    pub next_word : (place k : ℕ) (linked' : ℕ) (fresh' : List ℕ) → place ≡ free_place (sets_of (cell m.0)) name linked → length fresh ≡ k
+        → Settled m.0 × IsAdding (cell m.0) (trie m.0) name linked' fresh'
+        → (place + k ≡ free_place (sets_of (cell n.0)) name linked + length (fresh_in (trie n.0).adding)) × Settled n.0 × IsAdding (cell n.0) (trie n.0) name linked (fresh_in (trie n.0).adding)
+    next_word place k linked' fresh' is long may =
+        let free = ap (λ (x : CellView). free_place (sets_of x) name linked) cell_far in
+        let same = ap length fresh_far in
+        (omega arith, settled_far may.0, subst (IsAdding (cell n.0) (trie n.0) name linked) (sym fresh_far) (adds_far linked' fresh' may.1))
+
     -- and goes on from here as from the first view
     pub far_on : (o : V × X) (linked' : ℕ) (fresh' : List ℕ) → Far trie with_trie n o name linked' fresh' → Far trie with_trie m o name linked' fresh'
     far_on o linked' fresh' next =
@@ -125,36 +155,49 @@ module _ {V X : Type 0} {cell : V → CellView} {trie : V → TrieView} {with_tr
         (next ∙ (λ i. (with_trie n.0 (adding (trie n.0) name linked ((same ∙ first) i ++ is i ∷ [])), n.1))
         ∙ (λ i. (with_trie n.0 (adding (trie n.0) name linked (first_words word (e i))), n.1)))
 
-  -- a node's words
-  pub stored_node : (m n n1 : V × X) (name : List ℕ) (count : ℕ) (fresh : List ℕ) → Far trie with_trie m n name count []
-      → Far trie with_trie n n1 name (linked_in (trie n.0).adding) fresh → (linked_in (trie n1.0).adding ≡ count) × (cell n1.0 ≡ cell m.0)
-  stored_node m n n1 name count fresh far stored =
-      let k0 = linked_far m n name count [] far in
-      let far1 = far_on m n name count [] far n1 count fresh (stored ∙ (λ i. (with_trie n.0 (adding (trie n.0) name (k0 i) fresh), n.1))) in
-      (linked_far m n1 name count fresh far1, cell_far m n1 name count fresh far1)
-
+  -- a node's or a cell's words
   pub stored_far : (m n n1 : V × X) (name : List ℕ) (count : ℕ) (fresh : List ℕ) → Far trie with_trie m n name count []
       → Far trie with_trie n n1 name (linked_in (trie n.0).adding) fresh → Far trie with_trie m n1 name count fresh
   stored_far m n n1 name count fresh far stored =
       let k0 = linked_far m n name count [] far in
       far_on m n name count [] far n1 count fresh (stored ∙ (λ i. (with_trie n.0 (adding (trie n.0) name (k0 i) fresh), n.1)))
 
-  -- a node's words, and the link to it
-  pub node_made : (m n n1 n2 : V × X) (name : List ℕ) (count : ℕ) (fresh : List ℕ) → Far trie with_trie m n name count []
-      → Far trie with_trie n n1 name (linked_in (trie n.0).adding) fresh → Far trie with_trie n1 n2 name (suc (linked_in (trie n1.0).adding)) []
-      → (linked_in (trie n1.0).adding ≡ count) × (cell n1.0 ≡ cell m.0) × Far trie with_trie m n2 name (suc count) []
-  node_made m n n1 n2 name count fresh far stored linked =
-      let k0 = linked_far m n name count [] far in
-      let far1 = far_on m n name count [] far n1 count fresh (stored ∙ (λ i. (with_trie n.0 (adding (trie n.0) name (k0 i) fresh), n.1))) in
-      let k1 = linked_far m n1 name count fresh far1 in (
-        k1,
-        cell_far m n1 name count fresh far1,
-        far_on m n1 name count fresh far1 n2 (suc count) [] (linked ∙ (λ i. (with_trie n1.0 (adding (trie n1.0) name (suc (k1 i)) []), n1.1))),
-      )
+  -- and the link to the node
+  pub linked_on : (m n1 n2 : V × X) (name : List ℕ) (count : ℕ) (fresh : List ℕ) → Far trie with_trie m n1 name count fresh
+      → Far trie with_trie n1 n2 name (suc (linked_in (trie n1.0).adding)) [] → Far trie with_trie m n2 name (suc count) []
+  linked_on m n1 n2 name count fresh far linked =
+      let k1 = linked_far m n1 name count fresh far in
+      far_on m n1 name count fresh far n2 (suc count) [] (linked ∙ (λ i. (with_trie n1.0 (adding (trie n1.0) name (suc (k1 i)) []), n1.1)))
 
   -- nothing has happened yet
   pub far_none : (m : V × X) (name : List ℕ) (linked : ℕ) (fresh : List ℕ) → (trie m.0).adding ≡ addition name linked fresh → Far trie with_trie m m name linked fresh
   far_none m name linked fresh is = (λ i. (sym (ap (with_trie m.0) (adding_same (trie m.0) name linked fresh is) ∙ L.trie_same m.0) i, m.1))
+
+module _ {S V : Type 0} {cell : V → CellView} {trie : V → TrieView} {with_trie : V → TrieView → V} {words : V → ℕ} {Settled : V → Type 0}
+    (L : Parted cell trie with_trie words Settled) where
+  -- none stands yet
+  pub stores_none : (seat : Seat S V) (word : ℕ → ℕ) (name : List ℕ) (linked : ℕ) → (trie seat.me.0).adding ≡ addition name linked [] → Stores trie with_trie seat seat name linked (first_words word 0)
+  stores_none seat word name linked is = record { table = refl; id = refl; far = far_none L seat.me name linked [] is }
+
+  -- what the store of the next fresh word asks
+  pub next_asks : {before after : Seat S V} {name : List ℕ} {linked : ℕ} {fresh : List ℕ} → Stores trie with_trie before after name linked fresh
+      → (table : TableId) (place k linked' : ℕ) (fresh' : List ℕ) → (before.table_id ≡ table) × HasWords table (words before.me.0) → place ≡ free_place (sets_of (cell before.me.0)) name linked → length fresh ≡ k
+      → Settled before.me.0 × IsAdding (cell before.me.0) (trie before.me.0) name linked' fresh'
+      → ((after.table_id ≡ table) × HasWords table (words after.me.0)) × (place + k ≡ free_place (sets_of (cell after.me.0)) name linked + length (fresh_in (trie after.me.0).adding))
+      × (Settled after.me.0 × IsAdding (cell after.me.0) (trie after.me.0) name linked (fresh_in (trie after.me.0).adding))
+  next_asks {before = b} {after = a} {name = name} {linked = linked} {fresh = fresh} h table place k linked' fresh' sits is long may =
+      let next = next_word L b.me a.me name linked fresh h.far place k linked' fresh' is long may in
+      (sits_far L b.me a.me name linked fresh h.far b.table_id a.table_id table h.table sits, next.0, (next.1, next.2))
+
+  -- and leaves
+  pub stores_more : {before after : Seat S V} {name : List ℕ} {linked : ℕ} (word : ℕ → ℕ) (k : ℕ) → Stores trie with_trie before after name linked (first_words word k)
+      → (next : Seat S V) (w : ℕ) → IsSameSeat after next → w ≡ word k → Far trie with_trie after.me next.me name linked (fresh_in (trie after.me.0).adding ++ w ∷ [])
+      → Stores trie with_trie before next name linked (first_words word (k + 1))
+  stores_more {before = b} {after = a} {name = name} {linked = linked} word k h next w same is view = record {
+    table = same.0 ∙ h.table;
+    id = same.1 ∙ h.id;
+    far = one_more L b.me a.me name linked (first_words word k) h.far next.me word k w _ refl (fresh_far L b.me a.me name linked (first_words word k) h.far) is view;
+  }
 
 -- How far the nodes of a name are made: so many are linked, these parts have no node yet, and the next node is to be linked
 -- here and lies there.
@@ -179,8 +222,8 @@ none_made L m sets name words link place left none is at mark inside = record {
   inside = inside;
 }
 
-module _ {V X : Type 0} (trie : V → TrieView) (with_trie : V → TrieView → V) (m n : V × X) (sets : List Set) (name : List ℕ) (words link place : ℕ)
-    (left : List (List ℕ)) (h : MadeSoFar trie with_trie m n sets name words link place left) (part : List ℕ) (behind : List (List ℕ)) (first : left ≡ part ∷ behind) where
+module _ {V X : Type 0} {trie : V → TrieView} {with_trie : V → TrieView → V} {m n : V × X} {sets : List Set} {name : List ℕ} {words link place : ℕ}
+    {left : List (List ℕ)} (h : MadeSoFar trie with_trie m n sets name words link place left) {part : List ℕ} {behind : List (List ℕ)} (first : left ≡ part ∷ behind) where
   abbrev missing : List (List ℕ)
   missing = missing_parts (tree_of sets) (parts_of name)
 
@@ -228,6 +271,24 @@ module _ {V X : Type 0} (trie : V → TrieView) (with_trie : V → TrieView → 
         free = omega arith;
         inside = omega arith;
       }
+
+-- what the steps of the next node ask and leave
+module _ {V X : Type 0} {cell : V → CellView} {trie : V → TrieView} {with_trie : V → TrieView → V} {words_of : V → ℕ} {Settled : V → Type 0} (L : Parted cell trie with_trie words_of Settled)
+    {m n : V × X} {name : List ℕ} {words link place : ℕ} {left : List (List ℕ)} (h : MadeSoFar trie with_trie m n (sets_of (cell m.0)) name words link place left)
+    {part : List ℕ} {behind : List (List ℕ)} (first : left ≡ part ∷ behind) where
+  pub place_next : place ≡ free_place (sets_of (cell n.0)) name (linked_in (trie n.0).adding)
+  place_next = free_far L m n name h.count [] h.far place h.place_is
+
+  module _ (n1 : V × X) (fresh : List ℕ) (stored : Far trie with_trie n n1 name (linked_in (trie n.0).adding) fresh) where
+    so_stored : Far trie with_trie m n1 name h.count fresh
+    so_stored = stored_far L m n n1 name h.count fresh h.far stored
+
+    pub next_stored : IsNext (sets_of (cell n1.0)) name (linked_in (trie n1.0).adding) part
+    next_stored = subst (λ (x : ℕ × CellView). IsNext (sets_of x.1) name x.0 part)
+        (λ i. (sym (linked_far L m n1 name h.count fresh so_stored) i, sym (cell_far L m n1 name h.count fresh so_stored) i)) (next_part h first)
+
+    pub next_linked : (n2 : V × X) → Far trie with_trie n1 n2 name (suc (linked_in (trie n1.0).adding)) [] → Far trie with_trie m n2 name (suc h.count) []
+    next_linked n2 linked = linked_on L m n1 n2 name h.count fresh so_stored linked
 
 -- a name whose parts all have nodes
 pub path_there : (words : ℕ) (sets : List Set) (name : List ℕ) (new : NewCell) → EndsAt (tree_of sets) (parts_of name) new.link → new.place ≡ (trie_of (sizes_of sets)).mark → new.link < words

@@ -24,6 +24,10 @@ same_part a b e =
 pub equal_lengths : (n : ℕ) → nat_cmp n n ≡ Equal
 equal_lengths n = sym (nat_cmp_is n n Equal refl)
 
+-- parts of one length compare by their bytes
+pub by_bytes : (a b : List ℕ) → length a ≡ length b → compare_parts a b ≡ slice_cmp nat_cmp a b
+by_bytes a b same = ap (λ (o : Ordering). first_order o (slice_cmp nat_cmp a b)) (sym (nat_cmp_is (length a) (length b) Equal same))
+
 -- a part compares as equal with itself
 pub compare_same : (a : List ℕ) → compare_parts a a ≡ Equal
 compare_same a =

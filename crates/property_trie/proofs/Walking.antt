@@ -1,6 +1,7 @@
 -- A walk changes the trail of a view alone, so what its last step tells holds of the view that it began with.
 use Rattle.std.proofs.Common.{◌≡◌, ℕ, ◌+◌, IsTrue, List, [], ◌∷◌, Option, Some, None, sym, refl, ap, ◌∙◌, subst, inr}
 use Rattle.std.specs.declared.cmp.Ordering.{Ordering}
+use Rattle.atomic_table.specs.declared.shared.Seat.{Seat}
 use Rattle.init_machine.specs.declared.report.Reading.{Reading}
 use Rattle.init_machine.specs.declared.report.Reading.TheVariants.{Absent}
 use Rattle.serial_value.specs.declared.view.CellView.{CellView}
@@ -16,6 +17,13 @@ module _ {V : Type 0} (trie : V → TrieView) (with_trie : V → TrieView → V)
   pub record Walked (v w : V) : Type 0 where
     pub trail : Option Trail
     pub is : w ≡ with_trie v (record (trie v) { trail = trail })
+
+-- between two steps of a walk: it is that seat with its rights
+pub record IsOnWalk {S V : Type 0} (trie : V → TrieView) (with_trie : V → TrieView → V) (before after : Seat S V) : Type 0 where
+  pub table : after.table_id ≡ before.table_id
+  pub id : after.id ≡ before.id
+  pub rights : after.me.1 ≡ before.me.1
+  pub walked : Walked trie with_trie before.me.0 after.me.0
 
 module _ {V : Type 0} (cell : V → CellView) (trie : V → TrieView) (with_trie : V → TrieView → V) (noted : V → Reading → V)
     (trie_with : (v : V) (t : TrieView) → trie (with_trie v t) ≡ t)

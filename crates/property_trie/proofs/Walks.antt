@@ -102,61 +102,66 @@ unchosen Less x y z h = inl (refl, h)
 unchosen Equal x y z h = inr (inl (refl, h))
 unchosen Greater x y z h = inr (inr (refl, h))
 
+-- what is found of a part of the tree is found of the whole, whose walks go on there
+goes_on : (t u : Tree) (top top' : ℕ) (parts parts' : Parts) (link : ℕ) (rest : Parts) (words : List ℕ) → Reached u top' parts' link rest words
+    → find t parts ≡ find u parts' → link_at top t parts ≡ link_at top' u parts' → missing_part t parts ≡ missing_part u parts' → depth t parts + length parts' ≡ length parts + depth u parts'
+    → ((link' : ℕ) (rest' : Parts) → WalksTo u top' parts' link' rest' → WalksTo t top parts link' rest')
+    → ((cell_link : ℕ) → EndsAt u parts' cell_link → EndsAt t parts cell_link)
+    → ((place : ℕ) (own : List ℕ) (rest' : Parts) → Stands u parts' place own rest' → Stands t parts place own rest') → Reached t top parts link rest words
+goes_on t u top top' parts parts' link rest words k found same_link same_part deep on ends stands = record {
+  below = k.below;
+  found = found ∙ k.found;
+  same_link = same_link ∙ k.same_link;
+  same_part = same_part ∙ k.same_part;
+  deep = let d = k.deep in omega arith;
+  link_is = k.link_is;
+  holds = k.holds;
+  apart = k.apart;
+  rising = k.rising;
+  above = k.above;
+  on = λ link' rest' w. on link' rest' (k.on link' rest' w);
+  ends = λ cell_link w. ends cell_link (k.ends cell_link w);
+  stands = λ place own rest' w. stands place own rest' (k.stands place own rest' w);
+}
+
+module _ (at : ℕ) (l r c : Tree) (p : List ℕ) (ps : Parts) where
+  -- a walk goes on among the siblings or below, as the parts compare
+  abbrev walks : ℕ → Parts → Ordering → Type 0
+  walks link' rest' o = by_order o (WalksTo l (at + 1) (p ∷ ps) link' rest') (at_last ps ⊥ (WalksTo c (at + 3) ps link' rest')) (WalksTo r (at + 2) (p ∷ ps) link' rest')
+
+  abbrev ending : ℕ → Ordering → Type 0
+  ending cell_link o = by_order o (EndsAt l (p ∷ ps) cell_link) (at_last ps (cell_link ≡ at + 4) (EndsAt c ps cell_link)) (EndsAt r (p ∷ ps) cell_link)
+
+  abbrev standing : ℕ → List ℕ → Parts → Ordering → Type 0
+  standing place own rest' o = by_order o (Stands l (p ∷ ps) place own rest') (at_last ps ⊥ (Stands c ps place own rest')) (Stands r (p ∷ ps) place own rest')
+
 module _ (at : ℕ) (part : List ℕ) (l r c : Tree) (cell : Cell) (top link : ℕ) (p : List ℕ) (ps rest : Parts) (words : List ℕ) where
   abbrev whole : Tree
   whole = node at part l r c cell
 
   reached_left : compare_parts p part ≡ Less → Reached l (at + 1) (p ∷ ps) link rest words → Reached whole top (p ∷ ps) link rest words
-  reached_left e k = record {
-    below = k.below;
-    found = ap (λ (x : Cell). x.place) (at_less (compare_parts p part) _ _ _ e) ∙ k.found;
-    same_link = at_less (compare_parts p part) _ _ _ e ∙ k.same_link;
-    same_part = at_less (compare_parts p part) _ _ _ e ∙ k.same_part;
-    deep = let d = at_less (compare_parts p part) (depth l (p ∷ ps)) (1 + depth c ps) (depth r (p ∷ ps)) e in let d' = k.deep in omega arith;
-    link_is = k.link_is;
-    holds = k.holds;
-    apart = k.apart;
-    rising = k.rising;
-    above = k.above;
-    on = λ link' rest' w. inr (subst (λ (o : Ordering). by_order o (WalksTo l (at + 1) (p ∷ ps) link' rest') (at_last ps ⊥ (WalksTo c (at + 3) ps link' rest')) (WalksTo r (at + 2) (p ∷ ps) link' rest')) (sym e) (k.on link' rest' w));
-    ends = λ cell_link w. subst (λ (o : Ordering). by_order o (EndsAt l (p ∷ ps) cell_link) (at_last ps (cell_link ≡ at + 4) (EndsAt c ps cell_link)) (EndsAt r (p ∷ ps) cell_link)) (sym e) (k.ends cell_link w);
-    stands = λ place own rest' w. inr (subst (λ (o : Ordering). by_order o (Stands l (p ∷ ps) place own rest') (at_last ps ⊥ (Stands c ps place own rest')) (Stands r (p ∷ ps) place own rest')) (sym e) (k.stands place own rest' w));
-  }
+  reached_left e k =
+      goes_on whole l top (at + 1) (p ∷ ps) (p ∷ ps) link rest words k
+      (ap (λ (x : Cell). x.place) (at_less (compare_parts p part) _ _ _ e)) (at_less (compare_parts p part) _ _ _ e) (at_less (compare_parts p part) _ _ _ e)
+      (let d = at_less (compare_parts p part) (depth l (p ∷ ps)) (1 + depth c ps) (depth r (p ∷ ps)) e in omega arith)
+      (λ link' rest' w. inr (subst (walks at l r c p ps link' rest') (sym e) w)) (λ cell_link w. subst (ending at l r c p ps cell_link) (sym e) w) (λ place own rest' w. inr (subst (standing at l r c p ps place own rest') (sym e) w))
 
   reached_right : compare_parts p part ≡ Greater → Reached r (at + 2) (p ∷ ps) link rest words → Reached whole top (p ∷ ps) link rest words
-  reached_right e k = record {
-    below = k.below;
-    found = ap (λ (x : Cell). x.place) (at_greater (compare_parts p part) _ _ _ e) ∙ k.found;
-    same_link = at_greater (compare_parts p part) _ _ _ e ∙ k.same_link;
-    same_part = at_greater (compare_parts p part) _ _ _ e ∙ k.same_part;
-    deep = let d = at_greater (compare_parts p part) (depth l (p ∷ ps)) (1 + depth c ps) (depth r (p ∷ ps)) e in let d' = k.deep in omega arith;
-    link_is = k.link_is;
-    holds = k.holds;
-    apart = k.apart;
-    rising = k.rising;
-    above = k.above;
-    on = λ link' rest' w. inr (subst (λ (o : Ordering). by_order o (WalksTo l (at + 1) (p ∷ ps) link' rest') (at_last ps ⊥ (WalksTo c (at + 3) ps link' rest')) (WalksTo r (at + 2) (p ∷ ps) link' rest')) (sym e) (k.on link' rest' w));
-    ends = λ cell_link w. subst (λ (o : Ordering). by_order o (EndsAt l (p ∷ ps) cell_link) (at_last ps (cell_link ≡ at + 4) (EndsAt c ps cell_link)) (EndsAt r (p ∷ ps) cell_link)) (sym e) (k.ends cell_link w);
-    stands = λ place own rest' w. inr (subst (λ (o : Ordering). by_order o (Stands l (p ∷ ps) place own rest') (at_last ps ⊥ (Stands c ps place own rest')) (Stands r (p ∷ ps) place own rest')) (sym e) (k.stands place own rest' w));
-  }
+  reached_right e k =
+      goes_on whole r top (at + 2) (p ∷ ps) (p ∷ ps) link rest words k
+      (ap (λ (x : Cell). x.place) (at_greater (compare_parts p part) _ _ _ e)) (at_greater (compare_parts p part) _ _ _ e) (at_greater (compare_parts p part) _ _ _ e)
+      (let d = at_greater (compare_parts p part) (depth l (p ∷ ps)) (1 + depth c ps) (depth r (p ∷ ps)) e in omega arith)
+      (λ link' rest' w. inr (subst (walks at l r c p ps link' rest') (sym e) w)) (λ cell_link w. subst (ending at l r c p ps cell_link) (sym e) w) (λ place own rest' w. inr (subst (standing at l r c p ps place own rest') (sym e) w))
 
 module _ (at : ℕ) (part : List ℕ) (l r c : Tree) (cell : Cell) (top link : ℕ) (p y : List ℕ) (ys rest : Parts) (words : List ℕ) where
   reached_children : compare_parts p part ≡ Equal → Reached c (at + 3) (y ∷ ys) link rest words → Reached (node at part l r c cell) top (p ∷ y ∷ ys) link rest words
-  reached_children e k = record {
-    below = k.below;
-    found = ap (λ (x : Cell). x.place) (at_equal (compare_parts p part) _ _ _ e) ∙ k.found;
-    same_link = at_equal (compare_parts p part) _ _ _ e ∙ k.same_link;
-    same_part = at_equal (compare_parts p part) _ _ _ e ∙ k.same_part;
-    deep = let d = at_equal (compare_parts p part) (depth l (p ∷ y ∷ ys)) (1 + depth c (y ∷ ys)) (depth r (p ∷ y ∷ ys)) e in let d' = k.deep in omega arith;
-    link_is = k.link_is;
-    holds = k.holds;
-    apart = k.apart;
-    rising = k.rising;
-    above = k.above;
-    on = λ link' rest' w. inr (subst (λ (o : Ordering). by_order o (WalksTo l (at + 1) (p ∷ y ∷ ys) link' rest') (WalksTo c (at + 3) (y ∷ ys) link' rest') (WalksTo r (at + 2) (p ∷ y ∷ ys) link' rest')) (sym e) (k.on link' rest' w));
-    ends = λ cell_link w. subst (λ (o : Ordering). by_order o (EndsAt l (p ∷ y ∷ ys) cell_link) (EndsAt c (y ∷ ys) cell_link) (EndsAt r (p ∷ y ∷ ys) cell_link)) (sym e) (k.ends cell_link w);
-    stands = λ place own rest' w. inr (subst (λ (o : Ordering). by_order o (Stands l (p ∷ y ∷ ys) place own rest') (Stands c (y ∷ ys) place own rest') (Stands r (p ∷ y ∷ ys) place own rest')) (sym e) (k.stands place own rest' w));
-  }
+  reached_children e k =
+      goes_on (node at part l r c cell) c top (at + 3) (p ∷ y ∷ ys) (y ∷ ys) link rest words k
+      (ap (λ (x : Cell). x.place) (at_equal (compare_parts p part) _ _ _ e)) (at_equal (compare_parts p part) _ _ _ e) (at_equal (compare_parts p part) _ _ _ e)
+      (let d = at_equal (compare_parts p part) (depth l (p ∷ y ∷ ys)) (1 + depth c (y ∷ ys)) (depth r (p ∷ y ∷ ys)) e in omega arith)
+      (λ link' rest' w. inr (subst (walks at l r c p (y ∷ ys) link' rest') (sym e) w))
+      (λ cell_link w. subst (ending at l r c p (y ∷ ys) cell_link) (sym e) w)
+      (λ place own rest' w. inr (subst (standing at l r c p (y ∷ ys) place own rest') (sym e) w))
 
 -- what a load of a link on the path finds
 pub reaches : (t : Tree) (top : ℕ) (parts : Parts) (link : ℕ) (rest : Parts) (words : List ℕ) → WalksTo t top parts link rest

@@ -125,7 +125,15 @@ IsMissing words sets name (MissingNodes link from) =
     (link ≡ link_at 1 (tree_of sets) (parts_of name)) × (parts_of (drop from name) ≡ missing_parts (tree_of sets) (parts_of name))
     × (from ≤ length name) × (link < words)
 
--- the view of the writer once the set is accepted
+-- the first free word, from which on the missing nodes of the name have room
+abbrev pub HasRoom : ℕ → List Set → List ℕ → ℕ → Type 0
+HasRoom words sets name mark = (mark ≡ mark_of sets) × (new_place sets name ≤ words)
+
+-- the view of the writer once all missing nodes of the name are linked
+abbrev pub with_path : {V : Type 0} → (V → TrieView → V) → CellView → TrieView → V → List ℕ → V
+with_path with_trie cell trie v name = with_trie v (adding trie name (missing_count (sets_of cell) name) [])
+
+-- and once the set is accepted
 module _ {V : Type 0} (with_cell : V → CellView → V) (with_trie : V → TrieView → V) where
   abbrev pub with_added : CellView → TrieView → V → List ℕ → List ℕ → ℕ → V
   with_added cell trie v name value place = with_cell (with_trie v (linking trie name place)) (accepted cell name value)

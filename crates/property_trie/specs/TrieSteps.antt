@@ -28,6 +28,10 @@ module _ {S V : Type 0} where
   abbrev pub SitsAt : Seat S V → TableId → ℕ → Type 0
   SitsAt seat table words = (seat.table_id ≡ table) × HasWords table words
 
+  -- the seat's table has this word, which is the link that is asked about
+  abbrev pub IsAtLink : Seat S V → TableId → ℕ → ℕ → Type 0
+  IsAtLink seat table link asked = (seat.table_id ≡ table) × (link < table.words) × (link ≡ asked)
+
 -- the names of sets, in their order
 abbrev pub names_of : List Set → List (List ℕ)
 names_of sets = map (λ (set : Set). set.0) sets

@@ -11,8 +11,8 @@ ghost use Rattle.property_trie.specs.Parts.{parts_of, node_size as size_of};
 ghost use Rattle.property_trie.specs.Tree.{find as find_in};
 ghost use Rattle.property_trie.specs.TreeWords.{link_at};
 ghost use Rattle.property_trie.specs.TrieSteps.{SitsAt, IsAtRest, tree_of, missing_parts};
-ghost use Rattle.property_trie.specs.Additions.{mark_of, new_place, free_place, missing_count, new_node_word, new_node};
-ghost use Rattle.property_trie.specs.Additions.{new_cell_word, new_cell, IsAdding, adding, with_added, HasPath, IsMissing};
+ghost use Rattle.property_trie.specs.Additions.{mark_of, new_place, free_place, new_node_word, new_node};
+ghost use Rattle.property_trie.specs.Additions.{new_cell_word, new_cell, IsAdding, adding, with_path, with_added, HasRoom, HasPath, IsMissing};
 
 use crate::lacking::Missing;
 use crate::part::node_size;
@@ -138,15 +138,10 @@ fn make_nodes<V, K, R: TrieRule<V, K>, Q: Added>(
         ≡ missing_parts (tree_of (sets_of (R.cell seat.old.me.0))) (parts_of Q.name) }
     requires top { (top < table.now.shared.table_id.words)
         × (top ≡ link_at 1 (tree_of (sets_of (R.cell seat.old.me.0))) (parts_of Q.name)) }
-    requires mark { mark ≡ mark_of (sets_of (R.cell seat.old.me.0)) }
-    requires room { new_place (sets_of (R.cell seat.old.me.0)) Q.name ≤ table.now.shared.table_id.words }
+    requires room { HasRoom table.now.shared.table_id.words (sets_of (R.cell seat.old.me.0)) Q.name mark }
     ensures seat { IsSameSeat seat.old seat.new }
     ensures view { seat.new.me
-        ≡ (
-          R.with_trie seat.old.me.0
-              (adding (R.trie seat.old.me.0) Q.name (missing_count (sets_of (R.cell seat.old.me.0)) Q.name) []),
-          seat.old.me.1,
-        ) }
+        ≡ (with_path R.with_trie (R.cell seat.old.me.0) (R.trie seat.old.me.0) seat.old.me.0 Q.name, seat.old.me.1) }
     ensures path { HasPath table.now.shared.table_id.words (sets_of (R.cell seat.old.me.0)) Q.name result }
 {
     let mut link = top;
@@ -187,15 +182,10 @@ fn make_path<V, K, R: TrieRule<V, K>, Q: Added>(
         × IsAdding (R.cell seat.old.me.0) (R.trie seat.old.me.0) Q.name 0 [] }
     requires rests { IsAtRest (R.trie seat.old.me.0) }
     requires missing { IsMissing table.now.shared.table_id.words (sets_of (R.cell seat.old.me.0)) Q.name missing }
-    requires mark { mark ≡ mark_of (sets_of (R.cell seat.old.me.0)) }
-    requires room { new_place (sets_of (R.cell seat.old.me.0)) Q.name ≤ table.now.shared.table_id.words }
+    requires room { HasRoom table.now.shared.table_id.words (sets_of (R.cell seat.old.me.0)) Q.name mark }
     ensures seat { IsSameSeat seat.old seat.new }
     ensures view { seat.new.me
-        ≡ (
-          R.with_trie seat.old.me.0
-              (adding (R.trie seat.old.me.0) Q.name (missing_count (sets_of (R.cell seat.old.me.0)) Q.name) []),
-          seat.old.me.1,
-        ) }
+        ≡ (with_path R.with_trie (R.cell seat.old.me.0) (R.trie seat.old.me.0) seat.old.me.0 Q.name, seat.old.me.1) }
     ensures path { HasPath table.now.shared.table_id.words (sets_of (R.cell seat.old.me.0)) Q.name result }
 {
     match missing {

@@ -35,33 +35,6 @@ fn word_at(part: &[u8], first: u64, k: usize) -> u64
     if k == 0 { first } else { word_of(part, k) }
 }
 
-/// Compares a part with that of the node, where they have one length.
-fn compare_part_words<V, K, R: TrieRule<V, K>>(
-    table: &Table<(), V, K, R, Global>,
-    seat: &mut Seat<(), V>,
-    place: usize,
-    part: &[u8],
-    first: u64,
-) -> Ordering
-    requires table { SitsAt seat.old table.now.shared.table_id (R.words seat.old.me.0) }
-    requires stands { IsTrue (R.trie seat.old.me.0).live × StandsAt (R.trie seat.old.me.0).trail place }
-    requires room { place + size_of (part_at (R.trie seat.old.me.0).trail) ≤ table.now.shared.table_id.words }
-    requires short { (length part.now ≤ 255) × IsShortText (part_at (R.trie seat.old.me.0).trail) }
-    requires first { first ≡ text_word part.now 0 }
-    requires same_length { length part.now ≡ length (part_at (R.trie seat.old.me.0).trail) }
-    ensures seat { IsSameSeat seat.old seat.new × (seat.new.me ≡ seat.old.me) }
-    ensures order { result ≡ slice_cmp nat_cmp part.now (part_at (R.trie seat.old.me.0).trail) }
-{
-    for k in 0..part.len().div_ceil(8) {
-        let own = node_word::<V, K, R, Brand>(table, seat, place, k);
-        let order = compare_words(word_at(part, first, k), own);
-        if order != Ordering::Equal {
-            return order;
-        }
-    }
-    Ordering::Equal
-}
-
 /// Compares a part, whose first word is at hand, with that of the node that the walk stands at.
 pub(crate) fn compare_with_node<V, K, R: TrieRule<V, K>>(
     table: &Table<(), V, K, R, Global>,
@@ -79,12 +52,18 @@ pub(crate) fn compare_with_node<V, K, R: TrieRule<V, K>>(
     ensures order { result ≡ order_of part.now (part_at (R.trie seat.old.me.0).trail) }
 {
     let length = node_length::<V, K, R>(table, seat, place) as usize;
-    if part.len() == length {
-        return compare_part_words::<V, K, R>(table, seat, place, part, first);
-    }
     if part.len() < length {
-        Ordering::Less
-    } else {
-        Ordering::Greater
+        return Ordering::Less;
     }
+    if length < part.len() {
+        return Ordering::Greater;
+    }
+    for k in 0..part.len().div_ceil(8) {
+        let own = node_word::<V, K, R, Brand>(table, seat, place, k);
+        let order = compare_words(word_at(part, first, k), own);
+        if order != Ordering::Equal {
+            return order;
+        }
+    }
+    Ordering::Equal
 }

@@ -25,21 +25,25 @@ pub enum Missing {
     Nodes { link: usize, from: usize },
 }
 
-/// Searches a name that is in no set, which changes nothing.
+/// Searches what a name misses that is in no set, which changes nothing.
 fn search_absent<V, K, R: TrieRule<V, K>, Q: Added>(
     table: &Table<(), V, K, R, Global>,
     seat: &mut Seat<(), V>,
     name: &[u8],
-) -> SearchEnd
+) -> Missing
     requires table { SitsAt seat.old table.now.shared.table_id (R.words seat.old.me.0) }
     requires top { 16 ≤ table.now.shared.table_id.words }
     requires name { (name.now ≡ Q.name) × (length name.now ≤ 255) }
     requires adds { IsAdding (R.cell seat.old.me.0) (R.trie seat.old.me.0) Q.name 0 [] }
     requires rests { IsAtRest (R.trie seat.old.me.0) }
     ensures seat { IsSameSeat seat.old seat.new × (seat.new.me ≡ seat.old.me) }
-    ensures ends { EndsAbsent table.now.shared.table_id.words (sets_of (R.cell seat.old.me.0)) Q.name result }
+    ensures missing { IsMissing table.now.shared.table_id.words (sets_of (R.cell seat.old.me.0)) Q.name result }
 {
-    search::<V, K, R, Brand>(table, seat, name)
+    match search::<V, K, R, Brand>(table, seat, name) {
+        SearchEnd::Cell(_) => unreachable!(),
+        SearchEnd::NoCell(link) => Missing::Cell { link },
+        SearchEnd::NoNode(link, from) => Missing::Nodes { link, from },
+    }
 }
 
 /// What a name misses that is in no set. The search changes nothing, takes no memory, and waits for nothing.
@@ -55,9 +59,5 @@ pub fn search_missing<V, K, R: TrieRule<V, K>>(
     ensures seat { IsSameSeat seat.old seat.new × (seat.new.me ≡ seat.old.me) }
     ensures missing { IsMissing table.now.shared.table_id.words (sets_of (R.cell seat.old.me.0)) name.entry.bytes.now result }
 {
-    match search_absent::<V, K, R, Brand>(table, seat, name.bytes) {
-        SearchEnd::Cell(_) => unreachable!(),
-        SearchEnd::NoCell(link) => Missing::Cell { link },
-        SearchEnd::NoNode(link, from) => Missing::Nodes { link, from },
-    }
+    search_absent::<V, K, R, Brand>(table, seat, name.bytes)
 }

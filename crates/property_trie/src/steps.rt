@@ -4,7 +4,7 @@ ghost use Rattle.std.specs.Prelude.{◌≡◌, ◌<◌, ◌+◌, ◌^◌, length
 ghost use Rattle.serial_value.specs.Steps.{IsSameSeat};
 ghost use Rattle.serial_value.specs.Words.{text_word};
 ghost use Rattle.property_trie.specs.TreeWords.{part_words};
-ghost use Rattle.property_trie.specs.TrieSteps.{LeadsTo, Follows, StandsAt, part_at, ComesTo, Ends};
+ghost use Rattle.property_trie.specs.TrieSteps.{IsAtLink, LeadsTo, Follows, StandsAt, part_at, ComesTo, Ends};
 
 use crate::rule::{Sought, TrieRule};
 use atomic_table::{Play, Seat, Table};
@@ -55,8 +55,7 @@ pub(crate) fn followed_link<V, K, R: TrieRule<V, K>, Q: Sought>(
     seat: &mut Seat<(), V>,
     link: usize,
 ) -> u64
-    requires table { seat.old.table_id ≡ table.now.shared.table_id }
-    requires place { (link < table.now.shared.table_id.words) × (link ≡ Q.link) }
+    requires link { IsAtLink seat.old table.now.shared.table_id link Q.link }
     requires leads { LeadsTo (R.trie seat.old.me.0) Q.name Q.link Q.rest }
     ensures seat { IsSameSeat seat.old seat.new × (seat.new.me.1 ≡ seat.old.me.1) }
     ensures told { Follows R.with_trie R.noted (R.words seat.old.me.0) (R.cell seat.old.me.0) (R.trie seat.old.me.0) seat.old.me.0
@@ -103,8 +102,7 @@ pub(crate) fn cell_link<V, K, R: TrieRule<V, K>, Q: Sought>(
     seat: &mut Seat<(), V>,
     link: usize,
 ) -> u64
-    requires table { seat.old.table_id ≡ table.now.shared.table_id }
-    requires place { (link < table.now.shared.table_id.words) × (link ≡ Q.link) }
+    requires link { IsAtLink seat.old table.now.shared.table_id link Q.link }
     requires comes { ComesTo (R.trie seat.old.me.0) Q.name Q.link }
     ensures seat { IsSameSeat seat.old seat.new × (seat.new.me.1 ≡ seat.old.me.1) }
     ensures told { Ends R.with_trie R.noted (R.words seat.old.me.0) (R.cell seat.old.me.0) (R.trie seat.old.me.0) seat.old.me.0

@@ -13,7 +13,7 @@ use Rattle.serial_value.specs.Words.{IsShortValue}
 use Rattle.serial_value.specs.Cell.{sets_of, IsWriter}
 use Rattle.serial_value.specs.One.{the_name, the_place, OneHolds, ViewHolds, begins, new_reader, HasFirst}
 use Rattle.serial_value.specs.Kept.Places.{at_end}
-use Rattle.serial_value.specs.Kept.OneFrame.{St, serial_in}
+use Rattle.serial_value.specs.Kept.OneFrame.{St, serial_in, with_views}
 
 module _ (s : St) (h : OneHolds s) where
   known : (id : ℕ) (v : OneView) (cell : CellView) → IsWriter cell → ViewHolds (serial_in s) h.writer h.sets h.making id cell v.began v.list → h.sets ≡ sets_of cell
@@ -24,39 +24,26 @@ pub one_splits : (id : ℕ) (v : OneView) → IsWriter v.cell → Splits OneHold
 one_splits id v is s h here =
     let sets = known s h id v v.cell is (h.each id v here) in
     let count = ap length sets in
-    subst (λ (views : List OneView). OneHolds record { words = s.words; homes = s.homes; views = views ++ new_reader v ∷ [] }) (sym (set_again s.views id v here)) record {
-      writer = h.writer;
-      sets = h.sets;
-      making = h.making;
-      number = h.number;
-      value = h.value;
-      wide = h.wide;
-      few = h.few;
-      named = h.named;
-      last = h.last;
-      made = h.made;
-      cell = h.cell;
-      there = let l = length-append s.views (new_reader v ∷ []) in let t = h.there in omega arith;
-      each = λ seat u e. ⊎_elim (h.each seat u)
-          (λ (t : (seat ≡ length s.views) × (new_reader v ≡ u)). subst (λ (x : OneView). ViewHolds (serial_in s) h.writer h.sets h.making seat x.cell x.began x.list) t.1 (
-            (λ same. let t' = t.0 in let w = h.there in omega arith),
-            record {
-              early = omega arith;
-              holds = record {
-                stands = record {
-                  begins = ([], sets ∙ sym (append-nil (sets_of v.cell)));
-                  each = λ i f none. absurd (some-ne-none _ (sym none));
-                  orderly = record { order = tt; rise = λ i j n n' name first first' second second' less none none'. absurd (some-ne-none _ (sym none)) };
-                };
-                seen = omega arith;
-                met = λ name i n first second none. absurd (some-ne-none _ (sym none));
-              };
-              seen = omega arith;
-              copy = tt;
-            },
-          ))
-          (at_end s.views (new_reader v) u seat e);
-    }
+    subst (λ (views : List OneView). OneHolds record { words = s.words; homes = s.homes; views = views ++ new_reader v ∷ [] }) (sym (set_again s.views id v here))
+    (with_views s h (s.views ++ new_reader v ∷ []) (let l = length-append s.views (new_reader v ∷ []) in let t = h.there in omega arith) (λ seat u e. ⊎_elim (h.each seat u)
+    (λ (t : (seat ≡ length s.views) × (new_reader v ≡ u)). subst (λ (x : OneView). ViewHolds (serial_in s) h.writer h.sets h.making seat x.cell x.began x.list) t.1 (
+      (λ same. let t' = t.0 in let w = h.there in omega arith),
+      record {
+        early = omega arith;
+        holds = record {
+          stands = record {
+            begins = ([], sets ∙ sym (append-nil (sets_of v.cell)));
+            each = λ i f none. absurd (some-ne-none _ (sym none));
+            orderly = record { order = tt; rise = λ i j n n' name first first' second second' less none none'. absurd (some-ne-none _ (sym none)) };
+          };
+          seen = omega arith;
+          met = λ name i n first second none. absurd (some-ne-none _ (sym none));
+        };
+        seen = omega arith;
+        copy = tt;
+      },
+    ))
+    (at_end s.views (new_reader v) u seat e)))
 
 one_set : (value : List ℕ) (i : ℕ) (set : Set) → IsShortValue value → get_elem? ((the_name, value) ∷ []) i ≡ some set → (set.0 ≡ the_name) × IsShortValue set.1
 one_set value zero set legal e = subst (λ (x : Set). (x.0 ≡ the_name) × IsShortValue x.1) (some-injective _ _ e) (refl, legal)

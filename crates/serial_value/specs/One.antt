@@ -16,7 +16,7 @@ use Rattle.serial_value.specs.declared.view.CellView.{CellView}
 use Rattle.serial_value.specs.declared.view.CellView.TheVariants.{Writer, Reader}
 use Rattle.serial_value.specs.declared.one.OneView.{OneView}
 use Rattle.serial_value.specs.Words.{body_size, body_word, IsShortValue}
-use Rattle.serial_value.specs.Cell.{sets_of, name_of}
+use Rattle.serial_value.specs.Cell.{sets_of, name_of, HasShortCell}
 use Rattle.serial_value.specs.World.{World, ReaderHolds}
 
 -- the name `a`
@@ -98,6 +98,12 @@ noted v reading = record v { list = v.list ++ Told reading ∷ [] }
 
 abbrev pub Linked : OneView → List ℕ → ℕ → Type 0
 Linked v name place = (name ≡ the_name) × (place ≡ the_place)
+
+-- the writer makes no set, and so many sets are made, the last of which has a short value
+pub record HasMade (cell : CellView) (count : ℕ) : Type 0 where
+  pub rests : cell ≡ Writer (sets_of cell) None
+  pub count_is : length (sets_of cell) ≡ count
+  pub short : HasShortCell (sets_of cell) the_name
 
 -- the view of a reader's seat that is split off the writer's
 abbrev pub new_reader : OneView → OneView

@@ -5,7 +5,7 @@ ghost use Rattle.init_machine.specs.Serial.{top_byte, clean_serial as clean_seri
 ghost use Rattle.serial_value.specs.Words.{body_word, IsShortValue};
 ghost use Rattle.serial_value.specs.Cell.{sets_of, HasShortCell, updating, accepted, IsUpdating, IsPresentSerial, IsPresentWord};
 ghost use Rattle.serial_value.specs.Cell.{Begins, LiesAt, Copies, IsCopied, Ends};
-ghost use Rattle.serial_value.specs.Steps.{IsSameSeat, HasCell};
+ghost use Rattle.serial_value.specs.Steps.{IsSameSeat, HasCell, IsAtCell};
 
 use crate::rule::{Asked, CellRule};
 use atomic_table::{Play, Seat, Table};
@@ -84,8 +84,7 @@ pub fn dirty_serial<V, K, R: CellRule<V, K>, Q: Asked>(
     at: usize,
     clean: u64,
 )
-    requires table { seat.old.table_id ≡ table.now.shared.table_id }
-    requires place { HasCell table.now.shared.table_id at × (at ≡ Q.place) }
+    requires cell { IsAtCell seat.old table.now.shared.table_id at Q.place }
     requires writer { R.Settled seat.old.me.0 × R.Linked seat.old.me.0 Q.name Q.place }
     requires update { IsUpdating (R.cell seat.old.me.0) Q.name Q.value Q.place 12 × (Q.index ≡ 13) }
     requires word { IsPresentSerial (sets_of (R.cell seat.old.me.0)) Q.name clean × (clean + 1 < 2 ^ 64) }
@@ -105,8 +104,7 @@ pub fn value_word<V, K, R: CellRule<V, K>, Q: Asked>(
     k: usize,
     word: u64,
 )
-    requires table { seat.old.table_id ≡ table.now.shared.table_id }
-    requires place { HasCell table.now.shared.table_id at × (at ≡ Q.place) }
+    requires cell { IsAtCell seat.old table.now.shared.table_id at Q.place }
     requires writer { R.Settled seat.old.me.0 × R.Linked seat.old.me.0 Q.name Q.place }
     requires update { IsUpdating (R.cell seat.old.me.0) Q.name Q.value Q.place (13 + k) × (k < 12) × (Q.index ≡ 13 + k + 1) }
     requires word { word ≡ body_word Q.value k }
@@ -126,8 +124,7 @@ pub fn clean_serial<V, K, R: CellRule<V, K>, Q: Asked>(
     at: usize,
     word: u64,
 )
-    requires table { seat.old.table_id ≡ table.now.shared.table_id }
-    requires place { HasCell table.now.shared.table_id at × (at ≡ Q.place) }
+    requires cell { IsAtCell seat.old table.now.shared.table_id at Q.place }
     requires writer { R.Settled seat.old.me.0 × R.Linked seat.old.me.0 Q.name Q.place }
     requires update { IsUpdating (R.cell seat.old.me.0) Q.name Q.value Q.place 25 × (length (sets_of (R.cell seat.old.me.0)) + 1 < 2 ^ 55) }
     requires word { word ≡ clean_serial_of (top_byte Q.value) (length (sets_of (R.cell seat.old.me.0)) + 1) }
@@ -144,9 +141,7 @@ pub fn first_serial<V, K, R: CellRule<V, K>, Q: Asked>(
     seat: &mut Seat<(), V>,
     at: usize,
 ) -> u64
-    requires table { seat.old.table_id ≡ table.now.shared.table_id }
-    requires place { HasCell table.now.shared.table_id at × (at ≡ Q.place) }
-    requires linked { R.Linked seat.old.me.0 Q.name Q.place }
+    requires cell { IsAtCell seat.old table.now.shared.table_id at Q.place × R.Linked seat.old.me.0 Q.name Q.place }
     ensures seat { IsSameSeat seat.old seat.new }
     ensures view { seat.new.me ≡ (R.with_cell seat.old.me.0 (R.cell seat.new.me.0), seat.old.me.1) }
     ensures told { Begins (R.words seat.old.me.0) (R.cell seat.old.me.0) Q.name Q.place result (R.cell seat.new.me.0) }
@@ -178,9 +173,7 @@ pub fn last_serial<V, K, R: CellRule<V, K>, Q: Asked>(
     seat: &mut Seat<(), V>,
     at: usize,
 ) -> u64
-    requires table { seat.old.table_id ≡ table.now.shared.table_id }
-    requires place { HasCell table.now.shared.table_id at × (at ≡ Q.place) }
-    requires linked { R.Linked seat.old.me.0 Q.name Q.place }
+    requires cell { IsAtCell seat.old table.now.shared.table_id at Q.place × R.Linked seat.old.me.0 Q.name Q.place }
     requires copied { IsCopied (R.cell seat.old.me.0) Q.name Q.place }
     ensures seat { IsSameSeat seat.old seat.new × (seat.new.me.1 ≡ seat.old.me.1) }
     ensures told { Ends R.with_cell R.noted (R.cell seat.old.me.0) seat.old.me.0 Q.name result seat.new.me.0 }

@@ -5,10 +5,10 @@ use lib.ListN.{get_elem?}
 use Rattle.atomic_table.specs.Table.{Me, Allows, keeps, stepped}
 use Rattle.atomic_table.proofs.Lists.{at_last}
 use Rattle.init_machine.specs.Serial.{top_byte, clean_serial, rank}
-use Rattle.init_machine.specs.Sets.{Set, LaterSet, LastSet}
+use Rattle.init_machine.specs.Sets.{Set, NoneBetween, LaterSet, LastSet}
 use Rattle.serial_value.specs.Words.{IsValue, IsShortValue}
 use Rattle.serial_value.specs.Cell.{sets_of, HasShortCell, name_of, update, accepted, IsUpdating}
-use Rattle.serial_value.specs.World.{Moved, Later}
+use Rattle.serial_value.specs.World.{World, Moved, Later}
 use Rattle.serial_value.specs.World.Moved.{stays, accepted as accepts_set}
 use Rattle.serial_value.specs.One.{CellHolds}
 use Rattle.serial_value.specs.Kept.Serials.{rank-clean, rank-dirty}
@@ -43,6 +43,20 @@ new_last sets name value = let count = length-append sets ((name, value) ∷ [])
 
 pub new_later : (sets : List Set) (name value : List ℕ) (low : ℕ) → low ≤ length sets → LaterSet (sets ++ (name, value) ∷ []) name low
 new_later sets name value low within = (length sets, value, within, at_last sets (name, value) (length sets) refl)
+
+-- a moment with one more set: the serial of its name moves, and those of all others stay
+pub one_more : (w w' : World) (name value : List ℕ) → w'.sets ≡ w.sets ++ (name, value) ∷ [] → Moved w w' name → ((q : List ℕ) → q ≢ name → w'.serial q ≡ w.serial q)
+    → ((q : List ℕ) (low : ℕ) → low ≤ length w.sets → w.making ≡ Some q → LaterSet w'.sets q low ⊎ (w'.making ≡ Some q)) → Later w w'
+one_more w w' name value grown moved others kept = record {
+  more = (name, value) ∷ [];
+  grown = grown;
+  kept = kept;
+  moves = λ q. ⊎_elim
+      (λ (is_name : q ≡ name). subst (Moved w w') (sym is_name) moved)
+      (λ (other : q ≢ name). stays (others q other)
+      (subst (λ (sets : List Set). NoneBetween sets q (length w.sets) (length sets)) (sym grown) (others_none w.sets name value q other)))
+      (same_or_other q name);
+}
 
 pub new_legal : (sets : List Set) (name value : List ℕ) → ((i : ℕ) (set : Set) → get_elem? sets i ≡ some set → IsValue set.1) → IsValue value
     → (i : ℕ) (set : Set) → get_elem? (sets ++ (name, value) ∷ []) i ≡ some set → IsValue set.1
@@ -157,28 +171,21 @@ module _ (words : List ℕ) (m : Moment) (h : WordsHold words m) (id : ℕ) (v :
   serial_now : (q : List ℕ) → word_at words' (find (tree_of more) (parts_of q)) ≡ word_at words' (find (tree_of m.sets) (parts_of q))
   serial_now q = ap (word_at words') (place_same q)
 
-  moves : (q : List ℕ) → Moved (world_of words m) (world_of words' m') q
-  moves q = ⊎_elim
-      (λ (is_name : q ≡ name). subst (Moved (world_of words m) (world_of words' m')) (sym is_name) (accepts_set
-      (let bounds = own_bounds words m h name there in
-      subst (λ (w : ℕ). rank (word_at words at) < rank w) (sym (serial_now name ∙ word_is words' at there ∙ get_or-set_same words at word 0 (omega arith))) ranks)
-      (new_later m.sets name value (length m.sets) (omega arith))
-      (short_serial words m h id v view name value place 25 linked is legal.1)))
-      (λ (other : q ≢ name). stays
-      (serial_now q ∙ word_else words at word (find (tree_of m.sets) (parts_of q)) (serial_apart words m h q at (touch_other words m h name at word touch q other)))
-      (others_none m.sets name value q other))
-      (same_or_other q name)
+  moved : Moved (world_of words m) (world_of words' m') name
+  moved =
+      let bounds = own_bounds words m h name there in
+      let now = serial_now name ∙ word_is words' at there ∙ get_or-set_same words at word 0 (omega arith) in
+      accepts_set (subst (λ (w : ℕ). rank (word_at words at) < rank w) (sym now) ranks) (new_later m.sets name value (length m.sets) (omega arith))
+      (short_serial words m h id v view name value place 25 linked is legal.1)
 
   later : Later (world_of words m) (world_of words' m')
-  later = record {
-    more = (name, value) ∷ [];
-    grown = refl;
-    kept = λ q low within e.
-        let made : name_of m.making ≡ Some name = name_known words m h id v view name value place 25 linked is (omega arith) in
-        let is_name : name ≡ q = cc in
-        inl (subst (λ (x : List ℕ). LaterSet more x low) is_name (new_later m.sets name value low within));
-    moves = moves;
-  }
+  later =
+      one_more (world_of words m) (world_of words' m') name value refl moved
+      (λ q other. serial_now q ∙ word_else words at word (find (tree_of m.sets) (parts_of q)) (serial_apart words m h q at (touch_other words m h name at word touch q other)))
+      (λ q low within e.
+      let made : name_of m.making ≡ Some name = name_known words m h id v view name value place 25 linked is (omega arith) in
+      let is_name : name ≡ q = cc in
+      inl (subst (λ (x : List ℕ). LaterSet more x low) is_name (new_later m.sets name value low within)))
 
   extends : Extends (tree_now m.sets m.adding) (tree_now more m.adding)
   extends = subst (Extends (tree_now m.sets m.adding)) (sym (tree_same m.sets more m.adding same)) (extends_self (tree_now m.sets m.adding))

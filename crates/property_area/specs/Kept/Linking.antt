@@ -8,8 +8,8 @@ use Rattle.init_machine.specs.Sets.{Set}
 use Rattle.serial_value.specs.declared.view.Making.{Making}
 use Rattle.serial_value.specs.Words.{body_size, IsValue}
 use Rattle.serial_value.specs.Cell.{sets_of}
-use Rattle.serial_value.specs.World.{Moved, Later}
-use Rattle.serial_value.specs.World.Moved.{stays, accepted as accepts_set}
+use Rattle.serial_value.specs.World.{Later}
+use Rattle.serial_value.specs.World.Moved.{accepted as accepts_set}
 use Rattle.serial_value.specs.One.{CellHolds, done_of, new_value}
 use Rattle.serial_value.specs.Kept.Serials.{rank-clean}
 use Rattle.serial_value.specs.Kept.Places.{at_below}
@@ -37,7 +37,7 @@ use Rattle.property_area.specs.Kept.Sets.{others_none, last_longer, no_set}
 use Rattle.property_area.specs.Kept.Fits.{fit_more}
 use Rattle.property_area.specs.Kept.Frame.{Mine, clients_later, After, writes}
 use Rattle.property_area.specs.Kept.CellStores.{own_lies, stands_beside, serial_apart}
-use Rattle.property_area.specs.Kept.Accepting.{new_last, new_later, new_legal}
+use Rattle.property_area.specs.Kept.Accepting.{new_last, new_later, one_more, new_legal}
 use Rattle.property_area.specs.Kept.Walks.{known_more}
 use Rattle.property_area.specs.Kept.Fresh.{adder, added_so_far, tree_before}
 
@@ -182,21 +182,11 @@ module _ (words : List ℕ) (m : Moment) (h : WordsHold words m) (id : ℕ) (v :
   none_long : top_in (serial_in words m.sets name) ≢ 255
   none_long top = let none : top_in (serial_in words m.sets name) ≡ 0 = ap top_in (none_word words (find (tree_of m.sets) ps) absent) in omega arith
 
-  moves : (q : List ℕ) → Moved (world_of words m) (world_of words' m') q
-  moves q = ⊎_elim
-      (λ (is_name : q ≡ name). subst (Moved (world_of words m) (world_of words' m')) (sym is_name) (accepts_set ranks (new_later m.sets name value (length m.sets) (omega arith)) none_long))
-      (λ (other : q ≢ name). stays
-      (ap (word_at words') (found_other q other) ∙ word_else words link free (find (tree_of m.sets) (parts_of q)) (serial_apart words m h q link (outside q)))
-      (others_none m.sets name value q other))
-      (same_or_other q name)
-
   later : Later (world_of words m) (world_of words' m')
-  later = record {
-    more = (name, value) ∷ [];
-    grown = refl;
-    kept = λ q low within e. inr e;
-    moves = moves;
-  }
+  later =
+      one_more (world_of words m) (world_of words' m') name value refl (accepts_set ranks (new_later m.sets name value (length m.sets) (omega arith)) none_long)
+      (λ q other. ap (word_at words') (found_other q other) ∙ word_else words link free (find (tree_of m.sets) (parts_of q)) (serial_apart words m h q link (outside q)))
+      (λ q low within e. inr e)
 
   extends : Extends (tree_now m.sets m.adding) (tree_of more)
   extends = subst (λ (x : Tree × Tree). Extends x.0 x.1) (λ i. (sym (tree_before words m h id v view name linked fresh adds) i, sym later_tree i)) (extends-with_cell tree ps new_at grown_absent)

@@ -7,7 +7,7 @@ use Rattle.serial_value.specs.declared.one.OneView.{OneView}
 use Rattle.serial_value.specs.Words.{body_word, IsShortValue}
 use Rattle.serial_value.specs.Cell.{sets_of, HasShortCell, name_of, update, updating, IsUpdating, IsPresentWord}
 use Rattle.serial_value.specs.One.{the_place, OneHolds, CellHolds, new_value, with_cell, Linked}
-use Rattle.serial_value.specs.Kept.OneFrame.{After, writes, mine, waits, cell_known, last_known, done-update, name-update_later, made-update}
+use Rattle.serial_value.specs.Kept.OneFrame.{same_sets, writes, mine, waits, cell_known, last_known, done-update, name-update_later, made-update}
 use Rattle.serial_value.specs.Kept.CellWords.{cell_backup}
 use Rattle.serial_value.specs.Kept.Sets.{at_last_set}
 
@@ -23,17 +23,7 @@ one_backup key slots id m name value place k word settled linked is small legal 
     let cell = subst (λ (x : ℕ × ℕ). CellHolds (set s.words (4 + k) x.0) the_place h.number h.value (new_value next) x.1)
     (λ i. (right i, sym (done-update name value place (k + 1)) i))
     (cell_backup s.words the_place h.number h.value (new_value (update name value place k)) (omega arith) inside (new_value next) k small (cell_known s h id m.0 name value place k known)) in
-    let after : After s (4 + k) word = record {
-      sets = h.sets;
-      making = next;
-      number = h.number;
-      value = h.value;
-      few = h.few;
-      named = h.named;
-      last = h.last;
-      made = made-update name value place (k + 1) linked.0 linked.1 legal (omega arith);
-      cell = cell;
-    } in (
+    let after = same_sets s h (4 + k) word next (made-update name value place (k + 1) linked.0 linked.1 legal (omega arith)) cell in (
       with_cell m.0 (updating sets name value place (k + 1)),
       keeps,
       tt,

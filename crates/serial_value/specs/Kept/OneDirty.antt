@@ -13,7 +13,7 @@ use Rattle.serial_value.specs.Cell.{sets_of, name_of, update, updating, IsUpdati
 use Rattle.serial_value.specs.World.{Moved}
 use Rattle.serial_value.specs.World.Moved.{stays, dirtied}
 use Rattle.serial_value.specs.One.{the_name, the_place, OneHolds, CellHolds, new_value, world_of, with_cell, Linked}
-use Rattle.serial_value.specs.Kept.OneFrame.{serial_in, After, writes, mine, goes_on, cell_known, last_known, legal_known, name-update_later, made-update}
+use Rattle.serial_value.specs.Kept.OneFrame.{serial_in, same_sets, writes, mine, goes_on, cell_known, last_known, legal_known, name-update_later, made-update}
 use Rattle.serial_value.specs.Kept.OnePresent.{short_last, serial_short}
 use Rattle.serial_value.specs.Kept.CellWords.{cell_dirty}
 use Rattle.serial_value.specs.Kept.Serials.{clean-is_clean}
@@ -45,17 +45,7 @@ one_dirty key slots id m name value place clean settled linked is told s h size 
     let pure : is_dirty (serial_in s) ≡ false = ap is_dirty (serial ∙ sym right) ∙ clean-is_clean (top_byte h.value) h.number in
     let cell = subst (λ (w : ℕ). CellHolds (set s.words the_place (dirty_serial w)) the_place h.number h.value (new_value next) 13) right
     (cell_dirty s.words the_place h.number h.value value (omega arith) inside (short_last s h).short before) in
-    let after : After s the_place word = record {
-      sets = h.sets;
-      making = next;
-      number = h.number;
-      value = h.value;
-      few = h.few;
-      named = h.named;
-      last = h.last;
-      made = made-update name value place 13 linked.0 linked.1 (legal_known s h id m.0 name value place 12 known (omega arith)) (omega arith);
-      cell = cell;
-    } in (
+    let after = same_sets s h the_place word next (made-update name value place 13 linked.0 linked.1 (legal_known s h id m.0 name value place 12 known (omega arith)) (omega arith)) cell in (
       with_cell m.0 (updating (sets_of m.0.cell) name value place 13),
       keeps,
       tt,

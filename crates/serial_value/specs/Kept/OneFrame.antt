@@ -28,29 +28,36 @@ serial_in s = get_or s.words the_place 0
 abbrev pub Carried : Type 0
 Carried = List (ℕ × Unit {0})
 
+-- other seats at the same words
+pub with_views : (s : St) (h : OneHolds s) (views : List OneView) → h.writer < length views
+    → ((seat : ℕ) (v : OneView) → get_elem? views seat ≡ some v → ViewHolds (serial_in s) h.writer h.sets h.making seat v.cell v.began v.list)
+    → OneHolds record { words = s.words; homes = s.homes; views = views }
+with_views s h views there each = record {
+  writer = h.writer;
+  sets = h.sets;
+  making = h.making;
+  number = h.number;
+  value = h.value;
+  wide = h.wide;
+  few = h.few;
+  named = h.named;
+  last = h.last;
+  made = h.made;
+  cell = h.cell;
+  there = there;
+  each = each;
+}
+
 -- a step of a reader: no word changes, and its new view holds
 pub reads : (s : St) (h : OneHolds s) (i id : ℕ) (cs : Carried) (w : OneView)
     → ViewHolds (serial_in s) h.writer h.sets h.making id w.cell w.began w.list
     → OneHolds (stepped s i (get_or s.words i 0) id cs w keeps)
 reads s h i id cs w mine =
-    subst (λ (ws : List ℕ). OneHolds record { words = ws; homes = s.homes; views = set s.views id w }) (sym (set-get_or s.words i 0)) record {
-      writer = h.writer;
-      sets = h.sets;
-      making = h.making;
-      number = h.number;
-      value = h.value;
-      wide = h.wide;
-      few = h.few;
-      named = h.named;
-      last = h.last;
-      made = h.made;
-      cell = h.cell;
-      there = let l = length-set s.views id w in let t = h.there in omega arith;
-      each = λ seat v e. ⊎_elim
-          (λ (t : (seat ≡ id) × (w ≡ v)). subst (λ (x : ℕ × OneView). ViewHolds (serial_in s) h.writer h.sets h.making x.0 x.1.cell x.1.began x.1.list) (λ j. (sym t.0 j, t.1 j)) mine)
-          (λ (t : (seat ≢ id) × (get_elem? s.views seat ≡ some v)). h.each seat v t.1)
-          (at_set s.views id seat w v e);
-    }
+    subst (λ (ws : List ℕ). OneHolds record { words = ws; homes = s.homes; views = set s.views id w }) (sym (set-get_or s.words i 0))
+    (with_views s h (set s.views id w) (let l = length-set s.views id w in let t = h.there in omega arith) (λ seat v e. ⊎_elim
+    (λ (t : (seat ≡ id) × (w ≡ v)). subst (λ (x : ℕ × OneView). ViewHolds (serial_in s) h.writer h.sets h.making x.0 x.1.cell x.1.began x.1.list) (λ j. (sym t.0 j, t.1 j)) mine)
+    (λ (t : (seat ≢ id) × (get_elem? s.views seat ≡ some v)). h.each seat v t.1)
+    (at_set s.views id seat w v e)))
 
 -- what the writer's store leaves
 pub record After (s : St) (i n : ℕ) : Type 0 where
@@ -63,6 +70,12 @@ pub record After (s : St) (i n : ℕ) : Type 0 where
   pub last : LastSet sets (length sets) the_name number value
   pub made : MayMake making
   pub cell : CellHolds (set s.words i n) the_place number value (new_value making) (done_of making)
+
+-- the same sets
+abbrev pub same_sets : (s : St) (h : OneHolds s) (i n : ℕ) (making : Option Making) → MayMake making
+    → CellHolds (set s.words i n) the_place h.number h.value (new_value making) (done_of making) → After s i n
+same_sets s h i n making made cell =
+    record { sets = h.sets; making = making; number = h.number; value = h.value; few = h.few; named = h.named; last = h.last; made = made; cell = cell }
 
 -- another seat's view at a later moment
 other_view : (word word' writer : ℕ) (sets sets' : List Set) (making making' : Option Making) (seat : ℕ) (cell : CellView) (began : List Set) (list : List ClientItem)

@@ -7,7 +7,7 @@ use Rattle.serial_value.specs.declared.one.OneView.{OneView}
 use Rattle.serial_value.specs.Words.{body_word}
 use Rattle.serial_value.specs.Cell.{sets_of, name_of, update, updating, IsUpdating}
 use Rattle.serial_value.specs.One.{the_place, OneHolds, CellHolds, with_cell, Linked}
-use Rattle.serial_value.specs.Kept.OneFrame.{After, writes, mine, waits, cell_known, legal_known, done-update, new-update, name-update_later, made-update}
+use Rattle.serial_value.specs.Kept.OneFrame.{same_sets, writes, mine, waits, cell_known, legal_known, done-update, new-update, name-update_later, made-update}
 use Rattle.serial_value.specs.Kept.OnePresent.{short_last}
 use Rattle.serial_value.specs.Kept.CellWords.{cell_value}
 
@@ -25,17 +25,7 @@ one_value key slots id m name value place k settled linked is small s h size her
     let cell = subst (λ (x : List ℕ × ℕ). CellHolds (set s.words (the_place + 1 + k) word) the_place h.number h.value x.0 x.1)
     (λ i. (sym (new-update name value place (done + 1) (omega arith)) i, sym (done-update name value place (done + 1)) i))
     (cell_value s.words the_place h.number h.value value (omega arith) inside (short_last s h).short k small before) in
-    let after : After s (the_place + 1 + k) word = record {
-      sets = h.sets;
-      making = next;
-      number = h.number;
-      value = h.value;
-      few = h.few;
-      named = h.named;
-      last = h.last;
-      made = made-update name value place (done + 1) linked.0 linked.1 (legal_known s h id m.0 name value place done known (omega arith)) (omega arith);
-      cell = cell;
-    } in (
+    let after = same_sets s h (the_place + 1 + k) word next (made-update name value place (done + 1) linked.0 linked.1 (legal_known s h id m.0 name value place done known (omega arith)) (omega arith)) cell in (
       with_cell m.0 (updating (sets_of m.0.cell) name value place (done + 1)),
       keeps,
       tt,

@@ -62,9 +62,26 @@ none_behind : (s : Set) (sets : List Set) (name : List ℕ) (low high : ℕ) →
 none_behind s sets name low high none zero value above below e = absurd (omega arith)
 none_behind s sets name low high none (suc k) value above below e = none k value (omega arith) (omega arith) e
 
-none_more : (s : Set) (sets : List Set) (name : List ℕ) (high : ℕ) → (s.0 ≡ name → ⊥) → NoneBetween sets name 0 high → NoneBetween (s ∷ sets) name 0 (high + 1)
+pub none_more : (s : Set) (sets : List Set) (name : List ℕ) (high : ℕ) → (s.0 ≡ name → ⊥) → NoneBetween sets name 0 high → NoneBetween (s ∷ sets) name 0 (high + 1)
 none_more s sets name high other none zero value above below e = other (ap (λ (t : Set). t.0) (some-injective _ _ e))
 none_more s sets name high other none (suc k) value above below e = none k value (omega arith) (omega arith) e
+
+-- the first set of a list is the name's last one where no other is of the name
+pub first_last : (s : Set) (sets : List Set) (name : List ℕ) → s.0 ≡ name → NoneBetween sets name 0 (length sets) → LastSet (s ∷ sets) (length (s ∷ sets)) name 1 s.1
+first_last s sets name is none = record {
+  numbered = record { place = 0; number_is = refl; set_is = λ i. some (is i, s.1) };
+  early = omega arith;
+  last = λ k value above below. none_behind s sets name 0 (length sets) none k value above (omega arith);
+}
+
+-- and else the last one stays so behind it
+pub last_behind : (s : Set) (sets : List Set) (name : List ℕ) (number : ℕ) (value : List ℕ) → LastSet sets (length sets) name number value
+    → LastSet (s ∷ sets) (length (s ∷ sets)) name (number + 1) value
+last_behind s sets name number value last = record {
+  numbered = record { place = suc last.numbered.place; number_is = let e = last.numbered.number_is in omega arith; set_is = last.numbered.set_is };
+  early = let early = last.early in omega arith;
+  last = λ k value above below. none_behind s sets name number (length sets) last.last k value above (omega arith);
+}
 
 last_is : (sets : List Set) (name : List ℕ) (other : Option (List ℕ)) → LastIs sets name other
 unfolding LastIs
@@ -77,11 +94,7 @@ last_is (s ∷ sets) name other = ⊎_elim
     inr (
       1,
       s.1,
-      record {
-        numbered = record { place = 0; number_is = refl; set_is = λ i. some (is i, s.1) };
-        early = omega arith;
-        last = λ k value above below. none_behind s sets name 0 (length sets) t.0 k value above (omega arith);
-      },
+      first_last s sets name is t.0,
       t.1 ∙ ap (λ (b : Bool). if b then Some s.1 else other) same,
     ))
     (λ (differs : bytes_eq s.0 name ≡ false).
@@ -91,15 +104,10 @@ last_is (s ∷ sets) name other = ⊎_elim
     ))
     (cases_Bool (bytes_eq s.0 name)))
     (λ (t : (number : ℕ) × (value : List ℕ) × LastSet sets (length sets) name number value × (last_value sets name (if bytes_eq s.0 name then Some s.1 else other) ≡ Some value)).
-    let last = t.2 in let early = last.early in
     inr (
       t.0 + 1,
       t.1,
-      record {
-        numbered = record { place = suc last.numbered.place; number_is = let e = last.numbered.number_is in omega arith; set_is = last.numbered.set_is };
-        early = omega arith;
-        last = λ k value above below. none_behind s sets name t.0 (length sets) last.last k value above (omega arith);
-      },
+      last_behind s sets name t.0 t.1 t.2,
       t.3,
     ))
     (last_is sets name (if bytes_eq s.0 name then Some s.1 else other))

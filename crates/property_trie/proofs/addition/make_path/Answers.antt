@@ -14,11 +14,11 @@ returns-in-Cell-clause-view g c =
     let name = g.Q.Added.name in
     let found = subst (IsMissing c.args.table.now.shared.table_id.words (sets_of (g.R.CellRule.cell m.0)) name) c.in-Cell.is c.requires.missing in
     let there = path_there c.args.table.now.shared.table_id.words (sets_of (g.R.CellRule.cell m.0)) name (record { link = c.in-Cell.link; place = c.args.mark })
-    found.0 c.requires.mark found.1 in
+    found.0 c.requires.room.0 found.1 in
     (far_none L m name 0 [] c.requires.adds.1.under_way ∙ (λ i. (R.with_trie m.0 (adding (R.trie m.0) name (sym there.0 i) []), m.1)))
 
 pub returns-in-Cell-clause-path : goal.returns-in-Cell-clause-path
 returns-in-Cell-clause-path g c =
     let found = subst (IsMissing c.args.table.now.shared.table_id.words (sets_of (g.R.CellRule.cell c.args.seat.now.me.0)) g.Q.Added.name) c.in-Cell.is c.requires.missing in
     (path_there c.args.table.now.shared.table_id.words (sets_of (g.R.CellRule.cell c.args.seat.now.me.0)) g.Q.Added.name (record { link = c.in-Cell.link; place = c.args.mark })
-    found.0 c.requires.mark found.1).1
+    found.0 c.requires.room.0 found.1).1

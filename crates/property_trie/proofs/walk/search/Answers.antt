@@ -23,18 +23,20 @@ parts-preserved g c =
     let ends = c.in-Ok.ensures.ends in
     let behind = drop (c.parts.from + n + 1) name in
     let first = first_part behind in
-    let is = ends.1 ∙ put_standing C.cell R.trie R.with_trie C.noted L.trie_with L.trie_twice L.cell_beside v m inv.walked g.Q.Sought.name (parts_of rest) c.in-Ok.place (first_of (parts_of rest)) in
+    let is = ends.1 ∙ put_standing C.cell R.trie R.with_trie C.noted L.trie_with L.trie_twice L.cell_beside v m inv.walk.walked g.Q.Sought.name (parts_of rest) c.in-Ok.place (first_of (parts_of rest)) in
     let stood = trie_standing C.cell R.trie R.with_trie C.noted L.trie_with L.trie_twice L.cell_beside v w g.Q.Sought.name (parts_of rest) c.in-Ok.place (first_of (parts_of rest)) is in
     record {
-      table = c.in-Ok.ensures.seat.0.0 ∙ inv.table;
-      id = c.in-Ok.ensures.seat.0.1 ∙ inv.id;
-      rights = c.in-Ok.ensures.seat.1 ∙ inv.rights;
-      walked = walked_to C.cell R.trie R.with_trie C.noted L.trie_with L.trie_twice L.cell_beside v w g.Q.Sought.name (parts_of rest) c.in-Ok.place (first_of (parts_of rest)) is;
+      walk = record {
+        table = c.in-Ok.ensures.seat.0.0 ∙ inv.walk.table;
+        id = c.in-Ok.ensures.seat.0.1 ∙ inv.walk.id;
+        rights = c.in-Ok.ensures.seat.1 ∙ inv.walk.rights;
+        walked = walked_to C.cell R.trie R.with_trie C.noted L.trie_with L.trie_twice L.cell_beside v w g.Q.Sought.name (parts_of rest) c.in-Ok.place (first_of (parts_of rest)) is;
+      };
       leads = child_leads (R.trie w) (R.trie v) g.Q.Sought.name (parts_of rest) (parts_of behind) c.in-Ok.place (take n rest) first.0 first.1 stood
           c.requires.rests.live c.requires.rests.no_adding (c.first_part-len.ensures.first ∙ ap (λ r. take n rest ∷ r) (ap (parts_behind n) whole ∙ more_parts name c.parts.from n inv.within c.if-end-name.false)) first.2;
       inside =
           let k = ends.0.0 in
-          let same : g.R.CellRule.words m ≡ g.R.CellRule.words v = ap g.R.CellRule.words inv.walked.is ∙ L.words_stay v _ in
+          let same : g.R.CellRule.words m ≡ g.R.CellRule.words v = ap g.R.CellRule.words inv.walk.walked.is ∙ L.words_stay v _ in
           let all = c.requires.table.1.0 in
           omega arith;
       within =

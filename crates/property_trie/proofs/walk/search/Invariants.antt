@@ -1,7 +1,7 @@
-use Rattle.std.proofs.Common.{◌≡◌, ◌+◌, ◌-◌, ◌<◌, ◌≤◌, length, drop, []}
+use Rattle.std.proofs.Common.{◌+◌, ◌-◌, ◌<◌, ◌≤◌, length, drop, []}
 use Rattle.property_trie.specs.Parts.{parts_of}
 use Rattle.property_trie.specs.TrieSteps.{LeadsTo}
-use Rattle.property_trie.proofs.Walking.{Walked}
+use Rattle.property_trie.proofs.Walking.{IsOnWalk}
 use Rattle.property_trie.proofs.walk.search.Given as goal
 
 abbrev pub ghosts-find_node : goal.ghosts-find_node
@@ -12,14 +12,9 @@ ghosts-end_at_node g a = record { name = g.Q.Sought.name; rest = []; link = 0; i
 
 abbrev pub invariant-parts : goal.invariant-parts
 invariant-parts g l =
-    let R = g.R.TrieRule in
-    let v = l.initial.seat.me.0 in
     record {
-      table : l.seat.table_id ≡ l.initial.seat.table_id;
-      id : l.seat.id ≡ l.initial.seat.id;
-      rights : l.seat.me.1 ≡ l.initial.seat.me.1;
-      walked : Walked R.trie R.with_trie v l.seat.me.0;
-      leads : LeadsTo (R.trie l.seat.me.0) g.Q.Sought.name l.link (parts_of (drop l.from l.name));
+      walk : IsOnWalk g.R.TrieRule.trie g.R.TrieRule.with_trie l.initial.seat l.seat;
+      leads : LeadsTo (g.R.TrieRule.trie l.seat.me.0) g.Q.Sought.name l.link (parts_of (drop l.from l.name));
       inside : l.link < l.table.shared.table_id.words;
       within : l.from ≤ length l.name;
     }

@@ -1,20 +1,10 @@
-use Rattle.std.proofs.Common.{◌≡◌, ℕ, ◌+◌, sym, subst, arith}
-use Rattle.atomic_table.specs.Table.{Allows}
-use Rattle.serial_value.specs.Cell.{sets_of, updating}
+use Rattle.std.proofs.Common.{arith}
 use Rattle.serial_value.proofs.steps.value_word.Goals as goal
 
 pub store-requires : goal.store-requires
-store-requires g c =
-    let m = c.args.seat.now.me in
-    let key = c.args.table.now.shared.key in
-    let slots = c.args.table.now.shared.table_id.slots in
-    let id = c.args.seat.now.id in
-    let update = c.requires.update in (
-      c.requires.table,
-      omega arith,
-      subst (λ (z : ℕ × ℕ × ℕ). let done = z.1 in Allows (g.R.TableRule.holds key) slots id m (z.0 + 1 + c.args.k) (λ _. z.2)
-          (λ _ after. after ≡ (g.R.CellRule.with_cell m.0 (updating (sets_of (g.R.CellRule.cell m.0)) g.Q.Asked.name g.Q.Asked.value g.Q.Asked.place done), m.1)))
-          (λ i. (sym c.requires.place.1 i, sym update.2 i, sym c.requires.word i))
-          (g.met.R.CellRule.value_word key slots id m g.Q.Asked.name g.Q.Asked.value g.Q.Asked.place c.args.k
-          c.requires.writer.0 c.requires.writer.1 update.0 update.1),
-    )
+store-requires g c = (
+  c.requires.cell.0,
+  omega arith,
+  rw (c.requires.cell.2, c.requires.update.2, c.requires.word) (g.met.R.CellRule.value_word _ _ _ _ _ _ _ _
+      c.requires.writer.0 c.requires.writer.1 c.requires.update.0 c.requires.update.1),
+)

@@ -8,6 +8,8 @@ use Rattle.init_machine.specs.declared.report.Entry.{Entry}
 use Rattle.property_service.proofs.Closing.{holds_at, never}
 use Rattle.property_service.proofs.Judging.{answer_found, answer_judged, has_answer, not_short, not_spent}
 use Rattle.property_service.specs.Service.{Agrees, ServiceView, next_entry, refusal_now, set_by}
+use Rattle.property_service.proofs.service.Service.set.Given as given
+use Rattle.property_service.proofs.service.Service.set.Goals.{After-history}
 use Rattle.property_service.proofs.service.Service.set.Goals as goal
 
 -- Behind an input that was taken stands its entry, and the history is legal.
@@ -27,15 +29,21 @@ is_taken {T} {E} old new i j history r x ok added opening ready is same agrees =
       legal = subst (λ (y : Opening × List Entry). Legal y.0 y.1) (λ k. (opened k, sym same k)) whole.legal;
     }
 
+taken_now : (g : given.Over) (c : After-history g) → Taken c.args.self.now (set_by c.args.reader.view.who c.args.name.now c.args.value.now) c.history.result.now
+taken_now g c =
+    let name = c.args.name.now in
+    let value = c.args.value.now in
+    is_taken c.args.self.now c.take-reader.new.self (set_by c.args.reader.view.who name value) c.in-Ok.input c.history.result.now c.take-reader.result.1 _ c.in-Ok-taken.is
+    c.take-reader.ensures.history c.take-reader.ensures.opening c.take-reader.ensures.ready (c.in-Ok.ensures ∙ ap (λ (n : ℕ). set_by n name value) c.who.ensures)
+    c.history.ensures.same c.history.ensures.agrees
+
 pub last_answer-requires : goal.last_answer-requires
 last_answer-requires g c =
     let old = c.args.self.now in
     let name = c.args.name.now in
     let value = c.args.value.now in
     let who = c.args.reader.view.who in
-    let input : c.in-Ok.input ≡ set_by who name value = c.in-Ok.ensures ∙ ap (λ (n : ℕ). set_by n name value) c.who.ensures in
-    let taken = is_taken old c.take-reader.new.self (set_by who name value) c.in-Ok.input c.history.result.now c.take-reader.result.1 _ c.in-Ok-taken.is
-    c.take-reader.ensures.history c.take-reader.ensures.opening c.take-reader.ensures.ready input c.history.ensures.same c.history.ensures.agrees in
+    let taken = taken_now g (goal.at.last_answer-requires g c).After-history in
     has_answer old who name value c.history.result.now taken.now taken.legal
 
 pub returns-in-Ok-last_answer-clause-answer : goal.returns-in-Ok-last_answer-clause-answer
@@ -44,9 +52,7 @@ returns-in-Ok-last_answer-clause-answer g c reached =
     let name = c.args.name.now in
     let value = c.args.value.now in
     let who = c.args.reader.view.who in
-    let input : c.in-Ok.input ≡ set_by who name value = c.in-Ok.ensures ∙ ap (λ (n : ℕ). set_by n name value) c.who.ensures in
-    let taken = is_taken old c.take-reader.new.self (set_by who name value) c.in-Ok.input c.history.result.now c.take-reader.result.1 _ c.in-Ok-taken.is
-    c.take-reader.ensures.history c.take-reader.ensures.opening c.take-reader.ensures.ready input c.history.ensures.same c.history.ensures.agrees in
+    let taken = taken_now g (goal.at.returns-in-Ok-last_answer-clause-answer g c).After-history in
     answer_found old who name value c.history.result.now taken.now c.in-Ok-last_answer.answer c.in-Ok-last_answer.ensures
 
 pub returns-in-Ok-last_answer-clause-judged : goal.returns-in-Ok-last_answer-clause-judged
@@ -55,9 +61,7 @@ returns-in-Ok-last_answer-clause-judged g c reached =
     let name = c.args.name.now in
     let value = c.args.value.now in
     let who = c.args.reader.view.who in
-    let input : c.in-Ok.input ≡ set_by who name value = c.in-Ok.ensures ∙ ap (λ (n : ℕ). set_by n name value) c.who.ensures in
-    let taken = is_taken old c.take-reader.new.self (set_by who name value) c.in-Ok.input c.history.result.now c.take-reader.result.1 _ c.in-Ok-taken.is
-    c.take-reader.ensures.history c.take-reader.ensures.opening c.take-reader.ensures.ready input c.history.ensures.same c.history.ensures.agrees in
+    let taken = taken_now g (goal.at.returns-in-Ok-last_answer-clause-judged g c).After-history in
     answer_judged old who name value c.history.result.now taken.now c.in-Ok-last_answer.answer c.in-Ok-last_answer.ensures taken.legal
     ∙ ap (λ (h : List Entry). answer_line (refusal_now old who name value) (is_control name) (length (sets_of h))) c.history.ensures.same
 
@@ -67,9 +71,7 @@ returns-in-Ok-last_answer-clause-spent g c =
     let name = c.args.name.now in
     let value = c.args.value.now in
     let who = c.args.reader.view.who in
-    let input : c.in-Ok.input ≡ set_by who name value = c.in-Ok.ensures ∙ ap (λ (n : ℕ). set_by n name value) c.who.ensures in
-    let taken = is_taken old c.take-reader.new.self (set_by who name value) c.in-Ok.input c.history.result.now c.take-reader.result.1 _ c.in-Ok-taken.is
-    c.take-reader.ensures.history c.take-reader.ensures.opening c.take-reader.ensures.ready input c.history.ensures.same c.history.ensures.agrees in (
+    let taken = taken_now g (goal.at.returns-in-Ok-last_answer-clause-spent g c).After-history in (
       λ is. never _ (not_spent old who name value c.history.result.now taken.now c.in-Ok-last_answer.answer c.in-Ok-last_answer.ensures is),
       λ is. never _ (sym c.if-self.false ∙ ap (λ (t : ServiceView). t.spent) c.self.view_is ∙ is),
     )
@@ -80,9 +82,7 @@ returns-in-Ok-last_answer-clause-unchanged g c is =
     let name = c.args.name.now in
     let value = c.args.value.now in
     let who = c.args.reader.view.who in
-    let input : c.in-Ok.input ≡ set_by who name value = c.in-Ok.ensures ∙ ap (λ (n : ℕ). set_by n name value) c.who.ensures in
-    let taken = is_taken old c.take-reader.new.self (set_by who name value) c.in-Ok.input c.history.result.now c.take-reader.result.1 _ c.in-Ok-taken.is
-    c.take-reader.ensures.history c.take-reader.ensures.opening c.take-reader.ensures.ready input c.history.ensures.same c.history.ensures.agrees in
+    let taken = taken_now g (goal.at.returns-in-Ok-last_answer-clause-unchanged g c).After-history in
     never _ (not_spent old who name value c.history.result.now taken.now c.in-Ok-last_answer.answer c.in-Ok-last_answer.ensures is)
 
 pub returns-in-Ok-last_answer-clause-no_memory : goal.returns-in-Ok-last_answer-clause-no_memory
@@ -91,7 +91,5 @@ returns-in-Ok-last_answer-clause-no_memory g c is =
     let name = c.args.name.now in
     let value = c.args.value.now in
     let who = c.args.reader.view.who in
-    let input : c.in-Ok.input ≡ set_by who name value = c.in-Ok.ensures ∙ ap (λ (n : ℕ). set_by n name value) c.who.ensures in
-    let taken = is_taken old c.take-reader.new.self (set_by who name value) c.in-Ok.input c.history.result.now c.take-reader.result.1 _ c.in-Ok-taken.is
-    c.take-reader.ensures.history c.take-reader.ensures.opening c.take-reader.ensures.ready input c.history.ensures.same c.history.ensures.agrees in
+    let taken = taken_now g (goal.at.returns-in-Ok-last_answer-clause-no_memory g c).After-history in
     never _ (not_short old who name value c.history.result.now taken.now c.in-Ok-last_answer.answer c.in-Ok-last_answer.ensures is)
