@@ -36,7 +36,8 @@ pub fn find<'a>(places: &'a PlacesByName, name: &[u8]) -> &'a [usize]
 
 /// Adds a place at the end of those under a name.
 pub fn add(alloc: Global, places: &mut PlacesByName, name: &[u8], at: usize) -> Result<(), NoMemory>
-    ensures { OnOk result ((other : Items ℕ) → places_of places.new other ≡ (if bytes_eq name.now other then places_of places.old name.now ++ at ∷ [] else places_of places.old other)) }
+    ensures { OnOk result ((other : Items ℕ) → places_of places.new other
+        ≡ (if bytes_eq name.now other then places_of places.old name.now ++ at ∷ [] else places_of places.old other)) }
 {
     let mut found = take(alloc, places, name);
     found.push(at)?;
@@ -47,7 +48,8 @@ pub fn add(alloc: Global, places: &mut PlacesByName, name: &[u8], at: usize) -> 
 /// Takes the places under a name away.
 fn take(alloc: Global, places: &mut PlacesByName, name: &[u8]) -> Vec<usize>
     ensures found { result.items ≡ places_of places.old name.now }
-    ensures others { (other : Items ℕ) → bytes_eq name.now other ≡ false → places_of places.new other ≡ places_of places.old other }
+    ensures others { (other : Items ℕ) → bytes_eq name.now other ≡ false
+        → places_of places.new other ≡ places_of places.old other }
 {
     match places.map.swap_remove(Spelled { bytes: name }) {
         Some(found) => found,

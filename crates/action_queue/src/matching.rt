@@ -2,7 +2,8 @@
 
 ghost use Rattle.std.specs.Prelude.{◌≡◌, IsTrue, true};
 ghost use Rattle.std.specs.List.{list_any, list_all};
-ghost use Rattle.init_machine.specs.Matches.{matches, has_event, has_no_event, holds_now as holds_now_lem, holds_at_change, holds_for, tests};
+ghost use Rattle.init_machine.specs.Matches.{matches, has_event, has_no_event, holds_at_change, holds_for, tests};
+ghost use Rattle.init_machine.specs.Matches as spec;
 ghost use Rattle.action_queue.specs.Queue.{value_in, has_legal_name};
 
 use init_base::{List, PropName, Text};
@@ -51,7 +52,7 @@ fn is_tested(pair: &Pair, props: &List<PropTest>) -> bool
 
 fn all_hold_now<S: PropStore>(store: &mut S, props: &List<PropTest>) -> bool
     requires { IsTrue (list_all has_legal_name props.now) }
-    ensures answer { result ≡ list_all (holds_now_lem (value_in (S.meaning store.old))) props.now }
+    ensures answer { result ≡ list_all (spec.holds_now (value_in (S.meaning store.old))) props.now }
     ensures same { S.meaning store.new ≡ S.meaning store.old }
     ensures told { S.told store.new ≡ S.told store.old }
     ensures spare { S.spare store.new ≡ S.spare store.old }
@@ -108,7 +109,7 @@ fn holds_for_value(pair: &Pair, test: &PropTest) -> bool
 #[tactic(auto, using(crate::proofs::Values::equals_empty))]
 fn holds_now<S: PropStore>(store: &mut S, test: &PropTest) -> bool
     requires { IsTrue (has_legal_name test.now) }
-    ensures answer { result ≡ holds_now_lem (value_in (S.meaning store.old)) test.now }
+    ensures answer { result ≡ spec.holds_now (value_in (S.meaning store.old)) test.now }
     ensures same { S.meaning store.new ≡ S.meaning store.old }
     ensures told { S.told store.new ≡ S.told store.old }
     ensures spare { S.spare store.new ≡ S.spare store.old }

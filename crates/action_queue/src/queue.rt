@@ -80,7 +80,8 @@ impl Queue {
         store: &mut S,
         outputs: &mut List<Output>,
     ) -> Result<Option<CommandRef>, NoMemory>
-        ensures next { IfOk result (λ place. MatchOption place ((taken_in (S.meaning store.old) self.old).running ≡ []) (IsNext self.old.actions (taken_in (S.meaning store.old) self.old).running)) }
+        ensures next { IfOk result (λ place. MatchOption place ((taken_in (S.meaning store.old) self.old).running ≡ [])
+            (IsNext self.old.actions (taken_in (S.meaning store.old) self.old).running)) }
         ensures queue { OnOk result (self.new ≡ queue_after self.old (taken_in (S.meaning store.old) self.old)) }
         ensures lines { OnOk result (outputs.new ≡ outputs.old ++ (taken_in (S.meaning store.old) self.old).lines) }
         ensures same { S.meaning store.new ≡ S.meaning store.old }

@@ -21,8 +21,10 @@ pub fn is_running(pending: &Pending) -> bool
 pub fn advance(triggers: &Triggers, pending: &mut Pending) -> Option<CommandRef>
     requires { IsKept triggers.now pending.old }
     ensures kept { IsKept triggers.now pending.new }
-    ensures next { MatchOption result (running_of triggers.now pending.old ≡ []) (IsNext triggers.now (running_of triggers.now pending.old)) }
-    ensures queue { shown triggers.now pending.new ≡ record (shown triggers.now pending.old) { running = without_first (running_of triggers.now pending.old) } }
+    ensures next { MatchOption result (running_of triggers.now pending.old ≡ [])
+        (IsNext triggers.now (running_of triggers.now pending.old)) }
+    ensures queue { shown triggers.now pending.new
+        ≡ record (shown triggers.now pending.old) { running = without_first (running_of triggers.now pending.old) } }
 {
     if !is_running(pending) {
         return None;
@@ -39,7 +41,8 @@ fn move_on(triggers: &Triggers, action: usize, pending: &mut Pending)
     requires room { pending.old.first + 1 < 2 ^ 64 }
     requires first { slice_get pending.old.begun pending.old.first ≡ Some action }
     ensures kept { IsKept triggers.now pending.new }
-    ensures queue { shown triggers.now pending.new ≡ record (shown triggers.now pending.old) { running = without_first (running_of triggers.now pending.old) } }
+    ensures queue { shown triggers.now pending.new
+        ≡ record (shown triggers.now pending.old) { running = without_first (running_of triggers.now pending.old) } }
 {
     let count = triggers.at(action).commands.len();
     if pending.command + 1 < count {

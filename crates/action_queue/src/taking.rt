@@ -65,7 +65,8 @@ fn begin<S: PropStore>(
 ) -> Result<(), NoMemory>
     requires { are_places triggers.now begun.old ≡ true }
     ensures places { are_places triggers.now begun.new ≡ true }
-    ensures begun { OnOk result (begun.new ≡ begun.old ++ places_from 0 (matches (value_in (S.meaning store.old)) event.now) triggers.now) }
+    ensures begun { OnOk result
+        (begun.new ≡ begun.old ++ places_from 0 (matches (value_in (S.meaning store.old)) event.now) triggers.now) }
     ensures same { S.meaning store.new ≡ S.meaning store.old }
     ensures told { S.told store.new ≡ S.told store.old }
     ensures spare { S.spare store.new ≡ S.spare store.old }
@@ -91,8 +92,10 @@ fn begin_event<S: PropStore>(
 ) -> Result<(), NoMemory>
     requires { IsKept triggers.now pending.old }
     ensures kept { IsKept triggers.now pending.new }
-    ensures queue { OnOk result (shown triggers.now pending.new ≡ with_taken (shown triggers.now pending.old) (one_begun (matches (value_in (S.meaning store.old))) triggers.now event pending.old.events)) }
-    ensures lines { OnOk result (outputs.new ≡ outputs.old ++ (one_begun (matches (value_in (S.meaning store.old))) triggers.now event pending.old.events).lines) }
+    ensures queue { OnOk result (shown triggers.now pending.new ≡ with_taken (shown triggers.now pending.old)
+        (one_begun (matches (value_in (S.meaning store.old))) triggers.now event pending.old.events)) }
+    ensures lines { OnOk result (outputs.new
+        ≡ outputs.old ++ (one_begun (matches (value_in (S.meaning store.old))) triggers.now event pending.old.events).lines) }
     ensures same { S.meaning store.new ≡ S.meaning store.old }
     ensures told { S.told store.new ≡ S.told store.old }
     ensures spare { S.spare store.new ≡ S.spare store.old }
@@ -120,8 +123,10 @@ fn take_event<S: PropStore>(
     requires idle { running_of triggers.now pending.old ≡ [] }
     requires lone { mark_count (event ∷ pending.old.events) ≤ 1 }
     ensures kept { IsKept triggers.now pending.new }
-    ensures queue { OnOk result (shown triggers.now pending.new ≡ with_taken (shown triggers.now pending.old) (one_taken (matches (value_in (S.meaning store.old))) triggers.now event pending.old.events)) }
-    ensures lines { OnOk result (outputs.new ≡ outputs.old ++ (one_taken (matches (value_in (S.meaning store.old))) triggers.now event pending.old.events).lines) }
+    ensures queue { OnOk result (shown triggers.now pending.new ≡ with_taken (shown triggers.now pending.old)
+        (one_taken (matches (value_in (S.meaning store.old))) triggers.now event pending.old.events)) }
+    ensures lines { OnOk result (outputs.new
+        ≡ outputs.old ++ (one_taken (matches (value_in (S.meaning store.old))) triggers.now event pending.old.events).lines) }
     ensures same { S.meaning store.new ≡ S.meaning store.old }
     ensures told { S.told store.new ≡ S.told store.old }
     ensures spare { S.spare store.new ≡ S.spare store.old }
@@ -146,7 +151,8 @@ pub fn take_events<S: PropStore>(
 ) -> Result<(), NoMemory>
     requires { IsKept triggers.now pending.old }
     ensures kept { IsKept triggers.now pending.new }
-    ensures queue { OnOk result (shown triggers.now pending.new ≡ with_taken (shown triggers.now pending.old) (taken_in (S.meaning store.old) (shown triggers.now pending.old))) }
+    ensures queue { OnOk result (shown triggers.now pending.new
+        ≡ with_taken (shown triggers.now pending.old) (taken_in (S.meaning store.old) (shown triggers.now pending.old))) }
     ensures lines { OnOk result (outputs.new ≡ outputs.old ++ (taken_in (S.meaning store.old) (shown triggers.now pending.old)).lines) }
     ensures same { S.meaning store.new ≡ S.meaning store.old }
     ensures told { S.told store.new ≡ S.told store.old }

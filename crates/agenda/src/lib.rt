@@ -70,7 +70,8 @@ fn due_first(
     moments: &BTreeSet<(u64, usize)>,
     now: u64,
 ) -> Result<Vec<usize>, NoMemory>
-    ensures numbers { IfOk result (λ numbers. numbers.items ≡ map (λ moment. moment.1) (take_while (λ moment. nat_le moment.0 now) moments.now.keys)) }
+    ensures numbers { IfOk result
+        (λ numbers. numbers.items ≡ map (λ moment. moment.1) (take_while (λ moment. nat_le moment.0 now) moments.now.keys)) }
     ensures ordered { IsStrictlySortedBy moment_cmp moments.now.keys }
 {
     let numbers = moments

@@ -5,7 +5,8 @@
 ghost use Rattle.std.specs.Prelude.{◌≡◌, ℕ, Bool, true, List as Items, IfOk, if◌then◌else◌};
 ghost use Rattle.std.specs.List.{after_first, list_any, position};
 ghost use Rattle.std.specs.Str.{bytes_eq};
-ghost use Rattle.init_machine.specs.Tasks.{first as first_lem, is_dashes, optional as optional_lem, run_once, second as second_lem};
+ghost use Rattle.init_machine.specs.Tasks.{is_dashes, run_once};
+ghost use Rattle.init_machine.specs.Tasks as spec;
 ghost use Rattle.init_machine.specs.declared.task.Task.{Task as TaskLem};
 ghost use Rattle.builtins.specs.Arguments.{exec_by, task_by};
 
@@ -16,7 +17,7 @@ const DASHES: &[u8] = b"--";
 
 /// The first argument.
 pub fn first(args: &[Text]) -> Result<Text, NoMemory>
-    ensures { IfOk result (λ text. text ≡ first_lem args.now) }
+    ensures { IfOk result (λ text. text ≡ spec.first args.now) }
 {
     match args {
         [] => Ok(Text::empty()),
@@ -26,7 +27,7 @@ pub fn first(args: &[Text]) -> Result<Text, NoMemory>
 
 /// The second argument.
 pub fn second(args: &[Text]) -> Result<Text, NoMemory>
-    ensures { IfOk result (λ text. text ≡ second_lem args.now) }
+    ensures { IfOk result (λ text. text ≡ spec.second args.now) }
 {
     match args {
         [] | [_] => Ok(Text::empty()),
@@ -38,7 +39,8 @@ pub fn second(args: &[Text]) -> Result<Text, NoMemory>
 /// another word.
 #[tactic(auto, using(crate::proofs::Options::two_arguments))]
 pub fn optional(option: &[u8], args: &[Text]) -> Result<Option<(bool, Text)>, NoMemory>
-    ensures { IfOk result (λ found. (asked : Bool → Items ℕ → TaskLem) → optional_lem option.now asked args.now ≡ task_by asked found) }
+    ensures { IfOk result (λ found. (asked : Bool → Items ℕ → TaskLem)
+        → spec.optional option.now asked args.now ≡ task_by asked found) }
 {
     match args {
         [] => Ok(Some((false, Text::empty()))),
@@ -49,7 +51,8 @@ pub fn optional(option: &[u8], args: &[Text]) -> Result<Option<(bool, Text)>, No
 
 /// The name behind the option, if it is the option.
 fn behind_option(option: &[u8], given: &Text, name: &Text) -> Result<Option<(bool, Text)>, NoMemory>
-    ensures { IfOk result (λ found. (asked : Bool → Items ℕ → TaskLem) → task_by asked found ≡ (if bytes_eq given.now option.now then asked true name.now else TaskLem.BadArgument 1)) }
+    ensures { IfOk result (λ found. (asked : Bool → Items ℕ → TaskLem)
+        → task_by asked found ≡ (if bytes_eq given.now option.now then asked true name.now else TaskLem.BadArgument 1)) }
 {
     if given.is(option) {
         Ok(Some((true, name.share()?)))

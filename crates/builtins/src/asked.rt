@@ -1,8 +1,8 @@
 //! Commands whose arguments are expanded.
 
 ghost use Rattle.std.specs.Prelude.{◌≡◌, IfOk, IsTrue};
-ghost use Rattle.init_machine.specs.Effect.{expand_all as expand_all_lem};
-ghost use Rattle.init_machine.specs.Expand.{expand as expand_lem};
+ghost use Rattle.init_machine.specs.Effect as effect_spec;
+ghost use Rattle.init_machine.specs.Expand as expand_spec;
 ghost use Rattle.init_machine.specs.Props.{value_in};
 ghost use Rattle.builtins.specs.Asked.{asked_by, is_brief_if_ok};
 
@@ -49,7 +49,7 @@ fn expand_one<S: PropStore>(
     store: &mut S,
     arg: &Text,
 ) -> Result<Result<Text, Cause>, NoMemory>
-    ensures expanded { IfOk result (λ expanded. expanded ≡ expand_lem (value_in (S.meaning store.old)) arg.now) }
+    ensures expanded { IfOk result (λ expanded. expanded ≡ expand_spec.expand (value_in (S.meaning store.old)) arg.now) }
     ensures same { S.meaning store.new ≡ S.meaning store.old }
     ensures told { S.told store.new ≡ S.told store.old }
     ensures spare { S.spare store.new ≡ S.spare store.old }
@@ -73,7 +73,7 @@ fn expand_all<S: PropStore>(
     store: &mut S,
     args: &List<Text>,
 ) -> Result<Result<List<Text>, Cause>, NoMemory>
-    ensures expanded { IfOk result (λ expanded. expanded ≡ expand_all_lem (value_in (S.meaning store.old)) args.now) }
+    ensures expanded { IfOk result (λ expanded. expanded ≡ effect_spec.expand_all (value_in (S.meaning store.old)) args.now) }
     ensures same { S.meaning store.new ≡ S.meaning store.old }
     ensures told { S.told store.new ≡ S.told store.old }
     ensures spare { S.spare store.new ≡ S.spare store.old }

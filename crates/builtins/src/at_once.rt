@@ -2,8 +2,9 @@
 
 ghost use Rattle.std.specs.Prelude.{◌≡◌, ◌++◌, ◌∷◌, [], IfOk, OnOk, None};
 ghost use Rattle.init_machine.specs.Changes.{change, nothing};
-ghost use Rattle.init_machine.specs.Effect.{by_answer, export as export_lem};
-ghost use Rattle.init_machine.specs.Services.{set_by as set_by_lem};
+ghost use Rattle.init_machine.specs.Effect.{by_answer};
+ghost use Rattle.init_machine.specs.Effect as effect_spec;
+ghost use Rattle.init_machine.specs.Services as services_spec;
 ghost use Rattle.machine_parts.specs.Parts.{Does, rules_of, state_of};
 
 use init_base::{NoMemory, Text};
@@ -18,8 +19,10 @@ pub fn set_property<S: PropStore>(
     name: &Text,
     value: &Text,
 ) -> Result<Done, NoMemory>
-    ensures ending { IfOk result (λ ending. ending ≡ (by_answer (set_by_lem (rules_of parts.old) None name.now value.now (state_of S.meaning parts.old))).ending) }
-    ensures did { OnOk result (Does S.meaning S.told parts.old parts.new (by_answer (set_by_lem (rules_of parts.old) None name.now value.now (state_of S.meaning parts.old))).did) }
+    ensures ending { IfOk result (λ ending. ending
+        ≡ (by_answer (services_spec.set_by (rules_of parts.old) None name.now value.now (state_of S.meaning parts.old))).ending) }
+    ensures did { OnOk result (Does S.meaning S.told parts.old parts.new
+        (by_answer (services_spec.set_by (rules_of parts.old) None name.now value.now (state_of S.meaning parts.old))).did) }
     ensures beside { S.Beside parts.old.store parts.new.store }
 {
     match set_by(alloc, parts, None, name, value)? {
@@ -31,7 +34,8 @@ pub fn set_property<S: PropStore>(
 /// Queues an event.
 pub fn trigger<S: PropStore>(parts: &mut Parts<S>, event: Text) -> Result<Done, NoMemory>
     ensures ending { IfOk result (λ ending. ending ≡ Done.Ok) }
-    ensures did { let s = state_of S.meaning parts.old in OnOk result (Does S.meaning S.told parts.old parts.new (nothing (record s { events = s.events ++ Event.Named event ∷ [] }))) }
+    ensures did { let s = state_of S.meaning parts.old in
+        OnOk result (Does S.meaning S.told parts.old parts.new (nothing (record s { events = s.events ++ Event.Named event ∷ [] }))) }
     ensures beside { S.Beside parts.old.store parts.new.store }
 {
     parts.queue.event(Event::Named(event))?;
@@ -41,7 +45,7 @@ pub fn trigger<S: PropStore>(parts: &mut Parts<S>, event: Text) -> Result<Done, 
 /// Gives a variable of the environment a value.
 pub fn export<S: PropStore>(parts: &mut Parts<S>, name: Text, value: Text) -> Result<Done, NoMemory>
     ensures ending { IfOk result (λ ending. ending ≡ Done.Ok) }
-    ensures did { OnOk result (Does S.meaning S.told parts.old parts.new (export_lem name value (state_of S.meaning parts.old))) }
+    ensures did { OnOk result (Does S.meaning S.told parts.old parts.new (effect_spec.export name value (state_of S.meaning parts.old))) }
     ensures beside { S.Beside parts.old.store parts.new.store }
 {
     parts.environment.set(&name, &value)?;

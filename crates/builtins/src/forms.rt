@@ -3,7 +3,8 @@
 ghost use Rattle.std.specs.Prelude.{◌≡◌, ◌≤◌, ◌<◌, ◌++◌, ◌==◌, ◌&&◌, ◌+◌, ◌-◌, ◌*◌, IsTrue, IfSome, Some, None, codes, length, nat_le, take, if◌then◌else◌};
 ghost use Rattle.std.specs.List.{list_all, position};
 ghost use Rattle.init_base.specs.declared.units.Millis.{Millis as MillisLem};
-ghost use Rattle.init_machine.specs.Tasks.{fraction as fraction_lem, is_mode, is_octal_digit as is_octal_digit_lem, is_seconds, millis_of, octal_of, whole_part};
+ghost use Rattle.init_machine.specs.Tasks.{is_mode, is_seconds, millis_of, octal_of, whole_part};
+ghost use Rattle.init_machine.specs.Tasks as spec;
 ghost use Rattle.init_machine.specs.Typed.{is_decimal, is_digit, number_of};
 
 use init_base::Millis;
@@ -21,20 +22,20 @@ const MOST_FRACTION_DIGITS: usize = 9;
 const LONGEST: u128 = 1_000_000_000;
 
 fn is_octal_digit(byte: u8) -> bool
-    ensures { result ≡ is_octal_digit_lem byte }
+    ensures { result ≡ spec.is_octal_digit byte }
 {
     matches!(byte, b'0'..=b'7')
 }
 
 fn has_only_octal_digits(text: &[u8]) -> bool
-    ensures { result ≡ list_all is_octal_digit_lem text.now }
+    ensures { result ≡ list_all spec.is_octal_digit text.now }
 {
     text.iter().all(|byte| is_octal_digit(*byte))
 }
 
 /// What these digits mean.
 fn octal(digits: &[u8]) -> u32
-    requires digits { IsTrue (list_all is_octal_digit_lem digits.now) }
+    requires digits { IsTrue (list_all spec.is_octal_digit digits.now) }
     requires few { length digits.now ≤ 6 }
     ensures { result ≡ octal_of digits.now }
 {
@@ -95,7 +96,8 @@ fn thousandths(fraction: &[u8]) -> Option<u128>
 /// longer than the longest wait.
 fn millis(whole: &[u8], thousandths: u128) -> Option<Millis>
     requires { thousandths < 1000 }
-    ensures { result ≡ (if is_decimal 7 whole.now && nat_le (number_of whole.now * 1000 + thousandths) 1000000000 then Some (record { 0 = number_of whole.now * 1000 + thousandths }) else None) }
+    ensures { result ≡ (if is_decimal 7 whole.now && nat_le (number_of whole.now * 1000 + thousandths) 1000000000 then Some
+        (record { 0 = number_of whole.now * 1000 + thousandths }) else None) }
 {
     let whole = decimal(MOST_WHOLE_DIGITS, whole)?;
     if whole > LONGEST / 1000 {
@@ -112,7 +114,8 @@ fn millis(whole: &[u8], thousandths: u128) -> Option<Millis>
 /// A time in seconds: one to seven decimal digits, and then nothing, or a point and one to nine digits. It means whole
 /// milliseconds, 1,000,000,000 at most. None exactly for another text.
 pub fn seconds(text: &[u8]) -> Option<Millis>
-    ensures { result ≡ (if is_seconds text.now then Some (record { 0 = millis_of (whole_part text.now) (fraction_lem text.now) }) else None) }
+    ensures { result ≡ (if is_seconds text.now then Some (record { 0 = millis_of (whole_part text.now) (spec.fraction text.now) })
+        else None) }
 {
     let Some(at) = point(text) else {
         return millis(text, 0);

@@ -1,8 +1,9 @@
 //! Commands on services (AOSP, init's README, "Services").
 
 ghost use Rattle.std.specs.Prelude.{◌≡◌, IfOk, OnOk};
-ghost use Rattle.init_machine.specs.Effect.{exec_start as exec_start_lem, on_service as on_service_lem};
-ghost use Rattle.init_machine.specs.Services.{is_of_class, operate_each as operate_each_lem, place_of, places_of};
+ghost use Rattle.init_machine.specs.Effect as effect_spec;
+ghost use Rattle.init_machine.specs.Services.{is_of_class, place_of, places_of};
+ghost use Rattle.init_machine.specs.Services as services_spec;
 ghost use Rattle.machine_parts.specs.Parts.{Does, rules_of, state_of};
 
 use init_base::{NoMemory, Text};
@@ -18,7 +19,8 @@ pub fn on_class<S: PropStore>(
     class: &Text,
 ) -> Result<Done, NoMemory>
     ensures ending { IfOk result (λ ending. ending ≡ Done.Ok) }
-    ensures did { OnOk result (Does S.meaning S.told parts.old parts.new (operate_each_lem (rules_of parts.old) op (places_of (rules_of parts.old) (is_of_class class.now)) (state_of S.meaning parts.old))) }
+    ensures did { OnOk result (Does S.meaning S.told parts.old parts.new (services_spec.operate_each (rules_of parts.old) op
+        (places_of (rules_of parts.old) (is_of_class class.now)) (state_of S.meaning parts.old))) }
     ensures beside { S.Beside parts.old.store parts.new.store }
 {
     let places = parts.services.of_class(alloc, class.bytes())?;
@@ -33,8 +35,10 @@ pub fn on_service<S: PropStore>(
     op: Op,
     name: Text,
 ) -> Result<Done, NoMemory>
-    ensures ending { IfOk result (λ ending. ending ≡ (on_service_lem (rules_of parts.old) op name (place_of (rules_of parts.old) name) (state_of S.meaning parts.old)).ending) }
-    ensures did { OnOk result (Does S.meaning S.told parts.old parts.new (on_service_lem (rules_of parts.old) op name (place_of (rules_of parts.old) name) (state_of S.meaning parts.old)).did) }
+    ensures ending { IfOk result (λ ending. ending ≡ (effect_spec.on_service (rules_of parts.old) op name
+        (place_of (rules_of parts.old) name) (state_of S.meaning parts.old)).ending) }
+    ensures did { OnOk result (Does S.meaning S.told parts.old parts.new
+        (effect_spec.on_service (rules_of parts.old) op name (place_of (rules_of parts.old) name) (state_of S.meaning parts.old)).did) }
     ensures beside { S.Beside parts.old.store parts.new.store }
 {
     let Some(at) = parts.services.find(name.bytes()) else {
@@ -53,8 +57,10 @@ pub fn exec_start<S: PropStore>(
     parts: &mut Parts<S>,
     name: Text,
 ) -> Result<Done, NoMemory>
-    ensures ending { IfOk result (λ ending. ending ≡ (exec_start_lem (rules_of parts.old) name (place_of (rules_of parts.old) name) (state_of S.meaning parts.old)).ending) }
-    ensures did { OnOk result (Does S.meaning S.told parts.old parts.new (exec_start_lem (rules_of parts.old) name (place_of (rules_of parts.old) name) (state_of S.meaning parts.old)).did) }
+    ensures ending { IfOk result (λ ending. ending ≡
+        (effect_spec.exec_start (rules_of parts.old) name (place_of (rules_of parts.old) name) (state_of S.meaning parts.old)).ending) }
+    ensures did { OnOk result (Does S.meaning S.told parts.old parts.new
+        (effect_spec.exec_start (rules_of parts.old) name (place_of (rules_of parts.old) name) (state_of S.meaning parts.old)).did) }
     ensures beside { S.Beside parts.old.store parts.new.store }
 {
     let Some(at) = parts.services.find(name.bytes()) else {

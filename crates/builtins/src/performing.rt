@@ -1,7 +1,7 @@
 //! What tasks do (AOSP, init's README, "Commands").
 
 ghost use Rattle.std.specs.Prelude.{◌≡◌, IfOk, IsTrue, OnOk};
-ghost use Rattle.init_machine.specs.Effect.{perform as perform_lem};
+ghost use Rattle.init_machine.specs.Effect as spec;
 ghost use Rattle.machine_parts.specs.Parts.{Does, rules_of, state_of};
 ghost use Rattle.builtins.specs.Asked.{is_brief};
 
@@ -23,8 +23,9 @@ pub fn perform<S: PropStore>(
     task: Task,
 ) -> Result<Done, NoMemory>
     requires { IsTrue (is_brief task) }
-    ensures ending { IfOk result (λ ending. ending ≡ (perform_lem (rules_of parts.old) task (state_of S.meaning parts.old)).ending) }
-    ensures did { OnOk result (Does S.meaning S.told parts.old parts.new (perform_lem (rules_of parts.old) task (state_of S.meaning parts.old)).did) }
+    ensures ending { IfOk result (λ ending. ending ≡ (spec.perform (rules_of parts.old) task (state_of S.meaning parts.old)).ending) }
+    ensures did { OnOk result
+        (Does S.meaning S.told parts.old parts.new (spec.perform (rules_of parts.old) task (state_of S.meaning parts.old)).did) }
     ensures beside { S.Beside parts.old.store parts.new.store }
 {
     match task {

@@ -1,7 +1,8 @@
 //! Running a command.
 
 ghost use Rattle.std.specs.Prelude.{◌≡◌, ◌++◌, ◌∷◌, [], IfOk, IsTrue, OnOk};
-ghost use Rattle.init_machine.specs.Effect.{effect, command_line, ending_line, wait_line as wait_line_lem, waiting_by};
+ghost use Rattle.init_machine.specs.Effect.{effect, command_line, ending_line, waiting_by};
+ghost use Rattle.init_machine.specs.Effect as spec;
 ghost use Rattle.init_machine.specs.declared.action.Command.{Command as CommandLem};
 ghost use Rattle.machine_parts.specs.Parts.{Does, rules_of, state_of};
 ghost use Rattle.builtins.specs.Asked.{asked_by, done_by, is_brief_if_ok, ran_by};
@@ -21,7 +22,8 @@ fn perform_asked<S: PropStore>(
 ) -> Result<Done, NoMemory>
     requires { IsTrue (is_brief_if_ok task) }
     ensures ending { IfOk result (λ ending. ending ≡ (ran_by (rules_of parts.old) task (state_of S.meaning parts.old)).ending) }
-    ensures did { OnOk result (Does S.meaning S.told parts.old parts.new (ran_by (rules_of parts.old) task (state_of S.meaning parts.old)).did) }
+    ensures did { OnOk result
+        (Does S.meaning S.told parts.old parts.new (ran_by (rules_of parts.old) task (state_of S.meaning parts.old)).did) }
     ensures beside { S.Beside parts.old.store parts.new.store }
 {
     match task {
@@ -44,7 +46,7 @@ fn line_of(command: Command) -> Output
 
 /// The line of a wait.
 fn wait_line(what: &Waiting) -> Result<Output, NoMemory>
-    ensures { IfOk result (λ line. line ≡ wait_line_lem what.now) }
+    ensures { IfOk result (λ line. line ≡ spec.wait_line what.now) }
 {
     match what {
         Waiting::Child(pid) => Ok(Output::WaitChild { pid: *pid }),
@@ -85,7 +87,8 @@ fn run_asked<S: PropStore>(
     parts: &mut Parts<S>,
     asked: Asked,
 ) -> Result<(), NoMemory>
-    ensures done { OnOk result (Does S.meaning S.told parts.old parts.new (done_by (rules_of parts.old) asked (state_of S.meaning parts.old))) }
+    ensures done { OnOk result
+        (Does S.meaning S.told parts.old parts.new (done_by (rules_of parts.old) asked (state_of S.meaning parts.old))) }
     ensures beside { S.Beside parts.old.store parts.new.store }
 {
     let (command, task) = asked.into_parts();
@@ -96,7 +99,8 @@ fn run_asked<S: PropStore>(
 
 /// Runs a command: its line, what it does, and how it ended.
 pub fn run<S: PropStore>(alloc: Global, parts: &mut Parts<S>, asked: Asked) -> Result<(), NoMemory>
-    ensures done { OnOk result (Does S.meaning S.told parts.old parts.new (done_by (rules_of parts.old) asked (state_of S.meaning parts.old))) }
+    ensures done { OnOk result
+        (Does S.meaning S.told parts.old parts.new (done_by (rules_of parts.old) asked (state_of S.meaning parts.old))) }
     ensures effect { (c : CommandLem) → asked ≡ asked_by c (S.meaning parts.old.store)
         → OnOk result (Does S.meaning S.told parts.old parts.new (effect (rules_of parts.old) c (state_of S.meaning parts.old))) }
     ensures beside { S.Beside parts.old.store parts.new.store }

@@ -3,7 +3,7 @@
 ghost use Rattle.std.specs.Prelude.{◌≡◌, IfOk, IsTrue, OnOk};
 ghost use Rattle.std.specs.List.{list_all};
 ghost use Rattle.init_machine.specs.Changes.{each};
-ghost use Rattle.init_machine.specs.Effect.{load_saved as load_saved_lem, set_saved as set_saved_lem};
+ghost use Rattle.init_machine.specs.Effect as spec;
 ghost use Rattle.init_machine.specs.Setting.{is_persistent};
 ghost use Rattle.machine_parts.specs.Parts.{Does, rules_of, state_of};
 
@@ -15,7 +15,8 @@ use std::alloc::Global;
 /// Sets a saved property. Where that is refused it leaves the saved pairs, and the refusal has a line.
 fn set_saved<S: PropStore>(alloc: Global, parts: &mut Parts<S>, pair: &Pair) -> Result<(), NoMemory>
     requires { IsTrue (is_persistent pair.now.name) }
-    ensures done { OnOk result (Does S.meaning S.told parts.old parts.new (set_saved_lem (rules_of parts.old) pair.now (state_of S.meaning parts.old))) }
+    ensures done { OnOk result
+        (Does S.meaning S.told parts.old parts.new (spec.set_saved (rules_of parts.old) pair.now (state_of S.meaning parts.old))) }
     ensures beside { S.Beside parts.old.store parts.new.store }
 {
     let refused = set_property(alloc, parts, None, &pair.name, &pair.value)?;
@@ -32,7 +33,8 @@ fn set_each<S: PropStore>(
     pairs: &[Pair],
 ) -> Result<(), NoMemory>
     requires { IsTrue (list_all (λ p. is_persistent p.name) pairs.now) }
-    ensures done { OnOk result (Does S.meaning S.told parts.old parts.new (each (set_saved_lem (rules_of parts.old)) pairs.now (state_of S.meaning parts.old))) }
+    ensures done { OnOk result (Does S.meaning S.told parts.old parts.new
+        (each (spec.set_saved (rules_of parts.old)) pairs.now (state_of S.meaning parts.old))) }
     ensures beside { S.Beside parts.old.store parts.new.store }
 {
     for pair in pairs {
@@ -61,7 +63,8 @@ fn copy_of(alloc: Global, pairs: &List<Pair>) -> Result<List<Pair>, NoMemory>
 /// Sets the saved properties, and from then on sets of persistent properties are saved. Once they are, it does nothing.
 pub fn load_saved<S: PropStore>(alloc: Global, parts: &mut Parts<S>) -> Result<Done, NoMemory>
     ensures ending { IfOk result (λ ending. ending ≡ Done.Ok) }
-    ensures did { OnOk result (Does S.meaning S.told parts.old parts.new (load_saved_lem (rules_of parts.old) (state_of S.meaning parts.old))) }
+    ensures did { OnOk result
+        (Does S.meaning S.told parts.old parts.new (spec.load_saved (rules_of parts.old) (state_of S.meaning parts.old))) }
     ensures beside { S.Beside parts.old.store parts.new.store }
 {
     if parts.saving {

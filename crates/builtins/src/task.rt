@@ -1,7 +1,8 @@
 //! Tasks: what words ask for with their arguments (AOSP, init's README, "Commands").
 
 ghost use Rattle.std.specs.Prelude.{◌≡◌, IfOk, codes};
-ghost use Rattle.init_machine.specs.Tasks.{by_mode, first as first_lem, make_directory as make_directory_lem, optional as optional_lem, run_once, second as second_lem, task_of as task_of_lem, trigger as trigger_lem, wait_for as wait_for_lem};
+ghost use Rattle.init_machine.specs.Tasks.{by_mode, run_once};
+ghost use Rattle.init_machine.specs.Tasks as spec;
 
 use crate::arguments::{first, optional, program, second};
 use crate::forms::{mode, seconds};
@@ -21,7 +22,7 @@ const ONLY_IF_RUNNING: &[u8] = b"--only-if-running";
 /// What a command asks for.
 #[tactic(auto, unfolding(init_machine::specs::Tasks::task_of))]
 pub fn task_of(word: Word, args: &[Text]) -> Result<Task, NoMemory>
-    ensures { IfOk result (λ task. task ≡ task_of_lem word args.now) }
+    ensures { IfOk result (λ task. task ≡ spec.task_of word args.now) }
 {
     match word {
         Word::ClassStart => on_class(Op::ClassStart, args),
@@ -52,21 +53,22 @@ pub fn task_of(word: Word, args: &[Text]) -> Result<Task, NoMemory>
 }
 
 fn on_class(op: Op, args: &[Text]) -> Result<Task, NoMemory>
-    ensures { IfOk result (λ task. task ≡ Task.OnClass op (first_lem args.now)) }
+    ensures { IfOk result (λ task. task ≡ Task.OnClass op (spec.first args.now)) }
 {
     let class = first(args)?;
     Ok(Task::OnClass { op, class })
 }
 
 fn on_service(op: Op, args: &[Text]) -> Result<Task, NoMemory>
-    ensures { IfOk result (λ task. task ≡ Task.OnService op (first_lem args.now)) }
+    ensures { IfOk result (λ task. task ≡ Task.OnService op (spec.first args.now)) }
 {
     let name = first(args)?;
     Ok(Task::OnService { op, name })
 }
 
 fn restart_class(args: &[Text]) -> Result<Task, NoMemory>
-    ensures { IfOk result (λ task. task ≡ optional_lem (codes "--only-enabled") (λ only class. Task.OnClass (Op.ClassRestart only) class) args.now) }
+    ensures { IfOk result (λ task. task
+        ≡ spec.optional (codes "--only-enabled") (λ only class. Task.OnClass (Op.ClassRestart only) class) args.now) }
 {
     match optional(ONLY_ENABLED, args)? {
         None => Ok(Task::BadArgument { number: 1 }),
@@ -78,7 +80,8 @@ fn restart_class(args: &[Text]) -> Result<Task, NoMemory>
 }
 
 fn restart_service(args: &[Text]) -> Result<Task, NoMemory>
-    ensures { IfOk result (λ task. task ≡ optional_lem (codes "--only-if-running") (λ only name. Task.OnService (Op.Restart only) name) args.now) }
+    ensures { IfOk result (λ task. task
+        ≡ spec.optional (codes "--only-if-running") (λ only name. Task.OnService (Op.Restart only) name) args.now) }
 {
     match optional(ONLY_IF_RUNNING, args)? {
         None => Ok(Task::BadArgument { number: 1 }),
@@ -90,7 +93,7 @@ fn restart_service(args: &[Text]) -> Result<Task, NoMemory>
 }
 
 fn exec_start(args: &[Text]) -> Result<Task, NoMemory>
-    ensures { IfOk result (λ task. task ≡ Task.ExecStart (first_lem args.now)) }
+    ensures { IfOk result (λ task. task ≡ Task.ExecStart (spec.first args.now)) }
 {
     let name = first(args)?;
     Ok(Task::ExecStart { name })
@@ -106,7 +109,7 @@ fn exec(args: &[Text]) -> Result<Task, NoMemory>
 }
 
 fn set_property(args: &[Text]) -> Result<Task, NoMemory>
-    ensures { IfOk result (λ task. task ≡ Task.SetProperty (first_lem args.now) (second_lem args.now)) }
+    ensures { IfOk result (λ task. task ≡ Task.SetProperty (spec.first args.now) (spec.second args.now)) }
 {
     let name = first(args)?;
     let value = second(args)?;
@@ -114,7 +117,7 @@ fn set_property(args: &[Text]) -> Result<Task, NoMemory>
 }
 
 fn trigger(args: &[Text]) -> Result<Task, NoMemory>
-    ensures { IfOk result (λ task. task ≡ trigger_lem (first_lem args.now)) }
+    ensures { IfOk result (λ task. task ≡ spec.trigger (spec.first args.now)) }
 {
     let event = first(args)?;
     if event.is_empty() {
@@ -125,7 +128,7 @@ fn trigger(args: &[Text]) -> Result<Task, NoMemory>
 }
 
 fn wait_for_property(args: &[Text]) -> Result<Task, NoMemory>
-    ensures { IfOk result (λ task. task ≡ Task.WaitForProperty (first_lem args.now) (second_lem args.now)) }
+    ensures { IfOk result (λ task. task ≡ Task.WaitForProperty (spec.first args.now) (spec.second args.now)) }
 {
     let name = first(args)?;
     let value = second(args)?;
@@ -133,7 +136,7 @@ fn wait_for_property(args: &[Text]) -> Result<Task, NoMemory>
 }
 
 fn wait_for(args: &[Text]) -> Result<Task, NoMemory>
-    ensures { IfOk result (λ task. task ≡ wait_for_lem args.now) }
+    ensures { IfOk result (λ task. task ≡ spec.wait_for args.now) }
 {
     let path = first(args)?;
     let [_, within, ..] = args else {
@@ -146,7 +149,7 @@ fn wait_for(args: &[Text]) -> Result<Task, NoMemory>
 }
 
 fn export(args: &[Text]) -> Result<Task, NoMemory>
-    ensures { IfOk result (λ task. task ≡ Task.Export (first_lem args.now) (second_lem args.now)) }
+    ensures { IfOk result (λ task. task ≡ Task.Export (spec.first args.now) (spec.second args.now)) }
 {
     let name = first(args)?;
     let value = second(args)?;
@@ -154,7 +157,7 @@ fn export(args: &[Text]) -> Result<Task, NoMemory>
 }
 
 fn write(args: &[Text]) -> Result<Task, NoMemory>
-    ensures { IfOk result (λ task. task ≡ Task.Tree (TreeCall.Write (first_lem args.now) (second_lem args.now))) }
+    ensures { IfOk result (λ task. task ≡ Task.Tree (TreeCall.Write (spec.first args.now) (spec.second args.now))) }
 {
     let path = first(args)?;
     let content = second(args)?;
@@ -162,7 +165,7 @@ fn write(args: &[Text]) -> Result<Task, NoMemory>
 }
 
 fn copy(args: &[Text]) -> Result<Task, NoMemory>
-    ensures { IfOk result (λ task. task ≡ Task.Tree (TreeCall.Copy (first_lem args.now) (second_lem args.now))) }
+    ensures { IfOk result (λ task. task ≡ Task.Tree (TreeCall.Copy (spec.first args.now) (spec.second args.now))) }
 {
     let from = first(args)?;
     let to = second(args)?;
@@ -170,21 +173,21 @@ fn copy(args: &[Text]) -> Result<Task, NoMemory>
 }
 
 fn remove(args: &[Text]) -> Result<Task, NoMemory>
-    ensures { IfOk result (λ task. task ≡ Task.Tree (TreeCall.Remove (first_lem args.now))) }
+    ensures { IfOk result (λ task. task ≡ Task.Tree (TreeCall.Remove (spec.first args.now))) }
 {
     let path = first(args)?;
     Ok(Task::Tree(TreeCall::Remove { path }))
 }
 
 fn remove_directory(args: &[Text]) -> Result<Task, NoMemory>
-    ensures { IfOk result (λ task. task ≡ Task.Tree (TreeCall.RemoveDirectory (first_lem args.now))) }
+    ensures { IfOk result (λ task. task ≡ Task.Tree (TreeCall.RemoveDirectory (spec.first args.now))) }
 {
     let path = first(args)?;
     Ok(Task::Tree(TreeCall::RemoveDirectory { path }))
 }
 
 fn link(args: &[Text]) -> Result<Task, NoMemory>
-    ensures { IfOk result (λ task. task ≡ Task.Tree (TreeCall.Link (first_lem args.now) (second_lem args.now))) }
+    ensures { IfOk result (λ task. task ≡ Task.Tree (TreeCall.Link (spec.first args.now) (spec.second args.now))) }
 {
     let target = first(args)?;
     let path = second(args)?;
@@ -192,7 +195,7 @@ fn link(args: &[Text]) -> Result<Task, NoMemory>
 }
 
 fn change_mode(args: &[Text]) -> Result<Task, NoMemory>
-    ensures { IfOk result (λ task. task ≡ by_mode 1 (first_lem args.now) (λ m. TreeCall.ChangeMode m (second_lem args.now))) }
+    ensures { IfOk result (λ task. task ≡ by_mode 1 (spec.first args.now) (λ m. TreeCall.ChangeMode m (spec.second args.now))) }
 {
     let text = first(args)?;
     let path = second(args)?;
@@ -203,7 +206,7 @@ fn change_mode(args: &[Text]) -> Result<Task, NoMemory>
 }
 
 fn make_directory(args: &[Text]) -> Result<Task, NoMemory>
-    ensures { IfOk result (λ task. task ≡ make_directory_lem args.now) }
+    ensures { IfOk result (λ task. task ≡ spec.make_directory args.now) }
 {
     let path = first(args)?;
     let [_, text, ..] = args else {

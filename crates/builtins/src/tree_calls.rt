@@ -1,8 +1,9 @@
 //! Commands that change the file tree.
 
 ghost use Rattle.std.specs.Prelude.{◌≡◌, IfErr, IfOk, OnOk};
-ghost use Rattle.init_machine.specs.Effect.{change_tree as change_tree_lem};
-ghost use Rattle.init_machine.specs.FileTree.{changed_path as changed_path_lem, tree_refusal};
+ghost use Rattle.init_machine.specs.Effect as effect_spec;
+ghost use Rattle.init_machine.specs.FileTree.{tree_refusal};
+ghost use Rattle.init_machine.specs.FileTree as file_tree_spec;
 ghost use Rattle.machine_parts.specs.Parts.{Does, rules_of, state_of};
 ghost use Rattle.model_fs.specs.Calls.{IsDone, IsRefused};
 
@@ -50,7 +51,7 @@ fn link(alloc: Global, tree: &mut Tree, target: &Text, path: &Text) -> Result<()
 
 /// The path that a call changes.
 fn changed_path(call: TreeCall) -> Text
-    ensures { result ≡ changed_path_lem call }
+    ensures { result ≡ file_tree_spec.changed_path call }
 {
     match call {
         TreeCall::Write { path, .. } => path,
@@ -69,8 +70,10 @@ pub fn change_tree<S: PropStore>(
     parts: &mut Parts<S>,
     call: TreeCall,
 ) -> Result<Done, NoMemory>
-    ensures ending { IfOk result (λ ending. ending ≡ (change_tree_lem call (tree_refusal parts.old.tree call) (state_of S.meaning parts.old)).ending) }
-    ensures did { OnOk result (Does S.meaning S.told parts.old parts.new (change_tree_lem call (tree_refusal parts.old.tree call) (state_of S.meaning parts.old)).did) }
+    ensures ending { IfOk result (λ ending. ending
+        ≡ (effect_spec.change_tree call (tree_refusal parts.old.tree call) (state_of S.meaning parts.old)).ending) }
+    ensures did { OnOk result (Does S.meaning S.told parts.old parts.new
+        (effect_spec.change_tree call (tree_refusal parts.old.tree call) (state_of S.meaning parts.old)).did) }
     ensures beside { S.Beside parts.old.store parts.new.store }
 {
     match make_call(alloc, &mut parts.tree, &call) {

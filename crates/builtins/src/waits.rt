@@ -1,7 +1,7 @@
 //! Commands that wait: for a program, for a value of a property, and for a file.
 
 ghost use Rattle.std.specs.Prelude.{◌≡◌, ◌≤◌, IfOk, OnOk};
-ghost use Rattle.init_machine.specs.Effect.{exec as exec_lem, wait_for_file as wait_for_file_lem, wait_for_property as wait_for_property_lem};
+ghost use Rattle.init_machine.specs.Effect as spec;
 ghost use Rattle.machine_parts.specs.Parts.{Does, rules_of, state_of};
 
 use init_base::{Millis, NoMemory, PropName, Text};
@@ -15,8 +15,9 @@ const EXEC: &[u8] = b"*exec";
 
 /// Runs a program once, and waits for it.
 pub fn exec<S: PropStore>(alloc: Global, parts: &mut Parts<S>, path: Text) -> Result<Done, NoMemory>
-    ensures ending { IfOk result (λ ending. ending ≡ (exec_lem (rules_of parts.old) path (state_of S.meaning parts.old)).ending) }
-    ensures did { OnOk result (Does S.meaning S.told parts.old parts.new (exec_lem (rules_of parts.old) path (state_of S.meaning parts.old)).did) }
+    ensures ending { IfOk result (λ ending. ending ≡ (spec.exec (rules_of parts.old) path (state_of S.meaning parts.old)).ending) }
+    ensures did { OnOk result
+        (Does S.meaning S.told parts.old parts.new (spec.exec (rules_of parts.old) path (state_of S.meaning parts.old)).did) }
     ensures beside { S.Beside parts.old.store parts.new.store }
 {
     let name = Text::of(alloc, EXEC)?;
@@ -39,8 +40,9 @@ pub fn wait_for_property<S: PropStore>(
     name: Text,
     value: Text,
 ) -> Result<Done, NoMemory>
-    ensures ending { IfOk result (λ ending. ending ≡ (wait_for_property_lem name value (state_of S.meaning parts.old)).ending) }
-    ensures did { OnOk result (Does S.meaning S.told parts.old parts.new (wait_for_property_lem name value (state_of S.meaning parts.old)).did) }
+    ensures ending { IfOk result (λ ending. ending ≡ (spec.wait_for_property name value (state_of S.meaning parts.old)).ending) }
+    ensures did { OnOk result
+        (Does S.meaning S.told parts.old parts.new (spec.wait_for_property name value (state_of S.meaning parts.old)).did) }
     ensures beside { S.Beside parts.old.store parts.new.store }
 {
     let Some(legal) = PropName::of(name.bytes()) else {
@@ -60,8 +62,9 @@ pub fn wait_for_file<S: PropStore>(
     within: Millis,
 ) -> Result<Done, NoMemory>
     requires { within.0 ≤ 1000000000 }
-    ensures ending { IfOk result (λ ending. ending ≡ (wait_for_file_lem path within (state_of S.meaning parts.old)).ending) }
-    ensures did { OnOk result (Does S.meaning S.told parts.old parts.new (wait_for_file_lem path within (state_of S.meaning parts.old)).did) }
+    ensures ending { IfOk result (λ ending. ending ≡ (spec.wait_for_file path within (state_of S.meaning parts.old)).ending) }
+    ensures did { OnOk result
+        (Does S.meaning S.told parts.old parts.new (spec.wait_for_file path within (state_of S.meaning parts.old)).did) }
     ensures beside { S.Beside parts.old.store parts.new.store }
 {
     if parts.tree.has(path.bytes()) {

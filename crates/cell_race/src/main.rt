@@ -139,7 +139,8 @@ fn all_beside<R: Threads + Sync>(
     requires two { two.old.table_id ≡ table.now.shared.table_id }
     requires three { three.old.table_id ≡ table.now.shared.table_id }
     requires name { name.bytes.now ≡ 97 ∷ [] }
-    requires idle { (making_of one.old.me.0.cell ≡ None) × (making_of two.old.me.0.cell ≡ None) × (making_of three.old.me.0.cell ≡ None) }
+    requires idle { (making_of one.old.me.0.cell ≡ None) × (making_of two.old.me.0.cell ≡ None)
+        × (making_of three.old.me.0.cell ≡ None) }
     requires rest { HasMade writer.old.me.0.cell 1 }
     requires count { count < 2 ^ 41 }
 {

@@ -3,7 +3,8 @@
 ghost use Rattle.std.specs.Prelude.{◌≡◌, ◌≢◌, ◌^◌, ◌<◌, ◌/◌, ◌%◌, ◌++◌, ℕ, true, false, IsTrue, IfOk, MatchOption, Some, List as Items};
 ghost use Rattle.std.specs.Fmt.{digit_glyph};
 ghost use Rattle.std.specs.List.{flat_map, list_all};
-ghost use Rattle.init_base.specs.Quoted.{is_byte, is_plain as is_plain_lem, quoted, quoted_byte, unquoted as unquoted_lem};
+ghost use Rattle.init_base.specs.Quoted.{is_byte, quoted, quoted_byte};
+ghost use Rattle.init_base.specs.Quoted as spec;
 
 use crate::memory::NoMemory;
 use crate::text::Text;
@@ -12,7 +13,7 @@ use std::alloc::Global;
 /// The text whose q form a word is. None exactly where the word is no q form.
 #[tactic(auto, using(crate::proofs::QForms::empty_word, crate::proofs::QForms::lone_sign, crate::proofs::QForms::read_plain))]
 pub fn unquoted(alloc: Global, word: &[u8]) -> Result<Option<Text>, NoMemory>
-    ensures { IfOk result (λ text. text ≡ unquoted_lem word.now) }
+    ensures { IfOk result (λ text. text ≡ spec.unquoted word.now) }
 {
     if word.is_empty() {
         return Ok(None);
@@ -28,20 +29,20 @@ pub fn unquoted(alloc: Global, word: &[u8]) -> Result<Option<Text>, NoMemory>
 
 /// A text has one q form, and a word is the q form of at most one text.
 pub fn one_q_form()
-    ensures read { (text : Items ℕ) → IsTrue (list_all is_byte text) → unquoted_lem (quoted text) ≡ Some text }
-    ensures written { (word text : Items ℕ) → unquoted_lem word ≡ Some text → word ≡ quoted text }
-    ensures text { (word text : Items ℕ) → unquoted_lem word ≡ Some text → IsTrue (list_all is_byte text) }
+    ensures read { (text : Items ℕ) → IsTrue (list_all is_byte text) → spec.unquoted (quoted text) ≡ Some text }
+    ensures written { (word text : Items ℕ) → spec.unquoted word ≡ Some text → word ≡ quoted text }
+    ensures text { (word text : Items ℕ) → spec.unquoted word ≡ Some text → IsTrue (list_all is_byte text) }
 {}
 
 /// Whether no byte of a word must be spelled.
 fn stands_for_itself(word: &[u8]) -> bool
-    ensures { result ≡ list_all is_plain_lem word.now }
+    ensures { result ≡ list_all spec.is_plain word.now }
 {
     word.iter().all(|byte| is_plain(*byte))
 }
 
 fn is_plain(byte: u8) -> bool
-    ensures { result ≡ is_plain_lem byte }
+    ensures { result ≡ spec.is_plain byte }
 {
     byte >= 0x21 && byte <= 0x7e && byte != b'%'
 }
@@ -85,8 +86,10 @@ fn first_byte(word: &[u8]) -> Option<(u8, &[u8])>
 /// The byte with these two digits, if it must be spelled.
 fn spelled_byte(high: u8, low: u8) -> Option<u8>
     ensures { MatchOption result
-        ((byte : ℕ) → byte < 256 → is_plain_lem byte ≡ false → digit_glyph true (byte / 16) ≡ high → digit_glyph true (byte % 16) ≢ low)
-        (λ byte. (byte < 256) × (is_plain_lem byte ≡ false) × (digit_glyph true (byte / 16) ≡ high) × (digit_glyph true (byte % 16) ≡ low)) }
+        ((byte : ℕ) → byte < 256 → spec.is_plain byte ≡ false → digit_glyph true (byte / 16) ≡ high
+        → digit_glyph true (byte % 16) ≢ low)
+        (λ byte. (byte < 256) × (spec.is_plain byte ≡ false) × (digit_glyph true (byte / 16) ≡ high)
+        × (digit_glyph true (byte % 16) ≡ low)) }
 {
     let byte = 16 * digit_value(high)? + digit_value(low)?;
     if is_plain(byte) { None } else { Some(byte) }

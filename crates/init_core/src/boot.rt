@@ -2,7 +2,7 @@
 
 ghost use Rattle.std.specs.Prelude.{◌≡◌, IfOk, OnOk, false};
 ghost use Rattle.init_machine.specs.Changes.{nothing};
-ghost use Rattle.init_machine.specs.Step.{boot as boot_lem, first_boot as first_boot_lem, queue_boot as queue_boot_lem, set_pair as set_pair_lem, set_pairs as set_pairs_lem};
+ghost use Rattle.init_machine.specs.Step as spec;
 ghost use Rattle.machine_parts.specs.Parts.{Does, rules_of, state_of};
 ghost use Rattle.init_core.specs.Stage.{stage_in};
 
@@ -15,7 +15,8 @@ use std::alloc::Global;
 
 /// A pair of the build files is set by init.
 fn set_pair<S: PropStore>(alloc: Global, parts: &mut Parts<S>, pair: &Pair) -> Result<(), NoMemory>
-    ensures done { OnOk result (Does S.meaning S.told parts.old parts.new (set_pair_lem (rules_of parts.old) pair.now (state_of S.meaning parts.old))) }
+    ensures done { OnOk result
+        (Does S.meaning S.told parts.old parts.new (spec.set_pair (rules_of parts.old) pair.now (state_of S.meaning parts.old))) }
     ensures beside { S.Beside parts.old.store parts.new.store }
 {
     let refused = set_by(alloc, parts, None, &pair.name, &pair.value)?;
@@ -28,7 +29,8 @@ fn set_pairs<S: PropStore>(
     parts: &mut Parts<S>,
     pairs: &List<Pair>,
 ) -> Result<(), NoMemory>
-    ensures done { OnOk result (Does S.meaning S.told parts.old parts.new (set_pairs_lem (rules_of parts.old) pairs.now (state_of S.meaning parts.old))) }
+    ensures done { OnOk result
+        (Does S.meaning S.told parts.old parts.new (spec.set_pairs (rules_of parts.old) pairs.now (state_of S.meaning parts.old))) }
     ensures beside { S.Beside parts.old.store parts.new.store }
 {
     for pair in pairs.items() {
@@ -53,7 +55,7 @@ fn last_stage<S: PropStore>(alloc: Global, store: &mut S) -> Result<Text, NoMemo
 /// Queues the events of a boot, and behind them the mark.
 fn queue_boot<S: PropStore>(alloc: Global, parts: &mut Parts<S>) -> Result<(), NoMemory>
     requires { parts.old.queue.had_boot ≡ false }
-    ensures done { OnOk result (Does S.meaning S.told parts.old parts.new (nothing (queue_boot_lem (state_of S.meaning parts.old)))) }
+    ensures done { OnOk result (Does S.meaning S.told parts.old parts.new (nothing (spec.queue_boot (state_of S.meaning parts.old)))) }
     ensures beside { S.Beside parts.old.store parts.new.store }
 {
     let last = last_stage(alloc, &mut parts.store)?;
@@ -67,7 +69,8 @@ fn first_boot<S: PropStore>(
     pairs: &List<Pair>,
 ) -> Result<(), NoMemory>
     requires { parts.old.queue.had_boot ≡ false }
-    ensures done { OnOk result (Does S.meaning S.told parts.old parts.new (first_boot_lem pairs.now (rules_of parts.old) (state_of S.meaning parts.old))) }
+    ensures done { OnOk result
+        (Does S.meaning S.told parts.old parts.new (spec.first_boot pairs.now (rules_of parts.old) (state_of S.meaning parts.old))) }
     ensures beside { S.Beside parts.old.store parts.new.store }
 {
     let last = last_pairs(alloc, pairs)?;
@@ -81,7 +84,8 @@ pub fn boot<S: PropStore>(
     parts: &mut Parts<S>,
     pairs: &List<Pair>,
 ) -> Result<(), NoMemory>
-    ensures done { OnOk result (Does S.meaning S.told parts.old parts.new (boot_lem pairs.now (rules_of parts.old) (state_of S.meaning parts.old))) }
+    ensures done { OnOk result
+        (Does S.meaning S.told parts.old parts.new (spec.boot pairs.now (rules_of parts.old) (state_of S.meaning parts.old))) }
     ensures beside { S.Beside parts.old.store parts.new.store }
 {
     if parts.queue.had_boot() {

@@ -1,8 +1,8 @@
 //! Sets by clients, each judged by the domain of its client.
 
 ghost use Rattle.std.specs.Prelude.{◌≡◌, ◌≤◌, IfOk, OnOk, length};
-ghost use Rattle.init_machine.specs.Setting.{is_control as is_control_lem};
-ghost use Rattle.init_machine.specs.Step.{answer_line as answer_line_lem, ask as ask_lem, domain_of as domain_of_lem};
+ghost use Rattle.init_machine.specs.Setting as setting_spec;
+ghost use Rattle.init_machine.specs.Step as step_spec;
 ghost use Rattle.machine_parts.specs.Parts.{Does, rules_of, state_of};
 
 use init_base::{ClientId, List, NoMemory, Text};
@@ -11,7 +11,7 @@ use machine_parts::{Parts, set_by};
 use std::alloc::Global;
 
 fn is_control(name: &[u8]) -> bool
-    ensures { result ≡ is_control_lem name.now }
+    ensures { result ≡ setting_spec.is_control name.now }
 {
     name.starts_with(b"ctl.")
 }
@@ -20,14 +20,14 @@ fn is_control(name: &[u8]) -> bool
 fn domain_of(domains: &List<Text>, who: ClientId) -> Result<Text, NoMemory>
     requires from { 1 ≤ who.0 }
     requires to { who.0 ≤ length domains.now }
-    ensures { IfOk result (λ domain. domain ≡ domain_of_lem domains.now who) }
+    ensures { IfOk result (λ domain. domain ≡ step_spec.domain_of domains.now who) }
 {
     let place = who.0 as usize - 1;
     domains.items()[place].share()
 }
 
 fn answer_line(refused: Option<SetRefusal>, is_control: bool, count: u64) -> Output
-    ensures { result ≡ answer_line_lem refused is_control count }
+    ensures { result ≡ step_spec.answer_line refused is_control count }
 {
     match refused {
         Some(refusal) => Output::Refused { refusal },
@@ -44,7 +44,8 @@ fn ask<S: PropStore>(
     name: &Text,
     value: &Text,
 ) -> Result<(), NoMemory>
-    ensures done { OnOk result (Does S.meaning S.told parts.old parts.new (ask_lem (rules_of parts.old) domain.now name.now value.now (state_of S.meaning parts.old))) }
+    ensures done { OnOk result (Does S.meaning S.told parts.old parts.new
+        (step_spec.ask (rules_of parts.old) domain.now name.now value.now (state_of S.meaning parts.old))) }
     ensures beside { S.Beside parts.old.store parts.new.store }
 {
     let refused = set_by(alloc, parts, Some(domain), name, value)?;
@@ -65,7 +66,8 @@ pub fn set_of_client<S: PropStore>(
 ) -> Result<(), NoMemory>
     requires from { 1 ≤ who.0 }
     requires to { who.0 ≤ length domains.now }
-    ensures done { OnOk result (Does S.meaning S.told parts.old parts.new (ask_lem (rules_of parts.old) (domain_of_lem domains.now who) name.now value.now (state_of S.meaning parts.old))) }
+    ensures done { OnOk result (Does S.meaning S.told parts.old parts.new
+        (step_spec.ask (rules_of parts.old) (step_spec.domain_of domains.now who) name.now value.now (state_of S.meaning parts.old))) }
     ensures beside { S.Beside parts.old.store parts.new.store }
 {
     let domain = domain_of(domains, who)?;

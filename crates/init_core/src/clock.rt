@@ -2,7 +2,7 @@
 
 ghost use Rattle.std.specs.Prelude.{◌≡◌, ◌≢◌, ◌++◌, ◌∷◌, [], OnOk};
 ghost use Rattle.init_machine.specs.Changes.{and_then, each};
-ghost use Rattle.init_machine.specs.Step.{exit as exit_lem, file as file_lem, restart_due as restart_due_lem, tick as tick_lem, time_out as time_out_lem};
+ghost use Rattle.init_machine.specs.Step as spec;
 ghost use Rattle.init_machine.specs.declared.output.Cause.TheVariants as cause;
 ghost use Rattle.init_machine.specs.declared.output.Output.TheVariants as output;
 ghost use Rattle.machine_parts.specs.Parts.{Does, rules_of, state_of};
@@ -17,7 +17,8 @@ use std::alloc::Global;
 
 /// The services whose processes have run for as long as their timeouts allow are timed out.
 fn time_out<S: PropStore>(alloc: Global, parts: &mut Parts<S>) -> Result<(), NoMemory>
-    ensures done { OnOk result (Does S.meaning S.told parts.old parts.new (time_out_lem (rules_of parts.old) (state_of S.meaning parts.old))) }
+    ensures done { OnOk result
+        (Does S.meaning S.told parts.old parts.new (spec.time_out (rules_of parts.old) (state_of S.meaning parts.old))) }
     ensures beside { S.Beside parts.old.store parts.new.store }
 {
     let places = parts.services.timed_out(alloc, parts.kernel.now())?;
@@ -26,7 +27,8 @@ fn time_out<S: PropStore>(alloc: Global, parts: &mut Parts<S>) -> Result<(), NoM
 
 /// The restarting services that are due are started.
 fn restart_due<S: PropStore>(alloc: Global, parts: &mut Parts<S>) -> Result<(), NoMemory>
-    ensures done { OnOk result (Does S.meaning S.told parts.old parts.new (restart_due_lem (rules_of parts.old) (state_of S.meaning parts.old))) }
+    ensures done { OnOk result
+        (Does S.meaning S.told parts.old parts.new (spec.restart_due (rules_of parts.old) (state_of S.meaning parts.old))) }
     ensures beside { S.Beside parts.old.store parts.new.store }
 {
     let places = parts.services.due(alloc, parts.kernel.now())?;
@@ -39,7 +41,8 @@ fn reap_and_time_out<S: PropStore>(
     parts: &mut Parts<S>,
     ended: &List<Reaped>,
 ) -> Result<(), NoMemory>
-    ensures done { OnOk result (Does S.meaning S.told parts.old parts.new (and_then (each (reap_one (rules_of parts.old)) ended.now (state_of S.meaning parts.old)) (time_out_lem (rules_of parts.old)))) }
+    ensures done { OnOk result (Does S.meaning S.told parts.old parts.new (and_then
+        (each (reap_one (rules_of parts.old)) ended.now (state_of S.meaning parts.old)) (spec.time_out (rules_of parts.old)))) }
     ensures beside { S.Beside parts.old.store parts.new.store }
 {
     reap_each(alloc, parts, ended)?;
@@ -55,7 +58,10 @@ fn move_clock<S: PropStore>(
     parts: &mut Parts<S>,
     ended: &List<Reaped>,
 ) -> Result<(), NoMemory>
-    ensures done { OnOk result (Does S.meaning S.told parts.old parts.new (and_then (and_then (each (reap_one (rules_of parts.old)) ended.now (state_of S.meaning parts.old)) (time_out_lem (rules_of parts.old))) (restart_due_lem (rules_of parts.old)))) }
+    ensures done { OnOk result
+        (Does S.meaning S.told parts.old parts.new
+        (and_then (and_then (each (reap_one (rules_of parts.old)) ended.now (state_of S.meaning parts.old))
+        (spec.time_out (rules_of parts.old))) (spec.restart_due (rules_of parts.old)))) }
     ensures beside { S.Beside parts.old.store parts.new.store }
 {
     reap_and_time_out(alloc, parts, ended)?;
@@ -67,7 +73,8 @@ fn move_clock<S: PropStore>(
 
 /// The clock moves, unless it would pass its last time.
 pub fn tick<S: PropStore>(alloc: Global, parts: &mut Parts<S>, ms: u64) -> Result<(), NoMemory>
-    ensures done { OnOk result (Does S.meaning S.told parts.old parts.new (tick_lem (rules_of parts.old) ms (state_of S.meaning parts.old))) }
+    ensures done { OnOk result
+        (Does S.meaning S.told parts.old parts.new (spec.tick (rules_of parts.old) ms (state_of S.meaning parts.old))) }
     ensures beside { S.Beside parts.old.store parts.new.store }
 {
     match parts.kernel.tick(alloc, ms) {
@@ -84,7 +91,8 @@ pub fn exit<S: PropStore>(
     name: &Text,
     status: u8,
 ) -> Result<(), NoMemory>
-    ensures done { OnOk result (Does S.meaning S.told parts.old parts.new (exit_lem (rules_of parts.old) name.now status (state_of S.meaning parts.old))) }
+    ensures done { OnOk result
+        (Does S.meaning S.told parts.old parts.new (spec.exit (rules_of parts.old) name.now status (state_of S.meaning parts.old))) }
     ensures beside { S.Beside parts.old.store parts.new.store }
 {
     match parts.kernel.exit(name.bytes()) {
@@ -113,7 +121,7 @@ pub fn file<S: PropStore>(
     path: &Text,
     content: &Text,
 ) -> Result<(), NoMemory>
-    ensures done { OnOk result (Does S.meaning S.told parts.old parts.new (file_lem path.now content.now (state_of S.meaning parts.old))) }
+    ensures done { OnOk result (Does S.meaning S.told parts.old parts.new (spec.file path.now content.now (state_of S.meaning parts.old))) }
     ensures beside { S.Beside parts.old.store parts.new.store }
 {
     match parts.tree.write(alloc, path.bytes(), content.share()?) {

@@ -1,7 +1,7 @@
 //! The last pair of each name.
 
 ghost use Rattle.std.specs.Prelude.{◌≡◌, IfOk};
-ghost use Rattle.init_machine.specs.Pairs.{last_pairs as last_pairs_lem};
+ghost use Rattle.init_machine.specs.Pairs as spec;
 ghost use Rattle.init_core.specs.ByName.{pairs_in};
 
 use init_base::{List, NoMemory, Text};
@@ -11,7 +11,7 @@ use std::collections::BTreeMap;
 
 /// The last value of each name.
 fn values_by_name(alloc: Global, pairs: &List<Pair>) -> Result<BTreeMap<Vec<u8>, Text>, NoMemory>
-    ensures { IfOk result (λ values. pairs_in values.entries ≡ last_pairs_lem pairs.now) }
+    ensures { IfOk result (λ values. pairs_in values.entries ≡ spec.last_pairs pairs.now) }
 {
     let mut values = BTreeMap::new(alloc);
     for pair in pairs.items() {
@@ -23,7 +23,7 @@ fn values_by_name(alloc: Global, pairs: &List<Pair>) -> Result<BTreeMap<Vec<u8>,
 
 /// The last pair of each name, in ascending order of names.
 pub fn last_pairs(alloc: Global, pairs: &List<Pair>) -> Result<List<Pair>, NoMemory>
-    ensures { IfOk result (λ last. last ≡ last_pairs_lem pairs.now) }
+    ensures { IfOk result (λ last. last ≡ spec.last_pairs pairs.now) }
 {
     let mut last = List::new(alloc);
     for (name, value) in values_by_name(alloc, pairs)? {

@@ -108,7 +108,8 @@ impl<S: PropStore> Core<S> {
         ensures policy { OnOk result (self.new.policy ≡ self.old.policy) }
         ensures state { OnOk result (self.new.state ≡ (step_of self.old input.now).state) }
         ensures outputs { OnOk result (self.new.outputs ≡ (step_of self.old input.now).lines) }
-        ensures told { OnOk result (S.told self.new.store ≡ more_sets (S.told self.old.store) (sets_in (step_of self.old input.now).lines)) }
+        ensures told { OnOk result
+            (S.told self.new.store ≡ more_sets (S.told self.old.store) (sets_in (step_of self.old input.now).lines)) }
         ensures ready { OnOk result (self.new.spent ≡ false) }
 
         ensures spent { (result ≡ Err CoreStop.Spent) ↔ (self.old.spent ≡ true) }

@@ -1,7 +1,7 @@
 //! The next command (AOSP, init's README, "Actions" and "Triggers").
 
 ghost use Rattle.std.specs.Prelude.{◌≡◌, OnOk};
-ghost use Rattle.init_machine.specs.Step.{next as next_lem, take_and_run as take_and_run_lem};
+ghost use Rattle.init_machine.specs.Step as spec;
 ghost use Rattle.machine_parts.specs.Parts.{Does, actions_of, rules_of, state_of};
 
 use builtins::{ask, run};
@@ -12,7 +12,8 @@ use std::alloc::Global;
 
 /// Events are taken, and one command runs. Where none runs, the machine is idle.
 fn take_and_run<S: PropStore>(alloc: Global, parts: &mut Parts<S>) -> Result<(), NoMemory>
-    ensures done { OnOk result (Does S.meaning S.told parts.old parts.new (take_and_run_lem (actions_of parts.old) (rules_of parts.old) (state_of S.meaning parts.old))) }
+    ensures done { OnOk result (Does S.meaning S.told parts.old parts.new
+        (spec.take_and_run (actions_of parts.old) (rules_of parts.old) (state_of S.meaning parts.old))) }
     ensures beside { S.Beside parts.old.store parts.new.store }
 {
     let next = parts
@@ -28,7 +29,8 @@ fn take_and_run<S: PropStore>(alloc: Global, parts: &mut Parts<S>) -> Result<(),
 /// One command runs, unless the machine waits.
 #[tactic(auto, unfolding(init_machine::specs::Step::next))]
 pub fn next<S: PropStore>(alloc: Global, parts: &mut Parts<S>) -> Result<(), NoMemory>
-    ensures done { OnOk result (Does S.meaning S.told parts.old parts.new (next_lem (actions_of parts.old) (rules_of parts.old) (state_of S.meaning parts.old))) }
+    ensures done { OnOk result (Does S.meaning S.told parts.old parts.new
+        (spec.next (actions_of parts.old) (rules_of parts.old) (state_of S.meaning parts.old))) }
     ensures beside { S.Beside parts.old.store parts.new.store }
 {
     if parts.waits.is_some() {

@@ -3,7 +3,8 @@
 
 ghost use Rattle.std.specs.Prelude.{◌≡◌, ◌<◌, Some, OnOk, IfOk, length, slice_get};
 ghost use Rattle.init_machine.specs.Changes.{each};
-ghost use Rattle.init_machine.specs.Reaping.{end_named as end_named_lem, end_service as end_service_lem, exited as exited_lem, reap as reap_lem, reboot as reboot_lem, release_child as release_child_lem, awaits_child};
+ghost use Rattle.init_machine.specs.Reaping.{awaits_child};
+ghost use Rattle.init_machine.specs.Reaping as spec;
 ghost use Rattle.init_machine.specs.Services.{place_of, service_at};
 ghost use Rattle.init_machine.specs.declared.service.ServiceDef.{ServiceDef as ServiceLem};
 ghost use Rattle.machine_parts.specs.Parts.{Does, rules_of, state_of};
@@ -20,7 +21,7 @@ use std::alloc::Global;
 
 /// The machine is over, by a reboot.
 fn reboot<S: PropStore>(parts: &mut Parts<S>, target: Text) -> Result<(), NoMemory>
-    ensures done { OnOk result (Does S.meaning S.told parts.old parts.new (reboot_lem target (state_of S.meaning parts.old))) }
+    ensures done { OnOk result (Does S.meaning S.told parts.old parts.new (spec.reboot target (state_of S.meaning parts.old))) }
     ensures beside { S.Beside parts.old.store parts.new.store }
 {
     parts.over = Some(target.share()?);
@@ -45,7 +46,8 @@ fn target(services: &Services, at: usize) -> Result<Option<Text>, NoMemory>
 fn exited<S: PropStore>(alloc: Global, parts: &mut Parts<S>, at: usize) -> Result<(), NoMemory>
     requires { at < length parts.old.services.defs }
     ensures done { (service : ServiceLem) → slice_get parts.old.services.defs at ≡ Some service
-        → OnOk result (Does S.meaning S.told parts.old parts.new (exited_lem (rules_of parts.old) service at (state_of S.meaning parts.old))) }
+        → OnOk result (Does S.meaning S.told parts.old parts.new
+        (spec.exited (rules_of parts.old) service at (state_of S.meaning parts.old))) }
     ensures beside { S.Beside parts.old.store parts.new.store }
 {
     let Some(target) = target(&parts.services, at)? else {
@@ -62,7 +64,8 @@ fn exited<S: PropStore>(alloc: Global, parts: &mut Parts<S>, at: usize) -> Resul
 
 /// The process of the service at a place has ended.
 fn end_service<S: PropStore>(alloc: Global, parts: &mut Parts<S>, at: usize) -> Result<(), NoMemory>
-    ensures done { OnOk result (Does S.meaning S.told parts.old parts.new (end_service_lem (rules_of parts.old) at (service_at (rules_of parts.old) at) (state_of S.meaning parts.old))) }
+    ensures done { OnOk result (Does S.meaning S.told parts.old parts.new
+        (spec.end_service (rules_of parts.old) at (service_at (rules_of parts.old) at) (state_of S.meaning parts.old))) }
     ensures beside { S.Beside parts.old.store parts.new.store }
 {
     let Some(service) = parts.services.get(at) else {
@@ -78,7 +81,8 @@ fn end_service<S: PropStore>(alloc: Global, parts: &mut Parts<S>, at: usize) -> 
 
 /// The process of the service of a name has ended. The child of `exec` belongs to no service.
 fn end_named<S: PropStore>(alloc: Global, parts: &mut Parts<S>, name: &Text) -> Result<(), NoMemory>
-    ensures done { OnOk result (Does S.meaning S.told parts.old parts.new (end_named_lem (rules_of parts.old) (place_of (rules_of parts.old) name.now) (state_of S.meaning parts.old))) }
+    ensures done { OnOk result (Does S.meaning S.told parts.old parts.new
+        (spec.end_named (rules_of parts.old) (place_of (rules_of parts.old) name.now) (state_of S.meaning parts.old))) }
     ensures beside { S.Beside parts.old.store parts.new.store }
 {
     match parts.services.find(name.bytes()) {
@@ -99,7 +103,7 @@ fn is_awaited(waits: &Option<Waiting>, pid: Pid) -> bool
 
 /// A wait for the child ends.
 fn release_child<S: PropStore>(parts: &mut Parts<S>, pid: Pid) -> Result<(), NoMemory>
-    ensures done { OnOk result (Does S.meaning S.told parts.old parts.new (release_child_lem pid.0 (state_of S.meaning parts.old))) }
+    ensures done { OnOk result (Does S.meaning S.told parts.old parts.new (spec.release_child pid.0 (state_of S.meaning parts.old))) }
     ensures beside { S.Beside parts.old.store parts.new.store }
 {
     let ends = is_awaited(&parts.waits, pid);
@@ -114,7 +118,8 @@ pub fn reap<S: PropStore>(
     name: &Text,
     how: How,
 ) -> Result<(), NoMemory>
-    ensures done { OnOk result (Does S.meaning S.told parts.old parts.new (reap_lem (rules_of parts.old) pid.0 name.now how (state_of S.meaning parts.old))) }
+    ensures done { OnOk result
+        (Does S.meaning S.told parts.old parts.new (spec.reap (rules_of parts.old) pid.0 name.now how (state_of S.meaning parts.old))) }
     ensures beside { S.Beside parts.old.store parts.new.store }
 {
     parts.outputs.push(Output::Reap {
@@ -135,7 +140,8 @@ pub fn reap_each<S: PropStore>(
     parts: &mut Parts<S>,
     ended: &List<Reaped>,
 ) -> Result<(), NoMemory>
-    ensures done { OnOk result (Does S.meaning S.told parts.old parts.new (each (reap_one (rules_of parts.old)) ended.now (state_of S.meaning parts.old))) }
+    ensures done { OnOk result
+        (Does S.meaning S.told parts.old parts.new (each (reap_one (rules_of parts.old)) ended.now (state_of S.meaning parts.old))) }
     ensures beside { S.Beside parts.old.store parts.new.store }
 {
     for process in ended.items() {

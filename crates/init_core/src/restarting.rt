@@ -4,7 +4,7 @@ ghost use Rattle.std.specs.Prelude.{◌≡◌, Some, OnOk, length, slice_get};
 ghost use Rattle.std.specs.Option.{option_copied};
 ghost use Rattle.init_machine.specs.Changes.{each};
 ghost use Rattle.init_machine.specs.Effect.{effect};
-ghost use Rattle.init_machine.specs.Reaping.{restarting as restarting_lem};
+ghost use Rattle.init_machine.specs.Reaping as spec;
 ghost use Rattle.init_machine.specs.declared.action.Command.{Command as CommandLem};
 ghost use Rattle.init_machine.specs.declared.service.ServiceDef.{ServiceDef as ServiceLem};
 ghost use Rattle.machine_parts.specs.Parts.{Does, rules_of, state_of};
@@ -61,7 +61,8 @@ fn run_onrestart<S: PropStore>(
     parts: &mut Parts<S>,
     at: usize,
 ) -> Result<(), NoMemory>
-    ensures done { OnOk result (Does S.meaning S.told parts.old parts.new (each (effect (rules_of parts.old)) (onrestart_of (slice_get parts.old.services.defs at)) (state_of S.meaning parts.old))) }
+    ensures done { OnOk result (Does S.meaning S.told parts.old parts.new
+        (each (effect (rules_of parts.old)) (onrestart_of (slice_get parts.old.services.defs at)) (state_of S.meaning parts.old))) }
     ensures beside { S.Beside parts.old.store parts.new.store }
 {
     for place in 0..onrestart_count(&parts.services, at) {
@@ -80,7 +81,8 @@ pub fn restarting<S: PropStore>(
     at: usize,
 ) -> Result<(), NoMemory>
     ensures done { (service : ServiceLem) → slice_get parts.old.services.defs at ≡ Some service
-        → OnOk result (Does S.meaning S.told parts.old parts.new (restarting_lem (rules_of parts.old) service (state_of S.meaning parts.old))) }
+        → OnOk result (Does S.meaning S.told parts.old parts.new
+        (spec.restarting (rules_of parts.old) service (state_of S.meaning parts.old))) }
     ensures beside { S.Beside parts.old.store parts.new.store }
 {
     let Some(service) = parts.services.get(at) else {

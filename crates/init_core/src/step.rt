@@ -1,10 +1,10 @@
 //! The step: what one input does to the parts.
 
 ghost use Rattle.std.specs.Prelude.{◌≡◌, OnOk};
-ghost use Rattle.init_machine.specs.Step.{respond as respond_lem, step as step_lem};
+ghost use Rattle.init_machine.specs.Step as step_spec;
 ghost use Rattle.machine_parts.specs.Parts.{Does, rules_of, state_of};
 ghost use Rattle.init_core.specs.Core.{config_of, IsDeclared};
-ghost use Rattle.init_core.specs.Down.{is_down as is_down_lem};
+ghost use Rattle.init_core.specs.Down as down_spec;
 
 use crate::boot::boot;
 use crate::client::set_of_client;
@@ -18,7 +18,7 @@ use std::alloc::Global;
 
 /// Whether the machine is over, and the input asks for that. A boot and a set don't.
 fn is_down(over: &Option<Text>, input: &Input) -> bool
-    ensures { result ≡ is_down_lem over.now input.now }
+    ensures { result ≡ down_spec.is_down over.now input.now }
 {
     over.is_some() && !matches!(input, Input::Boot | Input::Set { .. })
 }
@@ -32,7 +32,8 @@ fn respond<S: PropStore>(
     input: &Input,
 ) -> Result<(), NoMemory>
     requires { IsDeclared (config_of pairs.now domains.now parts.old) input.now }
-    ensures done { OnOk result (Does S.meaning S.told parts.old parts.new (respond_lem (config_of pairs.now domains.now parts.old) (rules_of parts.old) input.now (state_of S.meaning parts.old))) }
+    ensures done { OnOk result (Does S.meaning S.told parts.old parts.new
+        (step_spec.respond (config_of pairs.now domains.now parts.old) (rules_of parts.old) input.now (state_of S.meaning parts.old))) }
     ensures beside { S.Beside parts.old.store parts.new.store }
 {
     if is_down(&parts.over, input) {
@@ -59,7 +60,8 @@ pub fn step<S: PropStore>(
     input: &Input,
 ) -> Result<(), NoMemory>
     requires { IsDeclared (config_of pairs.now domains.now parts.old) input.now }
-    ensures done { OnOk result (Does S.meaning S.told parts.old parts.new (step_lem (config_of pairs.now domains.now parts.old) parts.old.policy (state_of S.meaning parts.old) input.now)) }
+    ensures done { OnOk result (Does S.meaning S.told parts.old parts.new
+        (step_spec.step (config_of pairs.now domains.now parts.old) parts.old.policy (state_of S.meaning parts.old) input.now)) }
     ensures beside { S.Beside parts.old.store parts.new.store }
 {
     respond(alloc, pairs, domains, parts, input)?;

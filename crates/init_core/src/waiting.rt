@@ -1,7 +1,7 @@
 //! The end of a wait for a file.
 
 ghost use Rattle.std.specs.Prelude.{◌≡◌, OnOk};
-ghost use Rattle.init_machine.specs.Step.{settle as settle_lem, settle_by as settle_by_lem};
+ghost use Rattle.init_machine.specs.Step as spec;
 ghost use Rattle.machine_parts.specs.Parts.{Does, state_of};
 
 use init_base::NoMemory;
@@ -14,7 +14,8 @@ fn settle_by<S: PropStore>(
     is_there: bool,
     is_late: bool,
 ) -> Result<(), NoMemory>
-    ensures done { OnOk result (Does S.meaning S.told parts.old parts.new (settle_by_lem is_there is_late (state_of S.meaning parts.old))) }
+    ensures done { OnOk result
+        (Does S.meaning S.told parts.old parts.new (spec.settle_by is_there is_late (state_of S.meaning parts.old))) }
     ensures beside { S.Beside parts.old.store parts.new.store }
 {
     if is_there {
@@ -31,7 +32,7 @@ fn settle_by<S: PropStore>(
 /// The end of an input that didn't end the machine.
 #[tactic(auto, unfolding(init_machine::specs::Step::settle))]
 pub fn settle<S: PropStore>(parts: &mut Parts<S>) -> Result<(), NoMemory>
-    ensures done { OnOk result (Does S.meaning S.told parts.old parts.new (settle_lem (state_of S.meaning parts.old))) }
+    ensures done { OnOk result (Does S.meaning S.told parts.old parts.new (spec.settle (state_of S.meaning parts.old))) }
     ensures beside { S.Beside parts.old.store parts.new.store }
 {
     let Some(Waiting::File { path, until }) = &parts.waits else {

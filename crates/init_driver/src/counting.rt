@@ -89,7 +89,8 @@ fn count_whole<N: AreaName>(
     ensures tally { IfOk result (λ made. (found : Items Diagnostic) →
         made.0 ≡ tally_of (report_from core.entry.config core.entry.policy core.entry.state found script.now)) }
     ensures seat { IfOk result (λ made. (found : Items Diagnostic) →
-        HasRecorded core.entry.desk.opening (report_from core.entry.config core.entry.policy core.entry.state found script.now) made.1.view) }
+        HasRecorded core.entry.desk.opening
+        (report_from core.entry.config core.entry.policy core.entry.state found script.now) made.1.view) }
 {
     match count_script(alloc, &mut core, script) {
         Ok(tally) => Ok((tally, core.finish(alloc)?)),

@@ -5,7 +5,8 @@ ghost use Rattle.init_base.specs.Faults.{Counted};
 ghost use Rattle.init_driver.specs.Course.{Holds, Saves, place_of, view_of};
 ghost use Rattle.init_driver.specs.Keeper.{seen_by};
 ghost use Rattle.init_driver.specs.Run.{keeper_failed, sink_failed};
-ghost use Rattle.init_driver.specs.Stored.{has_stored, is_stored as is_stored_lem};
+ghost use Rattle.init_driver.specs.Stored.{has_stored};
+ghost use Rattle.init_driver.specs.Stored as spec;
 ghost use Rattle.persist_file.specs.Store.{are_saved, are_typed, store_text};
 
 use crate::machine::Machine;
@@ -49,7 +50,7 @@ fn stores(outputs: &[Output]) -> bool
 }
 
 fn is_stored(output: &Output) -> bool
-    ensures { result ≡ is_stored_lem output.now }
+    ensures { result ≡ spec.is_stored output.now }
 {
     matches!(output, Output::Stored { .. })
 }

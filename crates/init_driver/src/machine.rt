@@ -87,7 +87,8 @@ impl<'a, N: AreaName> Machine<'a, N> {
         requires known { clients ≡ length desk.opening.config.domains }
         requires ready { desk.spent ≡ false }
         ensures desk { IfOk result (λ machine. HasSameHistory desk.entry machine.desk) }
-        ensures fits { IfOk result (λ machine. machine ≡ machine_of machine.desk machine.readers (entry_of machine.input machine.outputs) machine.spent) }
+        ensures fits { IfOk result
+            (λ machine. machine ≡ machine_of machine.desk machine.readers (entry_of machine.input machine.outputs) machine.spent) }
         ensures told { IfOk result (λ machine. (who : ℕ) → told_to machine.readers who ≡ []) }
     {
         let Ok(readers) = enter_all(alloc, &mut desk, clients + 1) else {

@@ -2,23 +2,24 @@
 
 ghost use Rattle.std.specs.Prelude.{◌≡◌, ◌≤◌, IsTrue, Some, None, length, if◌then◌else◌};
 ghost use Rattle.std.specs.List.{list_all};
-ghost use Rattle.init_machine.specs.Typed.{is_decimal, is_digit as is_digit_lem, number_of};
+ghost use Rattle.init_machine.specs.Typed.{is_decimal, number_of};
+ghost use Rattle.init_machine.specs.Typed as spec;
 
 fn is_digit(byte: u8) -> bool
-    ensures { result ≡ is_digit_lem byte }
+    ensures { result ≡ spec.is_digit byte }
 {
     byte.is_ascii_digit()
 }
 
 fn has_only_digits(text: &[u8]) -> bool
-    ensures { result ≡ list_all is_digit_lem text.now }
+    ensures { result ≡ list_all spec.is_digit text.now }
 {
     text.iter().all(|byte| is_digit(*byte))
 }
 
 /// What these digits mean.
 fn number(digits: &[u8]) -> u128
-    requires digits { IsTrue (list_all is_digit_lem digits.now) }
+    requires digits { IsTrue (list_all spec.is_digit digits.now) }
     requires few { length digits.now ≤ 20 }
     ensures { result ≡ number_of digits.now }
 {

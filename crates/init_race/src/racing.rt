@@ -10,7 +10,8 @@ ghost use Rattle.init_race.specs.Ended.{AreAll, ComeBack, next_part, readers_of,
 ghost use Rattle.init_race.specs.Keeping.{Gives, given_behind, stored_in};
 ghost use Rattle.init_race.specs.Race.{AreRaced, HasEnded, HasRecorded, KeepsRace};
 ghost use Rattle.init_race.specs.Threads.{MayAct};
-ghost use Rattle.machine_laws.specs.Saved.{has_stored, is_stored as is_stored_lem};
+ghost use Rattle.machine_laws.specs.Saved.{has_stored};
+ghost use Rattle.machine_laws.specs.Saved as spec;
 ghost use Rattle.persist_file.specs.Store.{are_saved, are_typed, store_text};
 ghost use Rattle.property_area.specs.Area.{begins};
 ghost use Rattle.property_area.specs.Seats.{Seated};
@@ -258,7 +259,7 @@ fn stores(entry: &Entry) -> bool
 }
 
 fn is_stored(output: &Output) -> bool
-    ensures { result ≡ is_stored_lem output.now }
+    ensures { result ≡ spec.is_stored output.now }
 {
     matches!(output, Output::Stored { .. })
 }
@@ -281,10 +282,13 @@ pub fn race<R: Threads + Wait + Sync, P: Keeper, G: Gate>(
     requires words { (64 ≤ script.now.words) × (script.now.words ≤ 1048576) }
     requires few { length script.now.clients ≤ 64 }
     requires asks { AsksAreMet script.now }
-    ensures raced { IfOk result (λ raced. Audited (opening_of setup.config setup.policy script.now.words) setup.diagnostics script.now raced.report) }
-    ensures seat { IfOk result (λ raced. HasRecorded (opening_of setup.config setup.policy script.now.words) raced.report.history raced.report.clients raced.seat.view) }
+    ensures raced { IfOk result
+        (λ raced. Audited (opening_of setup.config setup.policy script.now.words) setup.diagnostics script.now raced.report) }
+    ensures seat { IfOk result (λ raced. HasRecorded
+        (opening_of setup.config setup.policy script.now.words) raced.report.history raced.report.clients raced.seat.view) }
     ensures kept { let seen = seen_by P.held P.TellsCrash P.moment P.MayLeave in
-        KeepsRace (opening_of setup.config setup.policy script.now.words) setup.diagnostics script.now result (seen keeper.old) (seen keeper.new) }
+        KeepsRace (opening_of setup.config setup.policy script.now.words) setup.diagnostics script.now result (seen keeper.old)
+        (seen keeper.new) }
     ensures cause { Counted (keeper_failed result) (P.fault_count keeper.old) (P.fault_count keeper.new) }
 {
     let Setup {

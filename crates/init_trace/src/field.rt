@@ -3,7 +3,8 @@
 ghost use Rattle.std.specs.Prelude.{◌≡◌, ◌++◌, ◌∷◌, [], OnOk, map};
 ghost use Rattle.std.specs.Fmt.{decimal};
 ghost use Rattle.init_trace.specs.Line.{spaced};
-ghost use Rattle.init_trace.specs.Quoted.{hex16, quoted as quoted_lem};
+ghost use Rattle.init_trace.specs.Quoted.{hex16};
+ghost use Rattle.init_trace.specs.Quoted as spec;
 
 use crate::quote::{digits, hex, put, put_byte, quoted};
 use init_base::{NoMemory, Text};
@@ -18,7 +19,7 @@ pub fn word(page: &mut Vec<u8>, bytes: &[u8]) -> Result<(), NoMemory>
 
 /// Adds a text.
 pub fn text(page: &mut Vec<u8>, text: &Text) -> Result<(), NoMemory>
-    ensures { OnOk result (page.new.items ≡ page.old.items ++ spaced (quoted_lem text.now ∷ [])) }
+    ensures { OnOk result (page.new.items ≡ page.old.items ++ spaced (spec.quoted text.now ∷ [])) }
 {
     put_byte(page, b' ')?;
     quoted(page, text.bytes())
@@ -42,7 +43,7 @@ pub fn serial(page: &mut Vec<u8>, number: u64) -> Result<(), NoMemory>
 
 /// Adds texts in order.
 pub fn texts(page: &mut Vec<u8>, items: &[Text]) -> Result<(), NoMemory>
-    ensures { OnOk result (page.new.items ≡ page.old.items ++ spaced (map quoted_lem items.now)) }
+    ensures { OnOk result (page.new.items ≡ page.old.items ++ spaced (map spec.quoted items.now)) }
 {
     for item in items {
         text(page, item)?;
@@ -53,7 +54,7 @@ pub fn texts(page: &mut Vec<u8>, items: &[Text]) -> Result<(), NoMemory>
 /// Adds a word and a text.
 pub fn word_text(page: &mut Vec<u8>, name: &[u8], first: &Text) -> Result<(), NoMemory>
     ensures { OnOk result (page.new.items
-        ≡ page.old.items ++ spaced (name.now ∷ quoted_lem first.now ∷ [])) }
+        ≡ page.old.items ++ spaced (name.now ∷ spec.quoted first.now ∷ [])) }
 {
     word(page, name)?;
     text(page, first)
@@ -67,7 +68,7 @@ pub fn word_texts(
     second: &Text,
 ) -> Result<(), NoMemory>
     ensures { OnOk result (page.new.items
-        ≡ page.old.items ++ spaced (name.now ∷ quoted_lem first.now ∷ quoted_lem second.now ∷ [])) }
+        ≡ page.old.items ++ spaced (name.now ∷ spec.quoted first.now ∷ spec.quoted second.now ∷ [])) }
 {
     word_text(page, name, first)?;
     text(page, second)

@@ -3,7 +3,7 @@
 ghost use Rattle.std.specs.Prelude.{◌≡◌, ◌++◌, ◌∷◌, [], ℕ, List as Items, OnOk, length};
 ghost use Rattle.std.specs.Fmt.{decimal};
 ghost use Rattle.init_trace.specs.Line.{line_text, spaced};
-ghost use Rattle.init_trace.specs.Quoted.{quoted as quoted_lem};
+ghost use Rattle.init_trace.specs.Quoted as spec;
 ghost use Rattle.init_trace.specs.Fields.{cause_fields, diagnostic_fields, head_fields, how_fields, output_fields, reading_fields, refusal_fields};
 ghost use Rattle.init_trace.specs.Report.{client_fields, end_fields, output_line, reading_line, title_fields};
 
@@ -246,7 +246,7 @@ fn add_failed(page: &mut Vec<u8>, cause: &Cause) -> Result<(), NoMemory>
 /// Adds a word, a process and its name.
 fn add_process(page: &mut Vec<u8>, name: &[u8], pid: u32, process: &Text) -> Result<(), NoMemory>
     ensures { OnOk result (page.new.items
-        ≡ page.old.items ++ spaced (name.now ∷ decimal pid ∷ quoted_lem process.now ∷ [])) }
+        ≡ page.old.items ++ spaced (name.now ∷ decimal pid ∷ spec.quoted process.now ∷ [])) }
 {
     word_number(page, name, u64::from(pid))?;
     text(page, process)

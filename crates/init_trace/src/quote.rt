@@ -3,7 +3,8 @@
 ghost use Rattle.std.specs.Prelude.{◌≡◌, ◌++◌, ◌∷◌, [], ◌<◌, ◌≤◌, IfOk, OnOk, false, length, drop};
 ghost use Rattle.std.specs.Fmt.{decimal, digit_glyph};
 ghost use Rattle.std.specs.List.{flat_map, list_all, prefix_len};
-ghost use Rattle.init_trace.specs.Quoted.{hex16, hex_byte as hex_byte_lem, is_plain as is_plain_lem, quoted as quoted_lem, quoted_byte as quoted_byte_lem};
+ghost use Rattle.init_trace.specs.Quoted.{hex16};
+ghost use Rattle.init_trace.specs.Quoted as spec;
 
 use init_base::NoMemory;
 
@@ -26,7 +27,7 @@ pub fn put_byte(page: &mut Vec<u8>, byte: u8) -> Result<(), NoMemory>
 /// Adds a text in q form.
 #[tactic(auto, unfolding(crate::specs::Quoted::quoted))]
 pub fn quoted(page: &mut Vec<u8>, bytes: &[u8]) -> Result<(), NoMemory>
-    ensures { OnOk result (page.new.items ≡ page.old.items ++ quoted_lem bytes.now) }
+    ensures { OnOk result (page.new.items ≡ page.old.items ++ spec.quoted bytes.now) }
 {
     match bytes {
         [] => put_byte(page, b'%'),
@@ -36,7 +37,7 @@ pub fn quoted(page: &mut Vec<u8>, bytes: &[u8]) -> Result<(), NoMemory>
 
 #[tactic(auto, using(crate::proofs::Runs::plain_whole))]
 fn quoted_bytes(page: &mut Vec<u8>, bytes: &[u8]) -> Result<(), NoMemory>
-    ensures { OnOk result (page.new.items ≡ page.old.items ++ flat_map quoted_byte_lem bytes.now) }
+    ensures { OnOk result (page.new.items ≡ page.old.items ++ flat_map spec.quoted_byte bytes.now) }
 {
     if are_plain(bytes) {
         return put(page, bytes);
@@ -50,7 +51,7 @@ fn quoted_bytes(page: &mut Vec<u8>, bytes: &[u8]) -> Result<(), NoMemory>
 
 /// Whether all bytes are plain. It goes on behind one that isn't, so that many bytes are judged at a time.
 fn are_plain(bytes: &[u8]) -> bool
-    ensures { result ≡ list_all is_plain_lem bytes.now }
+    ensures { result ≡ list_all spec.is_plain bytes.now }
 {
     let mut plain = true;
     for byte in bytes {
@@ -63,7 +64,8 @@ fn are_plain(bytes: &[u8]) -> bool
 #[tactic(auto, using(crate::proofs::Runs::run_left, crate::proofs::Runs::byte_left))]
 fn quoted_run(page: &mut Vec<u8>, bytes: &[u8]) -> Result<usize, NoMemory>
     requires { 0 < length bytes.now }
-    ensures left { IfOk result (λ count. page.new.items ++ flat_map quoted_byte_lem (drop count bytes.now) ≡ page.old.items ++ flat_map quoted_byte_lem bytes.now) }
+    ensures left { IfOk result (λ count. page.new.items ++ flat_map spec.quoted_byte (drop count bytes.now)
+        ≡ page.old.items ++ flat_map spec.quoted_byte bytes.now) }
     ensures some { IfOk result (λ count. 0 < count) }
     ensures within { IfOk result (λ count. count ≤ length bytes.now) }
 {
@@ -78,14 +80,14 @@ fn quoted_run(page: &mut Vec<u8>, bytes: &[u8]) -> Result<usize, NoMemory>
 
 /// How many plain bytes stand at the front.
 fn plain_len(bytes: &[u8]) -> usize
-    ensures count { result ≡ prefix_len is_plain_lem bytes.now }
+    ensures count { result ≡ prefix_len spec.is_plain bytes.now }
     ensures within { result ≤ length bytes.now }
 {
     bytes.iter().take_while(|byte| is_plain(**byte)).count()
 }
 
 fn quoted_byte(page: &mut Vec<u8>, byte: u8) -> Result<(), NoMemory>
-    ensures { OnOk result (page.new.items ≡ page.old.items ++ quoted_byte_lem byte) }
+    ensures { OnOk result (page.new.items ≡ page.old.items ++ spec.quoted_byte byte) }
 {
     if is_plain(byte) {
         put_byte(page, byte)
@@ -97,14 +99,14 @@ fn quoted_byte(page: &mut Vec<u8>, byte: u8) -> Result<(), NoMemory>
 
 /// Whether a byte stands for itself in q form.
 fn is_plain(byte: u8) -> bool
-    ensures { result ≡ is_plain_lem byte }
+    ensures { result ≡ spec.is_plain byte }
 {
     byte >= 0x21 && byte <= 0x7e && byte != b'%'
 }
 
 /// Adds a byte as two hexadecimal digits.
 pub fn hex_byte(page: &mut Vec<u8>, byte: u8, upper: bool) -> Result<(), NoMemory>
-    ensures { OnOk result (page.new.items ≡ page.old.items ++ hex_byte_lem upper byte) }
+    ensures { OnOk result (page.new.items ≡ page.old.items ++ spec.hex_byte upper byte) }
 {
     put_byte(page, hex_digit(byte / 16, upper))?;
     put_byte(page, hex_digit(byte % 16, upper))
@@ -133,7 +135,7 @@ pub fn hex(page: &mut Vec<u8>, number: u64) -> Result<(), NoMemory>
 
 fn hex_bytes(page: &mut Vec<u8>, bytes: &[u8]) -> Result<(), NoMemory>
     ensures { OnOk result (page.new.items
-        ≡ page.old.items ++ flat_map (hex_byte_lem false) bytes.now) }
+        ≡ page.old.items ++ flat_map (spec.hex_byte false) bytes.now) }
 {
     for byte in bytes {
         hex_byte(page, *byte, false)?;

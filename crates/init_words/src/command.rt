@@ -3,7 +3,7 @@
 ghost use Rattle.std.specs.Prelude.{◌≡◌, IfErr, IfOk, IsSome, false, map};
 ghost use Rattle.clap.specs.Words.{app_of, kind_of, rule_of};
 ghost use Rattle.init_words.specs.Command.{app, path_rule};
-ghost use Rattle.init_words.specs.Form.{form_of as form_of_lem};
+ghost use Rattle.init_words.specs.Form as spec;
 
 use clap::error::ErrorKind;
 use clap::{Arg, ArgAction, ArgMatches, Command, Error};
@@ -11,7 +11,7 @@ use std::alloc::Global;
 
 /// Reads words of a form as the command. It can only want memory.
 pub fn parse<'a>(alloc: Global, words: &'a [&'a str]) -> Result<ArgMatches<'a>, Error>
-    requires { IsSome (form_of_lem (map (λ word. word.now) words.now)) }
+    requires { IsSome (spec.form_of (map (λ word. word.now) words.now)) }
     ensures { IfErr result (λ e. kind_of e ≡ ErrorKind.OutOfMemory) }
 {
     let command = command(alloc)?;

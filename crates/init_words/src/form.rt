@@ -1,8 +1,8 @@
 //! The forms of the words.
 
 ghost use Rattle.std.specs.Prelude.{◌≡◌, option_map};
-ghost use Rattle.init_words.specs.Form.{form_of as form_of_lem, is_path_word as is_path_word_lem};
-ghost use Rattle.init_words.specs.Services.{services_in as services_in_lem};
+ghost use Rattle.init_words.specs.Form as form_spec;
+ghost use Rattle.init_words.specs.Services as services_spec;
 ghost use Rattle.init_words.specs.declared.form.Form.TheVariants as form;
 
 use crate::services::services_in;
@@ -25,7 +25,7 @@ pub enum Form {
 
 /// The form of the words.
 pub fn form_of(words: &List<Text>) -> Option<Form>
-    ensures { result ≡ form_of_lem words.now }
+    ensures { result ≡ form_spec.form_of words.now }
 {
     match words.items() {
         [word, root] if word.is(b"check") && is_path_word(root) => Some(Form::Check),
@@ -47,7 +47,7 @@ pub fn form_of(words: &List<Text>) -> Option<Form>
 
 /// The form `soak` with a word that is a number of services.
 fn soak_of(count: &Text) -> Option<Form>
-    ensures { result ≡ option_map form.Soak (services_in_lem count.now) }
+    ensures { result ≡ option_map form.Soak (services_spec.services_in count.now) }
 {
     let services = services_in(count.bytes())?;
     Some(Form::Soak { services })
@@ -55,7 +55,7 @@ fn soak_of(count: &Text) -> Option<Form>
 
 /// Whether a word may stand behind the name of a form, as a path does: it isn't empty, doesn't begin with `-`, and is UTF-8.
 fn is_path_word(word: &Text) -> bool
-    ensures { result ≡ is_path_word_lem word.now }
+    ensures { result ≡ form_spec.is_path_word word.now }
 {
     match word.bytes() {
         [] | [b'-', ..] => false,

@@ -1,9 +1,9 @@
 //! What is wrong with words that have no form.
 
 ghost use Rattle.std.specs.Prelude.{◌≡◌, ◌↔◌, ℕ, None, IsSome, List as Items};
-ghost use Rattle.init_words.specs.Form.{form_of as form_of_lem};
-ghost use Rattle.init_words.specs.Misuse.{form_named as form_named_lem, misuse_at as misuse_at_lem, misuse_of as misuse_of_lem, number_fault as number_fault_lem, word_fault as word_fault_lem};
-ghost use Rattle.init_words.specs.Services.{services_in as services_in_lem};
+ghost use Rattle.init_words.specs.Form as form_spec;
+ghost use Rattle.init_words.specs.Misuse as misuse_spec;
+ghost use Rattle.init_words.specs.Services as services_spec;
 
 use crate::services::services_in;
 use init_base::{List, Text};
@@ -54,12 +54,12 @@ pub enum WordFault {
 /// Nothing is wrong exactly where the words have a form.
 #[tactic(auto, using(crate::proofs::Misuses::misuse_law))]
 pub fn nothing_wrong_with_a_form()
-    ensures { (words : Items (Items ℕ)) → (misuse_of_lem words ≡ None) ↔ IsSome (form_of_lem words) }
+    ensures { (words : Items (Items ℕ)) → (misuse_spec.misuse_of words ≡ None) ↔ IsSome (form_spec.form_of words) }
 {}
 
 /// The first thing that is wrong with the words: none exactly where they have a form.
 pub fn misuse_of(words: &List<Text>) -> Option<Misuse>
-    ensures { result ≡ misuse_of_lem words.now }
+    ensures { result ≡ misuse_spec.misuse_of words.now }
 {
     let Some((word, paths)) = words.items().split_first() else {
         return Some(Misuse::NoForm);
@@ -86,7 +86,7 @@ pub fn misuse_of(words: &List<Text>) -> Option<Misuse>
 
 /// The form with this name.
 fn form_named(word: &Text) -> Option<FormName>
-    ensures { result ≡ form_named_lem word.now }
+    ensures { result ≡ misuse_spec.form_named word.now }
 {
     if word.is(b"run") {
         Some(FormName::Run)
@@ -105,7 +105,7 @@ fn form_named(word: &Text) -> Option<FormName>
 
 /// What is wrong with the number of services.
 fn number_fault(count: &Text) -> Option<Misuse>
-    ensures { result ≡ number_fault_lem (services_in_lem count.now) }
+    ensures { result ≡ misuse_spec.number_fault (services_spec.services_in count.now) }
 {
     match services_in(count.bytes()) {
         Some(_) => None,
@@ -115,7 +115,7 @@ fn number_fault(count: &Text) -> Option<Misuse>
 
 /// What is wrong with the word at this place.
 fn misuse_at(place: Place, word: &Text) -> Option<Misuse>
-    ensures { result ≡ misuse_at_lem place word.now }
+    ensures { result ≡ misuse_spec.misuse_at place word.now }
 {
     let fault = word_fault(word)?;
     Some(Misuse::BadWord { place, fault })
@@ -123,7 +123,7 @@ fn misuse_at(place: Place, word: &Text) -> Option<Misuse>
 
 /// Why the word names no path.
 fn word_fault(word: &Text) -> Option<WordFault>
-    ensures { result ≡ word_fault_lem word.now }
+    ensures { result ≡ misuse_spec.word_fault word.now }
 {
     match word.bytes() {
         [] => Some(WordFault::Empty),

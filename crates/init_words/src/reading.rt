@@ -3,7 +3,7 @@
 ghost use Rattle.std.specs.Prelude.{◌≡◌, ◌↔◌, IfErr, IfOk, IsTrue, None, Some, map};
 ghost use Rattle.std.specs.List.{list_all};
 ghost use Rattle.std.specs.Str.{is_utf8};
-ghost use Rattle.init_words.specs.Form.{form_of as form_of_lem};
+ghost use Rattle.init_words.specs.Form as spec;
 ghost use Rattle.init_words.specs.declared.reading.WordsRefusal.TheVariants as WordsRefusal;
 
 use crate::command::parse;
@@ -24,8 +24,8 @@ pub enum WordsRefusal {
 /// # Errors
 /// `Usage` exactly where the words have no form, which is decided before `clap` reads them. `NoMemory` where memory runs out.
 pub fn read_words(alloc: Global, words: &List<Text>) -> Result<Form, WordsRefusal>
-    ensures ok { IfOk result (λ form. form_of_lem words.now ≡ Some form) }
-    ensures refused { IfErr result (λ why. (why ≡ WordsRefusal.Usage) ↔ (form_of_lem words.now ≡ None)) }
+    ensures ok { IfOk result (λ form. spec.form_of words.now ≡ Some form) }
+    ensures refused { IfErr result (λ why. (why ≡ WordsRefusal.Usage) ↔ (spec.form_of words.now ≡ None)) }
 {
     let Some(form) = form_of(words) else {
         return Err(WordsRefusal::Usage);

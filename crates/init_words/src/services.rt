@@ -4,14 +4,14 @@ ghost use Rattle.std.specs.Prelude.{◌≡◌, nat_le, true, if◌then◌else◌
 ghost use Rattle.std.specs.Char.{is_ascii_digit};
 ghost use Rattle.std.specs.List.{list_all};
 ghost use Rattle.std.specs.Str.Parse.{digits_value};
-ghost use Rattle.init_words.specs.Services.{begins_number as begins_number_lem, services_in as services_in_lem};
+ghost use Rattle.init_words.specs.Services as spec;
 
 /// The most services.
 const MOST: u32 = 1000;
 
 /// The number of services that a word is: from 1 to 1000 in decimal, without leading zeros.
 pub fn services_in(word: &[u8]) -> Option<u32>
-    ensures { result ≡ services_in_lem word.now }
+    ensures { result ≡ spec.services_in word.now }
 {
     if !begins_number(word) || !has_only_digits(word) {
         return None;
@@ -24,7 +24,7 @@ pub fn services_in(word: &[u8]) -> Option<u32>
 
 /// Whether the word isn't empty and its first byte isn't 0.
 fn begins_number(word: &[u8]) -> bool
-    ensures { result ≡ begins_number_lem word.now }
+    ensures { result ≡ spec.begins_number word.now }
 {
     match word {
         [] => false,

@@ -2,7 +2,7 @@
 
 ghost use Rattle.std.specs.Prelude.{◌≡◌, ◌<◌, ◌^◌};
 ghost use Rattle.initsim.specs.Stops.{reading_stop, status_of};
-ghost use Rattle.initsim.specs.Tree.{limit_of as limit_of_lem};
+ghost use Rattle.initsim.specs.Tree as spec;
 
 use crate::status::Status;
 use init_base::{NoMemory, ReadRefusal};
@@ -15,7 +15,7 @@ use trace_reader::Fault;
 
 /// The limit on what is read of a tree, among all limits.
 fn limit_of(limit: LoadLimit) -> Limit
-    ensures { result ≡ limit_of_lem limit }
+    ensures { result ≡ spec.limit_of limit }
 {
     match limit {
         LoadLimit::FileBytes => Limit::FileBytes,

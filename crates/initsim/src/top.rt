@@ -14,7 +14,7 @@ ghost use Rattle.initsim.specs.Seats.{GivesSeat, Records, RunGives};
 ghost use Rattle.initsim.specs.Store.{StoreSays};
 ghost use Rattle.initsim.specs.Top.{IsAsBefore};
 ghost use Rattle.initsim.specs.Tree.{IsWorldOf, TreeSays};
-ghost use Rattle.init_words.specs.Form.{form_of as form_of_lem};
+ghost use Rattle.init_words.specs.Form as spec;
 ghost use Rattle.init_words.specs.declared.form.Form.TheVariants as Form;
 ghost use Rattle.rc_import.specs.World.{World};
 
@@ -108,7 +108,8 @@ fn write_diagnostics<K: Sink>(alloc: Global, diagnostics: &List<Diagnostic>, out
 /// `check`: reads the build files and the rc files, and writes what is wrong in them.
 fn check<F: Files, K: Sink>(alloc: Global, files: &mut F, out: &mut K) -> Status
     ensures tree { (world : World) → IsWorldOf (F.tree files.old) world → TreeSays Form.Check world result }
-    ensures writes { (world : World) → IsWorldOf (F.tree files.old) world → CheckWrites world (K.taken out.old) (K.taken out.new) result }
+    ensures writes { (world : World) → IsWorldOf (F.tree files.old) world
+        → CheckWrites world (K.taken out.old) (K.taken out.new) result }
     ensures counts { (script trace keeper : ℕ) → AreCounted result
         (counts_of (F.fault_count files.old) script trace keeper (K.fault_count out.old))
         (counts_of (F.fault_count files.new) script trace keeper (K.fault_count out.new)) }
@@ -172,12 +173,12 @@ pub fn initsim<
         let after = objects_of (F.tree files.new) (S.left script.new) (T.left trace.new) (seen keeper.new) (K.taken out.new)
         (counts_of (F.fault_count files.new) (S.fault_count script.new) (T.fault_count trace.new)
         (P.fault_count keeper.new) (K.fault_count out.new)) in
-        Promise (form_of_lem words.now) before after result.0 result.1 }
-    ensures unread { form_of_lem words.now ≡ Some Form.Check → script.new ≡ script.old }
-    ensures unloaded { form_of_lem words.now ≡ Some Form.Check → keeper.new ≡ keeper.old }
-    ensures soaked { (services : ℕ) → form_of_lem words.now ≡ Some (Form.Soak services) →
+        Promise (spec.form_of words.now) before after result.0 result.1 }
+    ensures unread { spec.form_of words.now ≡ Some Form.Check → script.new ≡ script.old }
+    ensures unloaded { spec.form_of words.now ≡ Some Form.Check → keeper.new ≡ keeper.old }
+    ensures soaked { (services : ℕ) → spec.form_of words.now ≡ Some (Form.Soak services) →
         (files.new ≡ files.old) × (script.new ≡ script.old) × (keeper.new ≡ keeper.old) }
-    ensures untraced { ¬ (form_of_lem words.now ≡ Some Form.Audit) → trace.new ≡ trace.old }
+    ensures untraced { ¬ (spec.form_of words.now ≡ Some Form.Audit) → trace.new ≡ trace.old }
 {
     match read_words(alloc, words) {
         Ok(Form::Run) => run_script(alloc, files, script, keeper, out),

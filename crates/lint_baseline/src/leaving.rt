@@ -2,9 +2,10 @@
 
 ghost use Rattle.std.specs.Prelude.{◌≡◌, ◌-◌, ◌++◌, ◌∷◌, [], ℕ, List as Items, IfOk, OnOk, nat_lt, if◌then◌else◌};
 ghost use Rattle.std.specs.Str.{bytes_eq};
-ghost use Rattle.lint_baseline.specs.Baseline.{row_of as row_of_lem};
+ghost use Rattle.lint_baseline.specs.Baseline as baseline_spec;
 ghost use Rattle.lint_baseline.specs.Code.{count_in};
-ghost use Rattle.lint_baseline.specs.Left.{known, left as left_lem};
+ghost use Rattle.lint_baseline.specs.Left.{known};
+ghost use Rattle.lint_baseline.specs.Left as left_spec;
 
 use crate::counts::Counts;
 use crate::reading::Baseline;
@@ -32,9 +33,9 @@ fn pass(
     finding: Finding,
 ) -> Result<(), NoMemory>
     ensures left { OnOk result (
-        left.new ≡ left.old ++ (if nat_lt 0 (count_in counts.old.numbers (row_of_lem finding)) then [] else finding ∷ [])) }
+        left.new ≡ left.old ++ (if nat_lt 0 (count_in counts.old.numbers (baseline_spec.row_of finding)) then [] else finding ∷ [])) }
     ensures counts { OnOk result ((q : Items ℕ) →
-        count_in counts.new.numbers q ≡ count_in counts.old.numbers q - (if bytes_eq (row_of_lem finding) q then 1 else 0)) }
+        count_in counts.new.numbers q ≡ count_in counts.old.numbers q - (if bytes_eq (baseline_spec.row_of finding) q then 1 else 0)) }
 {
     let row = row_of(alloc, &finding)?;
     if counts.take(row)? {
@@ -50,7 +51,7 @@ pub fn left(
     baseline: &Baseline,
     findings: List<Finding>,
 ) -> Result<List<Finding>, NoMemory>
-    ensures { IfOk result (λ rest. rest ≡ left_lem baseline.now.rows findings) }
+    ensures { IfOk result (λ rest. rest ≡ left_spec.left baseline.now.rows findings) }
 {
     if baseline.rows.is_empty() {
         return Ok(findings);

@@ -1,7 +1,8 @@
 //! The text of a baseline.
 
 ghost use Rattle.std.specs.Prelude.{◌≡◌, ◌++◌, IfOk, OnOk, ℕ, List as Items, map};
-ghost use Rattle.lint_baseline.specs.Baseline.{IsBaselineOf, baseline_text, ended, row_of as row_of_lem};
+ghost use Rattle.lint_baseline.specs.Baseline.{IsBaselineOf, baseline_text, ended};
+ghost use Rattle.lint_baseline.specs.Baseline as spec;
 
 use crate::row::row_of;
 use init_base::NoMemory;
@@ -13,7 +14,7 @@ const HEAD: &[u8] = b"rc-lint baseline 1\n";
 
 /// The lines of findings, in their order.
 fn rows_of(alloc: Global, findings: &[Finding]) -> Result<Vec<Vec<u8>>, NoMemory>
-    ensures { IfOk result (λ rows. map (λ row. row.items) rows.items ≡ map row_of_lem findings.now) }
+    ensures { IfOk result (λ rows. map (λ row. row.items) rows.items ≡ map spec.row_of findings.now) }
 {
     let mut rows = Vec::with_capacity(alloc, findings.len())?;
     for finding in findings {

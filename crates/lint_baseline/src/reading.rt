@@ -1,9 +1,10 @@
 //! Reading a baseline's text.
 
 ghost use Rattle.std.specs.Prelude.{◌≡◌, ◌≤◌, ◌++◌, ◌∷◌, [], ◌==◌, position, IsTrue, IfOk, IfErr, MatchOption, length, is_some};
-ghost use Rattle.init_base.specs.Quoted.{unquoted as unquoted_lem};
-ghost use Rattle.lint_baseline.specs.Baseline.{ascend, are_rows, behind_word, is_row as is_row_lem, word_of, BeginsWithNext, IsBaseline, IsRefused, lacks};
-ghost use Rattle.init_machine.specs.Pairs.{is_before as is_before_lem};
+ghost use Rattle.init_base.specs.Quoted as quoted_spec;
+ghost use Rattle.lint_baseline.specs.Baseline.{ascend, are_rows, behind_word, word_of, BeginsWithNext, IsBaseline, IsRefused, lacks};
+ghost use Rattle.lint_baseline.specs.Baseline as baseline_spec;
+ghost use Rattle.init_machine.specs.Pairs as pairs_spec;
 ghost use Rattle.lint_baseline.specs.Code.{TakesRow};
 
 use crate::refusal::BaselineRefusal;
@@ -91,7 +92,7 @@ fn parted(text: &[u8]) -> (&[u8], &[u8])
 }
 
 fn is_q_form(alloc: Global, word: &[u8]) -> Result<bool, NoMemory>
-    ensures { IfOk result (λ is. is ≡ is_some (unquoted_lem word.now)) }
+    ensures { IfOk result (λ is. is ≡ is_some (quoted_spec.unquoted word.now)) }
 {
     Ok(unquoted(alloc, word)?.is_some())
 }
@@ -99,7 +100,7 @@ fn is_q_form(alloc: Global, word: &[u8]) -> Result<bool, NoMemory>
 /// Whether a text without a line's end is a finding's line.
 fn is_row(alloc: Global, line: &[u8]) -> Result<bool, NoMemory>
     requires { IsTrue (lacks 10 line.now) }
-    ensures { IfOk result (λ is. is ≡ is_row_lem line.now) }
+    ensures { IfOk result (λ is. is ≡ baseline_spec.is_row line.now) }
 {
     let (name, texts) = parted(line);
     let (file, message) = parted(texts);
@@ -121,7 +122,7 @@ fn may_follow(rows: &List<Text>, line: &[u8]) -> bool
 
 /// Whether one text is before another in the order of bytes.
 fn is_before(text: &[u8], other: &[u8]) -> bool
-    ensures { result ≡ is_before_lem text.now other.now }
+    ensures { result ≡ pairs_spec.is_before text.now other.now }
 {
     text < other
 }

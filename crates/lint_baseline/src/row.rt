@@ -1,7 +1,7 @@
 //! The line of a finding in a baseline.
 
 ghost use Rattle.std.specs.Prelude.{◌≡◌, IfOk};
-ghost use Rattle.lint_baseline.specs.Baseline.{row_of as row_of_lem};
+ghost use Rattle.lint_baseline.specs.Baseline as spec;
 
 use init_base::NoMemory;
 use init_trace::{put, put_byte, put_quoted};
@@ -13,7 +13,7 @@ const BYTES_OF_ROW: usize = 160;
 
 /// The line of a finding, without its end.
 pub fn row_of(alloc: Global, finding: &Finding) -> Result<Vec<u8>, NoMemory>
-    ensures { IfOk result (λ row. row.items ≡ row_of_lem finding.now) }
+    ensures { IfOk result (λ row. row.items ≡ spec.row_of finding.now) }
 {
     let mut row = Vec::with_capacity(alloc, BYTES_OF_ROW)?;
     put(&mut row, about_name(finding.about))?;

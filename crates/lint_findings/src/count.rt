@@ -1,19 +1,20 @@
 //! How many findings are errors, and how many are warnings.
 
 ghost use Rattle.std.specs.Prelude.{◌≡◌, length};
-ghost use Rattle.lint_findings.specs.Findings.{errors_in, is_error as is_error_lem, is_warning as is_warning_lem, warnings_in};
+ghost use Rattle.lint_findings.specs.Findings.{errors_in, warnings_in};
+ghost use Rattle.lint_findings.specs.Findings as spec;
 
 use crate::finding::Finding;
 use crate::promoted::{Promoted, Severity};
 
 fn is_error(promoted: &Promoted, finding: &Finding) -> bool
-    ensures { result ≡ is_error_lem promoted.now finding.now }
+    ensures { result ≡ spec.is_error promoted.now finding.now }
 {
     matches!(promoted.severity(finding.about), Severity::Error)
 }
 
 fn is_warning(promoted: &Promoted, finding: &Finding) -> bool
-    ensures { result ≡ is_warning_lem promoted.now finding.now }
+    ensures { result ≡ spec.is_warning promoted.now finding.now }
 {
     matches!(promoted.severity(finding.about), Severity::Warning)
 }

@@ -2,7 +2,8 @@
 
 ghost use Rattle.std.specs.Prelude.{◌≡◌, ◌++◌, IfOk, OnOk};
 ghost use Rattle.std.specs.List.{flat_map};
-ghost use Rattle.lint_page.specs.Gcc.{finding_line as finding_line_lem, front_text, last_line as last_line_lem, message_text, other_text, place_text, report_text, severity_text};
+ghost use Rattle.lint_page.specs.Gcc.{front_text, message_text, other_text, place_text, report_text, severity_text};
+ghost use Rattle.lint_page.specs.Gcc as spec;
 
 use crate::style::Style;
 use crate::text::put_shown;
@@ -71,14 +72,14 @@ fn put_message(page: &mut Vec<u8>, root: &Text, finding: &Finding) -> Result<(),
 
 /// Adds the line of a finding.
 fn put_finding(page: &mut Vec<u8>, style: &Style, finding: &Finding) -> Result<(), NoMemory>
-    ensures { OnOk result (page.new.items ≡ page.old.items ++ finding_line_lem style.now finding.now) }
+    ensures { OnOk result (page.new.items ≡ page.old.items ++ spec.finding_line style.now finding.now) }
 {
     put_front(page, style, finding)?;
     put_message(page, &style.root, finding)
 }
 
 fn put_findings(page: &mut Vec<u8>, style: &Style, findings: &[Finding]) -> Result<(), NoMemory>
-    ensures { OnOk result (page.new.items ≡ page.old.items ++ flat_map (finding_line_lem style.now) findings.now) }
+    ensures { OnOk result (page.new.items ≡ page.old.items ++ flat_map (spec.finding_line style.now) findings.now) }
 {
     for finding in findings {
         put_finding(page, style, finding)?;
@@ -93,7 +94,7 @@ fn put_last(
     warnings: usize,
     files: usize,
 ) -> Result<(), NoMemory>
-    ensures { OnOk result (page.new.items ≡ page.old.items ++ last_line_lem errors warnings files) }
+    ensures { OnOk result (page.new.items ≡ page.old.items ++ spec.last_line errors warnings files) }
 {
     put_number(page, errors as u64)?;
     put(page, b" errors, ")?;

@@ -2,7 +2,8 @@
 
 ghost use Rattle.std.specs.Prelude.{◌≡◌, ◌++◌, IfOk, OnOk};
 ghost use Rattle.std.specs.List.{flat_map};
-ghost use Rattle.lint_page.specs.Uri.{is_plain as is_plain_lem, uri_byte, uri_of as uri_of_lem, without_slash as without_slash_lem};
+ghost use Rattle.lint_page.specs.Uri.{uri_byte};
+ghost use Rattle.lint_page.specs.Uri as spec;
 
 use init_base::NoMemory;
 use init_trace::{put_byte, put_hex_byte};
@@ -10,7 +11,7 @@ use std::alloc::Global;
 
 /// Whether a byte of a path stands for itself: what RFC 3986 leaves unreserved, and the slash.
 fn is_plain(byte: u8) -> bool
-    ensures { result ≡ is_plain_lem byte }
+    ensures { result ≡ spec.is_plain byte }
 {
     byte.is_ascii_alphanumeric() || matches!(byte, b'-' | b'.' | b'_' | b'~' | b'/')
 }
@@ -37,7 +38,7 @@ pub fn put_path(uri: &mut Vec<u8>, path: &[u8]) -> Result<(), NoMemory>
 }
 
 fn without_slash(path: &[u8]) -> &[u8]
-    ensures { result.now ≡ without_slash_lem path.entry.now }
+    ensures { result.now ≡ spec.without_slash path.entry.now }
 {
     match path {
         [b'/', behind @ ..] => behind,
@@ -47,7 +48,7 @@ fn without_slash(path: &[u8]) -> &[u8]
 
 /// The path of a file behind a root. Where there is no root it is told from there on, without the slash that begins it.
 pub fn uri_of(alloc: Global, root: &[u8], file: &[u8]) -> Result<Vec<u8>, NoMemory>
-    ensures { IfOk result (λ uri. uri.items ≡ uri_of_lem root.now file.now) }
+    ensures { IfOk result (λ uri. uri.items ≡ spec.uri_of root.now file.now) }
 {
     let mut uri = Vec::new(alloc);
     match root {

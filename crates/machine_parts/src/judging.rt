@@ -7,7 +7,8 @@ ghost use Rattle.init_base.specs.Value.{LegalValue, value_fault_under};
 ghost use Rattle.init_machine.specs.Choices.{first_of, only_if};
 ghost use Rattle.init_machine.specs.Policy.{context_of};
 ghost use Rattle.init_machine.specs.Props.{MayBeSet, full_for};
-ghost use Rattle.init_machine.specs.Setting.{bad_value, denied, down, is_control as is_control_lem, no_room, property_refusals, read_only, set_answer};
+ghost use Rattle.init_machine.specs.Setting.{bad_value, denied, down, no_room, property_refusals, read_only, set_answer};
+ghost use Rattle.init_machine.specs.Setting as spec;
 ghost use Rattle.machine_parts.specs.Answers.{IsAnswer};
 ghost use Rattle.machine_parts.specs.Parts.{rules_of, state_of};
 
@@ -21,7 +22,7 @@ const CONTROL: &[u8] = b"ctl.";
 
 /// Whether a set of this name is asked of a service.
 pub fn is_control(name: &[u8]) -> bool
-    ensures { result ≡ is_control_lem name.now }
+    ensures { result ≡ spec.is_control name.now }
 {
     name.starts_with(CONTROL)
 }
@@ -54,7 +55,8 @@ pub fn check_domain(
 
 /// The same, of a name whose context is known.
 fn check_context(policy: &Policy, by: Option<&Text>, context: &Context) -> Result<(), SetRefusal>
-    ensures { (name : List ℕ) → context.now ≡ context_of policy.now name → IsAnswer result (denied policy.now (option_copied by.entry) name) }
+    ensures { (name : List ℕ) → context.now ≡ context_of policy.now name
+        → IsAnswer result (denied policy.now (option_copied by.entry) name) }
 {
     let Some(domain) = by else {
         return Ok(());
@@ -133,7 +135,8 @@ fn judge_named<'a, S: PropStore>(
     name: PropName<'a>,
     value: &'a [u8],
 ) -> Result<PropValue<'a>, SetRefusal>
-    ensures answer { IsAnswer result (first_of (property_refusals policy.now (S.meaning store.old) (option_copied by.entry) name.entry.bytes.now value.entry.now)) }
+    ensures answer { IsAnswer result
+        (first_of (property_refusals policy.now (S.meaning store.old) (option_copied by.entry) name.entry.bytes.now value.entry.now)) }
     ensures value { IfOk result (λ legal. legal.bytes ≡ value.entry) }
     ensures legal { OnOk result (LegalValue name.entry.bytes.now value.entry.now) }
     ensures once { OnOk result (MayBeSet (S.meaning store.old) name.entry.bytes.now) }
@@ -161,8 +164,9 @@ pub fn judge<'a, S: PropStore>(
     name: &'a [u8],
     value: &'a [u8],
 ) -> Result<(PropName<'a>, PropValue<'a>), SetRefusal>
-    requires { is_control_lem name.now ≡ false }
-    ensures answer { IsAnswer result (set_answer (rules_of parts.old) (state_of S.meaning parts.old) (option_copied by.entry) name.entry.now value.entry.now) }
+    requires { spec.is_control name.now ≡ false }
+    ensures answer { IsAnswer result
+        (set_answer (rules_of parts.old) (state_of S.meaning parts.old) (option_copied by.entry) name.entry.now value.entry.now) }
     ensures name { IfOk result (λ pair. pair.0.bytes ≡ name.entry) }
     ensures value { IfOk result (λ pair. pair.1.bytes ≡ value.entry) }
     ensures legal { OnOk result (LegalValue name.entry.now value.entry.now) }

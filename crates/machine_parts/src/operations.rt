@@ -3,9 +3,11 @@
 ghost use Rattle.std.specs.Prelude.{◌≡◌, ◌<◌, ◌∷◌, [], Some, IfOk, OnOk, is_none, length, not, true};
 ghost use Rattle.std.specs.Option.{option_copied};
 ghost use Rattle.init_machine.specs.Changes.{change};
-ghost use Rattle.init_machine.specs.Services.{follow as follow_lem, kill_process as kill_process_lem, operate as operate_lem, operate_each as operate_each_lem, place_of, set_by as set_by_lem, spawn as spawn_lem, state_name as state_name_lem, tell as tell_lem};
+ghost use Rattle.init_machine.specs.Services.{place_of};
+ghost use Rattle.init_machine.specs.Services as services_spec;
 ghost use Rattle.init_machine.specs.Choices.{only_if};
-ghost use Rattle.init_machine.specs.Setting.{control_op, has_service, is_control as is_control_lem, set_answer};
+ghost use Rattle.init_machine.specs.Setting.{control_op, has_service, set_answer};
+ghost use Rattle.init_machine.specs.Setting as setting_spec;
 ghost use Rattle.services.specs.Services.{place_named};
 ghost use Rattle.init_machine.specs.declared.output.Output.TheVariants as output;
 ghost use Rattle.machine_parts.specs.Answers.{IsAnswer};
@@ -38,7 +40,7 @@ const RESTART: &[u8] = b"ctl.restart";
 
 /// The property that tells the state of a service.
 fn state_name(alloc: Global, service: &Text) -> Result<Text, NoMemory>
-    ensures { IfOk result (λ name. name ≡ state_name_lem service.now) }
+    ensures { IfOk result (λ name. name ≡ services_spec.state_name service.now) }
 {
     let mut name = Vec::with_capacity(alloc, STATE.len().saturating_add(service.len()))?;
     name.extend_from_slice(STATE)?;
@@ -53,7 +55,8 @@ pub fn tell<S: PropStore>(
     service: &Text,
     word: &[u8],
 ) -> Result<(), NoMemory>
-    ensures done { OnOk result (Does S.meaning S.told parts.old parts.new (tell_lem (rules_of parts.old) service.now word.now (state_of S.meaning parts.old))) }
+    ensures done { OnOk result (Does S.meaning S.told parts.old parts.new
+        (services_spec.tell (rules_of parts.old) service.now word.now (state_of S.meaning parts.old))) }
     ensures beside { S.Beside parts.old.store parts.new.store }
 {
     let name = state_name(alloc, service)?;
@@ -71,7 +74,8 @@ fn enter_process<S: PropStore>(
     pid: Pid,
 ) -> Result<(), NoMemory>
     requires { at < length parts.old.services.defs }
-    ensures done { OnOk result (Does S.meaning S.told parts.old parts.new (change (with_step (state_of S.meaning parts.old) at (Op.Spawned pid (record { 0 = parts.old.kernel.kernel.clock }))) (output.Spawn pid name.now path.now ∷ []))) }
+    ensures done { OnOk result (Does S.meaning S.told parts.old parts.new (change (with_step (state_of S.meaning parts.old) at
+        (Op.Spawned pid (record { 0 = parts.old.kernel.kernel.clock }))) (output.Spawn pid name.now path.now ∷ []))) }
     ensures beside { S.Beside parts.old.store parts.new.store }
 {
     let now = parts.kernel.now();
@@ -90,7 +94,8 @@ fn stop_unspawned<S: PropStore>(
     name: &Text,
 ) -> Result<(), NoMemory>
     requires { at < length parts.old.services.defs }
-    ensures done { OnOk result (Does S.meaning S.told parts.old parts.new (change (with_step (state_of S.meaning parts.old) at Op.NoPid) (output.NoPid name.now ∷ []))) }
+    ensures done { OnOk result (Does S.meaning S.told parts.old parts.new
+        (change (with_step (state_of S.meaning parts.old) at Op.NoPid) (output.NoPid name.now ∷ []))) }
     ensures beside { S.Beside parts.old.store parts.new.store }
 {
     parts.services.apply(at, Op::NoPid)?;
@@ -108,8 +113,10 @@ fn spawn<S: PropStore>(
     path: &Text,
 ) -> Result<bool, NoMemory>
     requires { at < length parts.old.services.defs }
-    ensures had_pid { IfOk result (λ had_pid. had_pid ≡ (spawn_lem (rules_of parts.old) name.now path.now at (state_of S.meaning parts.old)).had_pid) }
-    ensures done { OnOk result (Does S.meaning S.told parts.old parts.new (spawn_lem (rules_of parts.old) name.now path.now at (state_of S.meaning parts.old)).done) }
+    ensures had_pid { IfOk result (λ had_pid. had_pid
+        ≡ (services_spec.spawn (rules_of parts.old) name.now path.now at (state_of S.meaning parts.old)).had_pid) }
+    ensures done { OnOk result (Does S.meaning S.told parts.old parts.new
+        (services_spec.spawn (rules_of parts.old) name.now path.now at (state_of S.meaning parts.old)).done) }
     ensures beside { S.Beside parts.old.store parts.new.store }
 {
     match parts.kernel.spawn(name, path.bytes()) {
@@ -134,7 +141,8 @@ fn kill_process<S: PropStore>(
     name: &Text,
     pid: Pid,
 ) -> Result<(), NoMemory>
-    ensures done { OnOk result (Does S.meaning S.told parts.old parts.new (kill_process_lem (rules_of parts.old) name.now pid (state_of S.meaning parts.old))) }
+    ensures done { OnOk result (Does S.meaning S.told parts.old parts.new
+        (services_spec.kill_process (rules_of parts.old) name.now pid (state_of S.meaning parts.old))) }
     ensures beside { S.Beside parts.old.store parts.new.store }
 {
     parts.kernel.kill(pid);
@@ -156,8 +164,10 @@ fn follow<S: PropStore>(
     todo: Move,
 ) -> Result<bool, NoMemory>
     requires { at < length parts.old.services.defs }
-    ensures had_pid { IfOk result (λ had_pid. had_pid ≡ (follow_lem (rules_of parts.old) name.now path.now at todo (state_of S.meaning parts.old)).had_pid) }
-    ensures done { OnOk result (Does S.meaning S.told parts.old parts.new (follow_lem (rules_of parts.old) name.now path.now at todo (state_of S.meaning parts.old)).done) }
+    ensures had_pid { IfOk result (λ had_pid. had_pid
+        ≡ (services_spec.follow (rules_of parts.old) name.now path.now at todo (state_of S.meaning parts.old)).had_pid) }
+    ensures done { OnOk result (Does S.meaning S.told parts.old parts.new
+        (services_spec.follow (rules_of parts.old) name.now path.now at todo (state_of S.meaning parts.old)).done) }
     ensures beside { S.Beside parts.old.store parts.new.store }
 {
     match todo {
@@ -177,8 +187,10 @@ pub fn operate<S: PropStore>(
     at: usize,
     op: Op,
 ) -> Result<bool, NoMemory>
-    ensures had_pid { IfOk result (λ had_pid. had_pid ≡ (operate_lem (rules_of parts.old) at op (state_of S.meaning parts.old)).had_pid) }
-    ensures done { OnOk result (Does S.meaning S.told parts.old parts.new (operate_lem (rules_of parts.old) at op (state_of S.meaning parts.old)).done) }
+    ensures had_pid { IfOk result
+        (λ had_pid. had_pid ≡ (services_spec.operate (rules_of parts.old) at op (state_of S.meaning parts.old)).had_pid) }
+    ensures done { OnOk result (Does S.meaning S.told parts.old parts.new
+        (services_spec.operate (rules_of parts.old) at op (state_of S.meaning parts.old)).done) }
     ensures beside { S.Beside parts.old.store parts.new.store }
 {
     let Some(service) = parts.services.get(at) else {
@@ -197,7 +209,8 @@ pub fn operate_each<S: PropStore>(
     op: Op,
     places: &List<usize>,
 ) -> Result<(), NoMemory>
-    ensures done { OnOk result (Does S.meaning S.told parts.old parts.new (operate_each_lem (rules_of parts.old) op places.now (state_of S.meaning parts.old))) }
+    ensures done { OnOk result (Does S.meaning S.told parts.old parts.new
+        (services_spec.operate_each (rules_of parts.old) op places.now (state_of S.meaning parts.old))) }
     ensures beside { S.Beside parts.old.store parts.new.store }
 {
     for at in places.items() {
@@ -246,8 +259,9 @@ fn judge_control<S: PropStore>(
     name: &[u8],
     service: &[u8],
 ) -> Result<(Op, usize), SetRefusal>
-    requires { is_control_lem name.now ≡ true }
-    ensures answer { IsAnswer result (set_answer (rules_of parts.now) (state_of S.meaning parts.now) (option_copied by.entry) name.now service.now) }
+    requires { setting_spec.is_control name.now ≡ true }
+    ensures answer { IsAnswer result
+        (set_answer (rules_of parts.now) (state_of S.meaning parts.now) (option_copied by.entry) name.now service.now) }
     ensures op { IfOk result (λ asked. Some asked.0 ≡ control_op name.now) }
     ensures place { IfOk result (λ asked. Some asked.1 ≡ place_of (rules_of parts.now) service.now) }
 {
@@ -268,8 +282,10 @@ pub fn set_by<S: PropStore>(
     name: &Text,
     value: &Text,
 ) -> Result<Option<SetRefusal>, NoMemory>
-    ensures refused { IfOk result (λ refused. refused ≡ (set_by_lem (rules_of parts.old) (option_copied by.entry) name.entry.now value.entry.now (state_of S.meaning parts.old)).refused) }
-    ensures done { OnOk result (Does S.meaning S.told parts.old parts.new (set_by_lem (rules_of parts.old) (option_copied by.entry) name.entry.now value.entry.now (state_of S.meaning parts.old)).done) }
+    ensures refused { IfOk result (λ refused. refused ≡ (services_spec.set_by (rules_of parts.old)
+        (option_copied by.entry) name.entry.now value.entry.now (state_of S.meaning parts.old)).refused) }
+    ensures done { OnOk result (Does S.meaning S.told parts.old parts.new (services_spec.set_by (rules_of parts.old)
+        (option_copied by.entry) name.entry.now value.entry.now (state_of S.meaning parts.old)).done) }
     ensures beside { S.Beside parts.old.store parts.new.store }
 {
     if !is_control(name.bytes()) {

@@ -3,7 +3,8 @@
 ghost use Rattle.std.specs.Prelude.{◌≡◌, ◌||◌, ◌≤◌, IsTrue, OnOk, OnErr, length};
 ghost use Rattle.std.specs.List.{list_all, position_or_len};
 ghost use Rattle.std.specs.Str.{bytes_eq};
-ghost use Rattle.init_machine.specs.Pairs.{is_before as is_before_lem, with_saved, without_name};
+ghost use Rattle.init_machine.specs.Pairs.{with_saved, without_name};
+ghost use Rattle.init_machine.specs.Pairs as spec;
 
 use init_base::{List, NoMemory, Text};
 use init_machine::Pair;
@@ -78,14 +79,14 @@ impl Saved {
 
 /// Whether one text is before another in the order of bytes.
 fn is_before(text: &[u8], other: &[u8]) -> bool
-    ensures { result ≡ is_before_lem text.now other.now }
+    ensures { result ≡ spec.is_before text.now other.now }
 {
     text < other
 }
 
 /// The place of the first pair that has the name, or whose name the name is before; past the last one where there is none.
 fn place_for(pairs: &List<Pair>, name: &[u8]) -> usize
-    ensures place { result ≡ position_or_len (λ p. bytes_eq p.name name.now || is_before_lem name.now p.name) pairs.now }
+    ensures place { result ≡ position_or_len (λ p. bytes_eq p.name name.now || spec.is_before name.now p.name) pairs.now }
     ensures within { result ≤ length pairs.now }
 {
     for (place, pair) in pairs.items().iter().enumerate() {

@@ -26,7 +26,13 @@ impl Model for Schedule {
 
     ghost Value = { ScheduleView };
 
-    ghost view = { λ s. record { actions = s.queue.actions; events = s.queue.events; running = s.queue.running; changes = s.queue.changes; had_boot = s.had_boot } };
+    ghost view = { λ s. record {
+      actions = s.queue.actions;
+      events = s.queue.events;
+      running = s.queue.running;
+      changes = s.queue.changes;
+      had_boot = s.had_boot;
+    } };
 
     ghost invariant = { λ s. s.had_boot ≡ false → list_any is_mark s.queue.events ≡ false };
 }
@@ -96,7 +102,8 @@ impl Schedule {
         store: &mut S,
         outputs: &mut List<Output>,
     ) -> Result<Option<CommandRef>, NoMemory>
-        ensures next { IfOk result (λ place. MatchOption place ((taken_in (S.meaning store.old) self.old).running ≡ []) (IsNext self.old.actions (taken_in (S.meaning store.old) self.old).running)) }
+        ensures next { IfOk result (λ place. MatchOption place ((taken_in (S.meaning store.old) self.old).running ≡ [])
+            (IsNext self.old.actions (taken_in (S.meaning store.old) self.old).running)) }
         ensures schedule { OnOk result (self.new ≡ schedule_after self.old (taken_in (S.meaning store.old) self.old)) }
         ensures lines { OnOk result (outputs.new ≡ outputs.old ++ (taken_in (S.meaning store.old) self.old).lines) }
         ensures same { S.meaning store.new ≡ S.meaning store.old }

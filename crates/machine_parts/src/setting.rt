@@ -5,7 +5,8 @@ ghost use Rattle.std.specs.Option.{option_copied};
 ghost use Rattle.init_base.specs.Value.{LegalValue};
 ghost use Rattle.init_machine.specs.Pairs.{with_saved};
 ghost use Rattle.init_machine.specs.Props.{MayBeSet, full_for};
-ghost use Rattle.init_machine.specs.Setting.{awaits, change_event, is_control, is_persistent as is_persistent_lem, put_property as put_property_lem, released_lines, set_property as set_property_lem, still_waits, unset_lines};
+ghost use Rattle.init_machine.specs.Setting.{awaits, change_event, is_control, released_lines, still_waits, unset_lines};
+ghost use Rattle.init_machine.specs.Setting as spec;
 ghost use Rattle.init_machine.specs.declared.output.Output.TheVariants as output;
 ghost use Rattle.machine_parts.specs.Parts.{Does, rules_of, state_of};
 
@@ -20,14 +21,15 @@ use std::alloc::Global;
 const PERSISTENT: &[u8] = b"persist.";
 
 fn is_persistent(name: &Text) -> bool
-    ensures { result ≡ is_persistent_lem name.now }
+    ensures { result ≡ spec.is_persistent name.now }
 {
     name.bytes().starts_with(PERSISTENT)
 }
 
 /// Queues a change of a property, where changes queue events.
 fn queue_change(queue: &mut Schedule, name: &Text, value: &Text) -> Result<(), NoMemory>
-    ensures { OnOk result (queue.new ≡ record queue.old { events = queue.old.events ++ change_event queue.old.changes name.now value.now }) }
+    ensures { OnOk result (queue.new
+        ≡ record queue.old { events = queue.old.events ++ change_event queue.old.changes name.now value.now }) }
 {
     if !queue.changes() {
         return Ok(());
@@ -46,8 +48,10 @@ fn store_saved(
     value: &Text,
     outputs: &mut List<Output>,
 ) -> Result<(), NoMemory>
-    ensures saved { OnOk result (saved.new ≡ (if is_persistent_lem name.now && saving then with_saved saved.old name.now value.now else saved.old)) }
-    ensures lines { OnOk result (outputs.new ≡ outputs.old ++ (if is_persistent_lem name.now && saving then output.Stored name.now ∷ [] else [])) }
+    ensures saved { OnOk result
+        (saved.new ≡ (if spec.is_persistent name.now && saving then with_saved saved.old name.now value.now else saved.old)) }
+    ensures lines { OnOk result
+        (outputs.new ≡ outputs.old ++ (if spec.is_persistent name.now && saving then output.Stored name.now ∷ [] else [])) }
 {
     if !(is_persistent(name) && saving) {
         return Ok(());
@@ -97,7 +101,8 @@ fn put_property<S: PropStore>(
     requires legal { LegalValue name.now value.now }
     requires once { MayBeSet (S.meaning parts.old.store) name.now }
     requires room { full_for (S.meaning parts.old.store) name.now (length value.now) ≡ None }
-    ensures done { OnOk result (Does S.meaning S.told parts.old parts.new (put_property_lem (state_of S.meaning parts.old) name.now value.now)) }
+    ensures done { OnOk result
+        (Does S.meaning S.told parts.old parts.new (spec.put_property (state_of S.meaning parts.old) name.now value.now)) }
     ensures beside { S.Beside parts.old.store parts.new.store }
 {
     parts.store.reserve(alloc)?;
@@ -129,8 +134,10 @@ pub fn set_property<S: PropStore>(
     value: &Text,
 ) -> Result<Option<SetRefusal>, NoMemory>
     requires plain { is_control name.now ≡ false }
-    ensures refused { IfOk result (λ refused. refused ≡ (set_property_lem (rules_of parts.old) (state_of S.meaning parts.old) (option_copied by.entry) name.entry.now value.entry.now).refused) }
-    ensures done { OnOk result (Does S.meaning S.told parts.old parts.new (set_property_lem (rules_of parts.old) (state_of S.meaning parts.old) (option_copied by.entry) name.entry.now value.entry.now).done) }
+    ensures refused { IfOk result (λ refused. refused ≡ (spec.set_property (rules_of parts.old) (state_of S.meaning parts.old)
+        (option_copied by.entry) name.entry.now value.entry.now).refused) }
+    ensures done { OnOk result (Does S.meaning S.told parts.old parts.new (spec.set_property (rules_of parts.old)
+        (state_of S.meaning parts.old) (option_copied by.entry) name.entry.now value.entry.now).done) }
     ensures beside { S.Beside parts.old.store parts.new.store }
 {
     match judge(parts, by, name.bytes(), value.bytes()) {

@@ -73,7 +73,8 @@ impl Model for Entries {
 impl Entries {
     ghost use Rattle.std.specs.Prelude.{◌≡◌, ℕ, [], ◌∷◌, ◌++◌, List as Items, ◌&&◌, ◌||◌, true, false, Some, None, OnOk, IfOk, MatchOption, if◌then◌else◌};
     ghost use Rattle.std.specs.Option.{option_copied};
-    ghost use Rattle.init_machine.specs.FileTree.{first_tree, is_path as is_path_lem, parts_of, node_at as node_at_lem, is_under_other as is_under_other_lem, is_full as is_full_lem, is_other as is_other_lem, is_there as is_there_lem, is_directory, put_node, without_path, change_mode, with_parent, with_parents};
+    ghost use Rattle.init_machine.specs.FileTree.{first_tree, parts_of, is_directory, put_node, without_path, change_mode, with_parent, with_parents};
+    ghost use Rattle.init_machine.specs.FileTree as spec;
     ghost use Rattle.model_fs.specs.Entries.{place_in, node_in, has_below, IsWalk};
 
     /// The root directory alone.
@@ -90,7 +91,7 @@ impl Entries {
 
     /// What stands at a place.
     fn node(&self, at: Option<usize>) -> Option<&Node>
-        ensures { (path : Items (Items ℕ)) → place_in self.now path ≡ at → option_copied result ≡ node_at_lem self.now path }
+        ensures { (path : Items (Items ℕ)) → place_in self.now path ≡ at → option_copied result ≡ spec.node_at self.now path }
     {
         let entries = &self.entries;
         entries.get(at?)?.node.as_ref()
@@ -98,7 +99,8 @@ impl Entries {
 
     /// What a call sees of a path. None exactly where the text is that of no path.
     pub fn look(&self, path: &[u8]) -> Option<Sight<'_>>
-        ensures { MatchOption result (is_path_lem path.now ≡ false) (λ sight. (is_path_lem path.now ≡ true) × IsWalk self.now (parts_of path.now) sight.walk × (option_copied sight.node ≡ node_at_lem self.now (parts_of path.now))) }
+        ensures { MatchOption result (spec.is_path path.now ≡ false) (λ sight. (spec.is_path path.now ≡ true) × IsWalk self.now
+            (parts_of path.now) sight.walk × (option_copied sight.node ≡ spec.node_at self.now (parts_of path.now))) }
     {
         let walk = self.walk(path)?;
         let node = self.node(walk.at);
@@ -107,7 +109,8 @@ impl Entries {
 
     /// Where a path leads. None exactly where the text is that of no path.
     fn walk(&self, path: &[u8]) -> Option<Walk>
-        ensures { MatchOption result (is_path_lem path.now ≡ false) (λ walk. (is_path_lem path.now ≡ true) × IsWalk self.now (parts_of path.now) walk) }
+        ensures { MatchOption result (spec.is_path path.now ≡ false)
+            (λ walk. (spec.is_path path.now ≡ true) × IsWalk self.now (parts_of path.now) walk) }
     {
         let Some((front, part)) = split_last(path) else {
             return self.walk_to_root(path);
@@ -128,7 +131,8 @@ impl Entries {
     /// Where the path of the root leads, which has no part.
     fn walk_to_root(&self, path: &[u8]) -> Option<Walk>
         requires { parts_of path.now ≡ [] }
-        ensures { MatchOption result (is_path_lem path.now ≡ false) (λ walk. (is_path_lem path.now ≡ true) × IsWalk self.now (parts_of path.now) walk) }
+        ensures { MatchOption result (spec.is_path path.now ≡ false)
+            (λ walk. (spec.is_path path.now ≡ true) × IsWalk self.now (parts_of path.now) walk) }
     {
         let _ = &self.places;
         if !is_path(path) {
@@ -146,7 +150,8 @@ impl Entries {
     fn above(&self, front: &[u8], known: Option<usize>) -> Above
         requires { (at : ℕ) → known ≡ Some at → place_in self.now (parts_of front.now) ≡ Some at }
         ensures at { result.at ≡ place_in self.now (parts_of front.now) }
-        ensures other { result.has_other ≡ (is_under_other_lem self.now (parts_of front.now) || is_other_lem (node_at_lem self.now (parts_of front.now))) }
+        ensures other { result.has_other
+            ≡ (spec.is_under_other self.now (parts_of front.now) || spec.is_other (spec.node_at self.now (parts_of front.now))) }
     {
         let _ = &self.places;
         if let Some(at) = known {
@@ -170,7 +175,7 @@ impl Entries {
     /// Where a path leads, by a look at each of its parts.
     fn lead(&self, path: &[u8]) -> Lead
         ensures at { result.at ≡ place_in self.now (parts_of path.now) }
-        ensures under { result.is_under_other ≡ is_under_other_lem self.now (parts_of path.now) }
+        ensures under { result.is_under_other ≡ spec.is_under_other self.now (parts_of path.now) }
     {
         let _ = &self.places;
         self.lead_on(0, false, path)
@@ -178,8 +183,11 @@ impl Entries {
 
     /// Where the parts of a text lead on from a place, up to the first that has none.
     fn lead_on(&self, at: usize, is_under_other: bool, rest: &[u8]) -> Lead
-        ensures at { (front : Items (Items ℕ)) → place_in self.now front ≡ Some at → result.at ≡ place_in self.now (front ++ parts_of rest.now) }
-        ensures under { (front : Items (Items ℕ)) → place_in self.now front ≡ Some at → is_under_other ≡ is_under_other_lem self.now front → result.is_under_other ≡ is_under_other_lem self.now (front ++ parts_of rest.now) }
+        ensures at { (front : Items (Items ℕ)) → place_in self.now front ≡ Some at
+            → result.at ≡ place_in self.now (front ++ parts_of rest.now) }
+        ensures under { (front : Items (Items ℕ)) → place_in self.now front ≡ Some at
+            → is_under_other ≡ spec.is_under_other self.now front
+            → result.is_under_other ≡ spec.is_under_other self.now (front ++ parts_of rest.now) }
     {
         let Some((part, behind)) = split_first(rest) else {
             return Lead {
@@ -200,7 +208,7 @@ impl Entries {
     /// What stands where a walk led.
     pub fn node_at(&self, path: &[u8], walk: Walk) -> Option<&Node>
         requires { IsWalk self.now (parts_of path.now) walk }
-        ensures { option_copied result ≡ node_at_lem self.now (parts_of path.now) }
+        ensures { option_copied result ≡ spec.node_at self.now (parts_of path.now) }
     {
         self.node(walk.at)
     }
@@ -208,7 +216,7 @@ impl Entries {
     /// Whether something stands below the path. The root counts as full.
     pub fn is_full(&self, path: &[u8], walk: Walk) -> bool
         requires { IsWalk self.now (parts_of path.now) walk }
-        ensures { result ≡ is_full_lem self.now (parts_of path.now) }
+        ensures { result ≡ spec.is_full self.now (parts_of path.now) }
     {
         is_root(path) || self.has_children(walk.at)
     }
@@ -230,8 +238,8 @@ impl Entries {
     /// Puts a node at the path, and makes the missing directories above it. A directory isn't replaced by something else.
     pub fn put(&mut self, path: &[u8], walk: Walk, node: Node) -> Result<(), NoMemory>
         requires walk { IsWalk self.old (parts_of path.now) walk }
-        requires under { is_under_other_lem self.old (parts_of path.now) ≡ false }
-        requires kept { is_directory (node_at_lem self.old (parts_of path.now)) ≡ true → is_directory (Some node) ≡ true }
+        requires under { spec.is_under_other self.old (parts_of path.now) ≡ false }
+        requires kept { is_directory (spec.node_at self.old (parts_of path.now)) ≡ true → is_directory (Some node) ≡ true }
         ensures { OnOk result (self.new ≡ put_node (with_parents self.old (parts_of path.now)) (parts_of path.now) node) }
     {
         let Some((front, part)) = split_last(path) else {
@@ -270,7 +278,7 @@ impl Entries {
     /// Takes away what stands at the path. It isn't a directory below which something stands.
     pub fn remove(&mut self, path: &[u8], walk: Walk)
         requires walk { IsWalk self.old (parts_of path.now) walk }
-        requires empty { (is_directory (node_at_lem self.old (parts_of path.now)) && is_full_lem self.old (parts_of path.now)) ≡ false }
+        requires empty { (is_directory (spec.node_at self.old (parts_of path.now)) && spec.is_full self.old (parts_of path.now)) ≡ false }
         ensures { self.new ≡ without_path self.old (parts_of path.now) }
     {
         let _ = &self.places;
@@ -289,7 +297,7 @@ impl Entries {
     /// Gives what stands at the path another mode.
     pub fn set_mode(&mut self, path: &[u8], walk: Walk, mode: u16)
         requires { IsWalk self.old (parts_of path.now) walk }
-        ensures { self.new ≡ change_mode self.old (parts_of path.now) mode (node_at_lem self.old (parts_of path.now)) }
+        ensures { self.new ≡ change_mode self.old (parts_of path.now) mode (spec.node_at self.old (parts_of path.now)) }
     {
         let _ = path;
         if let Some(at) = walk.at {
@@ -301,11 +309,11 @@ impl Entries {
     /// Above what stands, nothing is missing.
     fn make_front(&mut self, front: &[u8], known: Option<usize>) -> Result<usize, NoMemory>
         requires known { known ≡ place_in self.old (parts_of front.now) }
-        requires under { is_under_other_lem self.old (parts_of front.now) ≡ false }
-        requires other { is_other_lem (node_at_lem self.old (parts_of front.now)) ≡ false }
+        requires under { spec.is_under_other self.old (parts_of front.now) ≡ false }
+        requires other { spec.is_other (spec.node_at self.old (parts_of front.now)) ≡ false }
         ensures tree { OnOk result (self.new ≡ with_parent (with_parents self.old (parts_of front.now)) (parts_of front.now)) }
         ensures place { IfOk result (λ at. place_in self.new (parts_of front.now) ≡ Some at) }
-        ensures directory { OnOk result (is_directory (node_at_lem self.new (parts_of front.now)) ≡ true) }
+        ensures directory { OnOk result (is_directory (spec.node_at self.new (parts_of front.now)) ≡ true) }
     {
         let _ = &self.places;
         if let Some(at) = known {
@@ -318,7 +326,7 @@ impl Entries {
 
     /// Puts a directory in the root's place.
     fn put_root(&mut self, node: Node)
-        requires { is_directory (node_at_lem self.old []) ≡ true → is_directory (Some node) ≡ true }
+        requires { is_directory (spec.node_at self.old []) ≡ true → is_directory (Some node) ≡ true }
         ensures { self.new ≡ put_node self.old [] node }
     {
         self.entries[0].node = Some(node);
@@ -326,11 +334,11 @@ impl Entries {
 
     /// Makes the missing directories at the path and above it, and answers the path's place.
     fn make_directories(&mut self, path: &[u8]) -> Result<usize, NoMemory>
-        requires under { is_under_other_lem self.old (parts_of path.now) ≡ false }
-        requires other { is_other_lem (node_at_lem self.old (parts_of path.now)) ≡ false }
+        requires under { spec.is_under_other self.old (parts_of path.now) ≡ false }
+        requires other { spec.is_other (spec.node_at self.old (parts_of path.now)) ≡ false }
         ensures tree { OnOk result (self.new ≡ with_parent (with_parents self.old (parts_of path.now)) (parts_of path.now)) }
         ensures place { IfOk result (λ at. place_in self.new (parts_of path.now) ≡ Some at) }
-        ensures directory { OnOk result (is_directory (node_at_lem self.new (parts_of path.now)) ≡ true) }
+        ensures directory { OnOk result (is_directory (spec.node_at self.new (parts_of path.now)) ≡ true) }
     {
         let Some((front, part)) = split_last(path) else {
             return self.root();
@@ -342,9 +350,12 @@ impl Entries {
     /// Makes a directory that is a part behind a place, where nothing stands there, and answers its place.
     fn make_directory(&mut self, parent: usize, part: &[u8]) -> Result<usize, NoMemory>
         requires directory { is_directory (node_in self.old parent) ≡ true }
-        requires other { (front : Items (Items ℕ)) → place_in self.old front ≡ Some parent → is_other_lem (node_at_lem self.old (front ++ part.now ∷ [])) ≡ false }
-        ensures tree { OnOk result ((front : Items (Items ℕ)) → place_in self.old front ≡ Some parent → self.new ≡ with_parent self.old (front ++ part.now ∷ [])) }
-        ensures place { IfOk result (λ at. (front : Items (Items ℕ)) → place_in self.old front ≡ Some parent → place_in self.new (front ++ part.now ∷ []) ≡ Some at) }
+        requires other { (front : Items (Items ℕ)) → place_in self.old front ≡ Some parent
+            → spec.is_other (spec.node_at self.old (front ++ part.now ∷ [])) ≡ false }
+        ensures tree { OnOk result ((front : Items (Items ℕ)) → place_in self.old front ≡ Some parent
+            → self.new ≡ with_parent self.old (front ++ part.now ∷ [])) }
+        ensures place { IfOk result (λ at. (front : Items (Items ℕ)) → place_in self.old front ≡ Some parent
+            → place_in self.new (front ++ part.now ∷ []) ≡ Some at) }
     {
         if let Some(at) = self.standing(parent, part) {
             return Ok(at);
@@ -355,7 +366,8 @@ impl Entries {
 
     /// The place of the path that is a part behind a place, where something stands there.
     fn standing(&self, parent: usize, part: &[u8]) -> Option<usize>
-        ensures { (front : Items (Items ℕ)) → place_in self.now front ≡ Some parent → result ≡ (if is_there_lem (node_at_lem self.now (front ++ part.now ∷ [])) then place_in self.now (front ++ part.now ∷ []) else None) }
+        ensures { (front : Items (Items ℕ)) → place_in self.now front ≡ Some parent → result ≡ (if spec.is_there
+            (spec.node_at self.now (front ++ part.now ∷ [])) then place_in self.now (front ++ part.now ∷ []) else None) }
     {
         let at = self.places.child(Some(parent), part);
         if is_there(self.node(at)) { at } else { None }
@@ -364,9 +376,12 @@ impl Entries {
     /// Puts a node at the path that is a part behind a place, and answers its place.
     fn put_child(&mut self, parent: usize, part: &[u8], node: Node) -> Result<usize, NoMemory>
         requires directory { is_directory (node_in self.old parent) ≡ true }
-        requires kept { (front : Items (Items ℕ)) → place_in self.old front ≡ Some parent → is_directory (node_at_lem self.old (front ++ part.now ∷ [])) ≡ true → is_directory (Some node) ≡ true }
-        ensures tree { OnOk result ((front : Items (Items ℕ)) → place_in self.old front ≡ Some parent → self.new ≡ put_node self.old (front ++ part.now ∷ []) node) }
-        ensures place { IfOk result (λ at. (front : Items (Items ℕ)) → place_in self.old front ≡ Some parent → place_in self.new (front ++ part.now ∷ []) ≡ Some at) }
+        requires kept { (front : Items (Items ℕ)) → place_in self.old front ≡ Some parent
+            → is_directory (spec.node_at self.old (front ++ part.now ∷ [])) ≡ true → is_directory (Some node) ≡ true }
+        ensures tree { OnOk result ((front : Items (Items ℕ)) → place_in self.old front ≡ Some parent
+            → self.new ≡ put_node self.old (front ++ part.now ∷ []) node) }
+        ensures place { IfOk result (λ at. (front : Items (Items ℕ)) → place_in self.old front ≡ Some parent
+            → place_in self.new (front ++ part.now ∷ []) ≡ Some at) }
     {
         self.entries.reserve(1)?;
         let at = self.places.add(parent, part)?;
@@ -378,7 +393,7 @@ impl Entries {
     fn root(&self) -> Result<usize, NoMemory>
         ensures tree { self.now ≡ with_parent self.now [] }
         ensures place { IfOk result (λ at. place_in self.now [] ≡ Some at) }
-        ensures directory { is_directory (node_at_lem self.now []) ≡ true }
+        ensures directory { is_directory (spec.node_at self.now []) ≡ true }
     {
         let _ = &self.places;
         Ok(0)

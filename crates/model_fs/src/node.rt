@@ -2,7 +2,7 @@
 
 ghost use Rattle.std.specs.Prelude.{◌≡◌, IfOk};
 ghost use Rattle.std.specs.Option.{option_copied};
-ghost use Rattle.init_machine.specs.FileTree.{is_there as is_there_lem, is_directory as is_directory_lem, is_other as is_other_lem, is_insecure as is_insecure_lem, mode_for as mode_for_lem, content_of as content_of_lem, with_mode as with_mode_lem};
+ghost use Rattle.init_machine.specs.FileTree as spec;
 
 use init_base::{NoMemory, Text};
 use init_machine::Node;
@@ -17,27 +17,27 @@ const FILE_MODE: u16 = 0o600;
 const WRITTEN_BY_OTHERS: u16 = 0o022;
 
 pub fn is_there(node: Option<&Node>) -> bool
-    ensures { result ≡ is_there_lem (option_copied node.entry) }
+    ensures { result ≡ spec.is_there (option_copied node.entry) }
 {
     node.is_some()
 }
 
 pub fn is_directory(node: Option<&Node>) -> bool
-    ensures { result ≡ is_directory_lem (option_copied node.entry) }
+    ensures { result ≡ spec.is_directory (option_copied node.entry) }
 {
     matches!(node, Some(Node::Directory { .. }))
 }
 
 /// Whether a file or a link is there.
 pub fn is_other(node: Option<&Node>) -> bool
-    ensures { result ≡ is_other_lem (option_copied node.entry) }
+    ensures { result ≡ spec.is_other (option_copied node.entry) }
 {
     is_there(node) && !is_directory(node)
 }
 
 /// Whether it is a link, or a file that others than its owner may write.
 pub fn is_insecure(node: Option<&Node>) -> bool
-    ensures { result ≡ is_insecure_lem (option_copied node.entry) }
+    ensures { result ≡ spec.is_insecure (option_copied node.entry) }
 {
     match node {
         Some(Node::File { mode, .. }) => *mode & WRITTEN_BY_OTHERS != 0,
@@ -48,7 +48,7 @@ pub fn is_insecure(node: Option<&Node>) -> bool
 
 /// The mode of the file that takes the node's place: a file that is replaced keeps its mode.
 pub fn mode_for(node: Option<&Node>) -> u16
-    ensures { result ≡ mode_for_lem (option_copied node.entry) }
+    ensures { result ≡ spec.mode_for (option_copied node.entry) }
 {
     match node {
         Some(Node::File { mode, .. }) => *mode,
@@ -58,7 +58,7 @@ pub fn mode_for(node: Option<&Node>) -> u16
 
 /// The content of a file.
 pub fn content_of(node: Option<&Node>) -> Result<Text, NoMemory>
-    ensures { IfOk result (λ content. content ≡ content_of_lem (option_copied node.entry)) }
+    ensures { IfOk result (λ content. content ≡ spec.content_of (option_copied node.entry)) }
 {
     match node {
         Some(Node::File { content, .. }) => content.share(),
@@ -68,7 +68,7 @@ pub fn content_of(node: Option<&Node>) -> Result<Text, NoMemory>
 
 /// Gives the node another mode.
 pub fn set_mode(node: &mut Node, new: u16)
-    ensures { node.new ≡ with_mode_lem new node.old }
+    ensures { node.new ≡ spec.with_mode new node.old }
 {
     match node {
         Node::Directory { mode } => *mode = new,

@@ -2,7 +2,8 @@
 
 ghost use Rattle.std.specs.Prelude.{◌≡◌, ◌≢◌, ◌-◌, ◌<◌, ◌≤◌, ◌++◌, ◌∷◌, [], true, length, take, drop, slice_index, MatchOption};
 ghost use Rattle.std.specs.List.{list_any, list_all};
-ghost use Rattle.init_machine.specs.FileTree.{parts_of, is_path as is_path_lem, is_dots as is_dots_lem, is_root as is_root_lem, begins_with_slash as begins_with_slash_lem};
+ghost use Rattle.init_machine.specs.FileTree.{parts_of};
+ghost use Rattle.init_machine.specs.FileTree as spec;
 ghost use Rattle.model_fs.specs.Paths.{is_no_slash};
 
 /// The length of the longest text of a path.
@@ -10,7 +11,7 @@ const MAX_LEN: usize = 4096;
 
 /// Whether the text is that of a path.
 pub fn is_path(text: &[u8]) -> bool
-    ensures { result ≡ is_path_lem text.now }
+    ensures { result ≡ spec.is_path text.now }
 {
     begins_with_slash(text) && text.len() <= MAX_LEN && !text.contains(&0) && !has_dots(text)
 }
@@ -20,8 +21,8 @@ pub fn is_path_behind(text: &[u8], front: &[u8], part: &[u8], is_front_known: bo
     requires cut { parts_of text.now ≡ parts_of front.now ++ part.now ∷ [] }
     requires front { front.now ≡ take (length front.now) text.now }
     requires within { length front.now ≤ length text.now }
-    requires known { is_front_known ≡ true → is_path_lem front.now ≡ true }
-    ensures { result ≡ is_path_lem text.now }
+    requires known { is_front_known ≡ true → spec.is_path front.now ≡ true }
+    ensures { result ≡ spec.is_path text.now }
 {
     if !is_front_known {
         return is_path(text);
@@ -36,7 +37,7 @@ pub fn is_path_behind(text: &[u8], front: &[u8], part: &[u8], is_front_known: bo
 }
 
 fn begins_with_slash(text: &[u8]) -> bool
-    ensures { result ≡ begins_with_slash_lem text.now }
+    ensures { result ≡ spec.begins_with_slash text.now }
 {
     match text {
         [first, ..] => *first == b'/',
@@ -46,7 +47,7 @@ fn begins_with_slash(text: &[u8]) -> bool
 
 /// Whether a part is `.` or `..`.
 fn has_dots(text: &[u8]) -> bool
-    ensures { result ≡ list_any is_dots_lem (parts_of text.now) }
+    ensures { result ≡ list_any spec.is_dots (parts_of text.now) }
 {
     if !text.contains(&b'.') {
         return false;
@@ -56,7 +57,7 @@ fn has_dots(text: &[u8]) -> bool
 
 /// Whether a part is `.` or `..`, by a look at each.
 fn has_dots_part(text: &[u8]) -> bool
-    ensures { result ≡ list_any is_dots_lem (parts_of text.now) }
+    ensures { result ≡ list_any spec.is_dots (parts_of text.now) }
 {
     match split_last(text) {
         Some((front, part)) => has_dots_part(front) || is_dots(part),
@@ -65,21 +66,22 @@ fn has_dots_part(text: &[u8]) -> bool
 }
 
 fn is_dots(part: &[u8]) -> bool
-    ensures { result ≡ is_dots_lem part.now }
+    ensures { result ≡ spec.is_dots part.now }
 {
     part == b".".as_slice() || part == b"..".as_slice()
 }
 
 /// Whether the text has no part.
 pub fn is_root(text: &[u8]) -> bool
-    ensures { result ≡ is_root_lem (parts_of text.now) }
+    ensures { result ≡ spec.is_root (parts_of text.now) }
 {
     split_last(text).is_none()
 }
 
 /// The front of a text with the parts before the last one, and the last one. None exactly where there is no part.
 pub fn split_last(text: &[u8]) -> Option<(&[u8], &[u8])>
-    ensures { MatchOption result (parts_of text.now ≡ []) (λ cut. (parts_of text.now ≡ parts_of cut.0.now ++ cut.1.now ∷ []) × (length cut.0.now < length text.now) × (cut.0.now ≡ take (length cut.0.now) text.now)) }
+    ensures { MatchOption result (parts_of text.now ≡ []) (λ cut. (parts_of text.now ≡ parts_of cut.0.now ++ cut.1.now ∷ [])
+        × (length cut.0.now < length text.now) × (cut.0.now ≡ take (length cut.0.now) text.now)) }
 {
     let text = &text[..trimmed_len(text)];
     if text.is_empty() {
@@ -117,7 +119,8 @@ fn last_start(text: &[u8]) -> usize
 
 /// The first part of a text, and what stands behind it. None exactly where there is no part.
 pub fn split_first(text: &[u8]) -> Option<(&[u8], &[u8])>
-    ensures { MatchOption result (parts_of text.now ≡ []) (λ cut. (parts_of text.now ≡ cut.0.now ∷ parts_of cut.1.now) × (length cut.1.now < length text.now)) }
+    ensures { MatchOption result (parts_of text.now ≡ [])
+        (λ cut. (parts_of text.now ≡ cut.0.now ∷ parts_of cut.1.now) × (length cut.1.now < length text.now)) }
 {
     let text = &text[first_start(text)..];
     if text.is_empty() {

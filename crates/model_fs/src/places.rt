@@ -43,7 +43,8 @@ impl Model for Places {
 
 impl Places {
     ghost use Rattle.std.specs.Prelude.{◌≡◌, ◌<◌, ℕ, List as Items, [], ◌∷◌, ◌++◌, true, length, Some, None, OnOk, OnErr, IfOk, IfSome};
-    ghost use Rattle.init_machine.specs.FileTree.{is_path as is_path_lem, parts_of};
+    ghost use Rattle.init_machine.specs.FileTree.{parts_of};
+    ghost use Rattle.init_machine.specs.FileTree as spec;
     ghost use Rattle.model_fs.specs.Steps.{place_of, with_path, AreDistinct};
 
     /// The place of the root alone.
@@ -66,9 +67,11 @@ impl Places {
 
     /// The place of the path that is a part behind the path of a place. A path behind one that has no place has none.
     pub fn child(&self, parent: Option<usize>, part: &[u8]) -> Option<usize>
-        ensures place { (front : Items (Items ℕ)) → place_of self.now front ≡ parent → result ≡ place_of self.now (front ++ part.now ∷ []) }
+        ensures place { (front : Items (Items ℕ)) → place_of self.now front ≡ parent
+            → result ≡ place_of self.now (front ++ part.now ∷ []) }
         ensures none { parent ≡ None → result ≡ None }
-        ensures behind { result ≡ None → (front more : Items (Items ℕ)) → place_of self.now front ≡ parent → place_of self.now (front ++ part.now ∷ more) ≡ None }
+        ensures behind { result ≡ None → (front more : Items (Items ℕ)) → place_of self.now front ≡ parent
+            → place_of self.now (front ++ part.now ∷ more) ≡ None }
     {
         let (names, steps) = (&self.names, &self.steps);
         let parent = Some(parent?);
@@ -78,7 +81,7 @@ impl Places {
 
     /// The place that is noted of a text, which is then that of a path.
     pub fn noted(&self, text: &[u8]) -> Option<usize>
-        ensures { IfSome result (λ place. (is_path_lem text.now ≡ true) × (place_of self.now (parts_of text.now) ≡ Some place)) }
+        ensures { IfSome result (λ place. (spec.is_path text.now ≡ true) × (place_of self.now (parts_of text.now) ≡ Some place)) }
     {
         let noted = self.noted.get(&slot_of(text))?;
         if noted.text.as_slice() == text {
@@ -110,8 +113,10 @@ impl Places {
     /// Gives a place to the path that is a part behind the path of a place, unless it has one, and answers its place.
     pub fn add(&mut self, parent: usize, part: &[u8]) -> Result<usize, NoMemory>
         requires { parent < length self.old }
-        ensures paths { OnOk result ((front : Items (Items ℕ)) → place_of self.old front ≡ Some parent → self.new ≡ with_path self.old (front ++ part.now ∷ [])) }
-        ensures place { IfOk result (λ place. (front : Items (Items ℕ)) → place_of self.old front ≡ Some parent → place_of self.new (front ++ part.now ∷ []) ≡ Some place) }
+        ensures paths { OnOk result ((front : Items (Items ℕ)) → place_of self.old front ≡ Some parent
+            → self.new ≡ with_path self.old (front ++ part.now ∷ [])) }
+        ensures place { IfOk result (λ place. (front : Items (Items ℕ)) → place_of self.old front ≡ Some parent
+            → place_of self.new (front ++ part.now ∷ []) ≡ Some place) }
         ensures err { OnErr result (self.new ≡ self.old) }
         ensures distinct { OnOk result (AreDistinct self.new) }
     {

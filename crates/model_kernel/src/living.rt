@@ -122,7 +122,8 @@ impl Living {
 
     /// The pids of processes that may end at a time, ascending.
     fn asked(&self, alloc: Global, now: u64) -> Result<List<usize>, NoMemory>
-        ensures all { IfOk result (λ asked. (pid : ℕ) → is_over now (with_pid self.now pid) ≡ true → list_any (nat_eq pid) asked ≡ true) }
+        ensures all { IfOk result
+            (λ asked. (pid : ℕ) → is_over now (with_pid self.now pid) ≡ true → list_any (nat_eq pid) asked ≡ true) }
         ensures ascending { IfOk result (IsStrictlySortedBy nat_cmp) }
         ensures order { IsStrictlySortedBy nat_cmp (pids self.now) }
     {
@@ -189,11 +190,15 @@ fn strike_end(ends: &mut Agenda, end: Option<End>, pid: usize)
 /// Marks the process with a pid as killed. False exactly where there is none.
 fn mark(processes: &mut BTreeMap<usize, Process>, pid: usize) -> bool
     ensures there { result ≡ is_some (lookup (is_at (nat_cmp pid)) processes.old.entries) }
-    ensures entries { MatchOption (lookup (is_at (nat_cmp pid)) processes.old.entries) (processes.new.entries ≡ processes.old.entries) (λ process. processes.new.entries ≡ set_value (is_at (nat_cmp pid)) processes.old.entries (slain process)) }
+    ensures entries { MatchOption (lookup (is_at (nat_cmp pid)) processes.old.entries) (processes.new.entries ≡ processes.old.entries)
+        (λ process. processes.new.entries ≡ set_value (is_at (nat_cmp pid)) processes.old.entries (slain process)) }
     ensures none { result ≡ false → processes.new.entries ≡ processes.old.entries }
-    ensures at { lookup (is_at (nat_cmp pid)) processes.new.entries ≡ option_map slain (lookup (is_at (nat_cmp pid)) processes.old.entries) }
-    ensures others { (q : ℕ) → is_at (nat_cmp pid) q ≡ false → lookup (is_at (nat_cmp q)) processes.new.entries ≡ lookup (is_at (nat_cmp q)) processes.old.entries }
-    ensures ordered { IsStrictlySortedBy nat_cmp (keys_of processes.old.entries) → IsStrictlySortedBy nat_cmp (keys_of processes.new.entries) }
+    ensures at { lookup (is_at (nat_cmp pid)) processes.new.entries
+        ≡ option_map slain (lookup (is_at (nat_cmp pid)) processes.old.entries) }
+    ensures others { (q : ℕ) → is_at (nat_cmp pid) q ≡ false
+        → lookup (is_at (nat_cmp q)) processes.new.entries ≡ lookup (is_at (nat_cmp q)) processes.old.entries }
+    ensures ordered { IsStrictlySortedBy nat_cmp (keys_of processes.old.entries)
+        → IsStrictlySortedBy nat_cmp (keys_of processes.new.entries) }
 {
     match processes.get_mut(&pid) {
         Some(process) => {

@@ -1,7 +1,7 @@
 //! A disk in memory.
 
 ghost use Rattle.std.specs.Prelude.{◌≡◌, ⊤, Some, IfOk, length, take, min, reverse};
-ghost use Rattle.persist_disk.specs.DiskModel.{written as written_lem};
+ghost use Rattle.persist_disk.specs.DiskModel as spec;
 ghost use Rattle.persist_disk.specs.Record.{content_after, left_now, reaches_back, read_is_left, unrecorded, LeftSince};
 
 use crate::disk::Disk;
@@ -86,7 +86,7 @@ fn copy_front(from: &[u8], to: &mut [u8]) -> usize
 
 /// Bytes with others written at a place. A place past the end is led up to by zeros.
 fn written(alloc: Global, old: &[u8], at: u64, bytes: &[u8]) -> Result<Vec<u8>, NoMemory>
-    ensures { IfOk result (λ new. new.items ≡ written_lem old.now at bytes.now) }
+    ensures { IfOk result (λ new. new.items ≡ spec.written old.now at bytes.now) }
 {
     let at = at as usize;
     let mut new = Vec::from_slice(alloc, &old[..at.min(old.len())])?;

@@ -1,8 +1,9 @@
 //! The types of saved values.
 
 ghost use Rattle.std.specs.Prelude.{◌≡◌};
-ghost use Rattle.persist_file.specs.Causes.{kind_named as kind_named_lem};
-ghost use Rattle.persist_file.specs.Store.{checked_by as checked_by_lem, kind_word as kind_word_lem, passes as passes_lem, saved_kind};
+ghost use Rattle.persist_file.specs.Causes as causes_spec;
+ghost use Rattle.persist_file.specs.Store.{saved_kind};
+ghost use Rattle.persist_file.specs.Store as store_spec;
 
 use init_machine::TypeKind;
 use prop_rules::check_type;
@@ -31,7 +32,7 @@ const ENUM: &[u8] = b"enum";
 
 /// The type that a word names.
 pub fn kind_named(word: &[u8]) -> Option<SavedKind>
-    ensures { result ≡ kind_named_lem word.now }
+    ensures { result ≡ causes_spec.kind_named word.now }
 {
     if word == ANY {
         Some(SavedKind::Any)
@@ -50,7 +51,7 @@ pub fn kind_named(word: &[u8]) -> Option<SavedKind>
 
 /// The word of a type.
 pub fn kind_word(kind: SavedKind) -> &'static [u8]
-    ensures { result.now ≡ kind_word_lem kind }
+    ensures { result.now ≡ store_spec.kind_word kind }
 {
     match kind {
         SavedKind::Any => ANY,
@@ -76,14 +77,14 @@ pub fn kind_of(kind: &TypeKind) -> SavedKind
 
 /// Whether a value passes a type.
 pub fn passes(kind: SavedKind, value: &[u8]) -> bool
-    ensures { result ≡ passes_lem kind value.now }
+    ensures { result ≡ store_spec.passes kind value.now }
 {
     check_type(&checked_by(kind), value)
 }
 
 /// The type by which values are checked.
 fn checked_by(kind: SavedKind) -> TypeKind
-    ensures { result ≡ checked_by_lem kind }
+    ensures { result ≡ store_spec.checked_by kind }
 {
     match kind {
         SavedKind::Any | SavedKind::Enum => TypeKind::Any,

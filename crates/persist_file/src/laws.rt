@@ -12,9 +12,12 @@ ghost use Rattle.persist_file.specs.declared.refusal.StoreCause.{StoreCause};
 
 pub fn each_text_has_one_reading()
     ensures pairs { (bytes : List ℕ) (pairs others : List Pair) → IsStore bytes pairs → IsStore bytes others → pairs ≡ others }
-    ensures line { (bytes : List ℕ) (line other : ℕ) (cause why : StoreCause) → IsUnfitAt bytes line cause → IsUnfitAt bytes other why → line ≡ other }
-    ensures cause { (bytes : List ℕ) (line other : ℕ) (cause why : StoreCause) → IsUnfitAt bytes line cause → IsUnfitAt bytes other why → cause ≡ why }
-    ensures not_both { (bytes : List ℕ) (pairs : List Pair) (line : ℕ) (cause : StoreCause) → IsStore bytes pairs → ¬ IsUnfitAt bytes line cause }
+    ensures line { (bytes : List ℕ) (line other : ℕ) (cause why : StoreCause) → IsUnfitAt bytes line cause
+        → IsUnfitAt bytes other why → line ≡ other }
+    ensures cause { (bytes : List ℕ) (line other : ℕ) (cause why : StoreCause) → IsUnfitAt bytes line cause
+        → IsUnfitAt bytes other why → cause ≡ why }
+    ensures not_both { (bytes : List ℕ) (pairs : List Pair) (line : ℕ) (cause : StoreCause) → IsStore bytes pairs
+        → ¬ IsUnfitAt bytes line cause }
     ensures one_of_both { (bytes : List ℕ) →
         ((pairs : List Pair) × IsStore bytes pairs) ⊎ ((line : ℕ) × (cause : StoreCause) × IsUnfitAt bytes line cause) }
     ensures example { TwoPairsAreRead }

@@ -2,7 +2,8 @@
 
 ghost use Rattle.std.specs.Prelude.{◌≡◌, ◌++◌, IsTrue, IfOk, OnOk};
 ghost use Rattle.init_base.specs.Name.{LegalName};
-ghost use Rattle.persist_file.specs.Store.{are_saved, are_typed, ended, entry_under, kind_under as kind_under_lem, line_text, store_text};
+ghost use Rattle.persist_file.specs.Store.{are_saved, are_typed, ended, entry_under, line_text, store_text};
+ghost use Rattle.persist_file.specs.Store as spec;
 ghost use Rattle.persist_file.specs.declared.version.Version.TheVariants.{Second};
 
 use crate::kind::{SavedKind, kind_of, kind_word};
@@ -46,7 +47,7 @@ fn print_pair(page: &mut Vec<u8>, pair: &Pair, policy: &Policy) -> Result<(), No
 
 /// The type of a name's context, as the store spells it.
 fn kind_under(policy: &Policy, name: PropName<'_>) -> SavedKind
-    ensures { result ≡ kind_under_lem policy.now name.entry.bytes.now }
+    ensures { result ≡ spec.kind_under policy.now name.entry.bytes.now }
 {
     kind_of(&policy.context_of(name).kind)
 }

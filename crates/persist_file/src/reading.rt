@@ -3,10 +3,12 @@
 ghost use Rattle.std.specs.Prelude.{◌≡◌, ◌≢◌, ◌+◌, ◌<◌, ◌≤◌, ◌&&◌, [], IfOk, IfErr, MatchResult, OnOk, length};
 ghost use Rattle.init_base.specs.Name.{is_legal_name};
 ghost use Rattle.init_base.specs.Value.{is_short_value};
-ghost use Rattle.init_machine.specs.Pairs.{is_before as is_before_lem};
-ghost use Rattle.persist_file.specs.Causes.{is_above as is_above_lem, last_name, line_reading, parts_at, value_in as value_in_lem, with_value, IsRefused};
+ghost use Rattle.init_machine.specs.Pairs as pairs_spec;
+ghost use Rattle.persist_file.specs.Causes.{last_name, line_reading, parts_at, with_value, IsRefused};
+ghost use Rattle.persist_file.specs.Causes as causes_spec;
 ghost use Rattle.persist_file.specs.Readings.{reading, rest_reading, text_reading, Answers};
-ghost use Rattle.persist_file.specs.Store.{is_saved_name as is_saved_name_lem, passes as passes_lem, IsStore};
+ghost use Rattle.persist_file.specs.Store.{IsStore};
+ghost use Rattle.persist_file.specs.Store as store_spec;
 
 use crate::kind::{SavedKind, kind_named, passes};
 use crate::refusal::{StoreCause, StoreRefusal};
@@ -80,7 +82,8 @@ fn take_line<'a>(
     requires some { bytes.now ≢ [] }
     requires few { length pairs.old ≤ 33554432 }
     ensures taken { MatchResult result
-        (λ behind. rest_reading version pairs.old (parts_at 10 bytes.entry.now) ≡ rest_reading version pairs.new (parts_at 10 behind.now))
+        (λ behind. rest_reading version pairs.old (parts_at 10 bytes.entry.now)
+        ≡ rest_reading version pairs.new (parts_at 10 behind.now))
         (λ refusal. Answers (Err refusal) (rest_reading version pairs.old (parts_at 10 bytes.entry.now))) }
     ensures shorter { IfOk result (λ behind. length behind.now < length bytes.entry.now) }
     ensures more { OnOk result (length pairs.new ≡ length pairs.old + 1) }
@@ -129,7 +132,7 @@ fn read_value(
     words: Words<'_>,
     kind: SavedKind,
 ) -> Result<Result<Pair, StoreCause>, NoMemory>
-    ensures { IfOk result (λ read. read ≡ with_value words.entry.name.now kind (value_in_lem version words.entry.value.now)) }
+    ensures { IfOk result (λ read. read ≡ with_value words.entry.name.now kind (causes_spec.value_in version words.entry.value.now)) }
 {
     let Some(value) = value_in(alloc, version, words.value)? else {
         return Ok(Err(StoreCause::Value));
@@ -144,7 +147,7 @@ fn read_value(
 }
 
 fn is_saved_name(name: &[u8]) -> bool
-    ensures { result ≡ is_saved_name_lem name.now }
+    ensures { result ≡ store_spec.is_saved_name name.now }
 {
     is_legal(name) && name.starts_with(PERSISTENT)
 }
@@ -158,14 +161,14 @@ pub fn is_legal(name: &[u8]) -> bool
 
 /// Whether a value is legal and passes its type.
 fn is_fit(kind: SavedKind, value: &[u8]) -> bool
-    ensures { result ≡ (is_short_value value.now && passes_lem kind value.now) }
+    ensures { result ≡ (is_short_value value.now && store_spec.passes kind value.now) }
 {
     PropValue::short(value).is_ok() && passes(kind, value)
 }
 
 /// Whether a name is above that of the last pair.
 fn is_above(pairs: &List<Pair>, name: &[u8]) -> bool
-    ensures { result ≡ is_above_lem (last_name pairs.now) name.now }
+    ensures { result ≡ causes_spec.is_above (last_name pairs.now) name.now }
 {
     match pairs.items().last() {
         Some(last) => is_before(last.name.bytes(), name),
@@ -175,7 +178,7 @@ fn is_above(pairs: &List<Pair>, name: &[u8]) -> bool
 
 /// Whether one text is before another in the order of bytes.
 fn is_before(text: &[u8], other: &[u8]) -> bool
-    ensures { result ≡ is_before_lem text.now other.now }
+    ensures { result ≡ pairs_spec.is_before text.now other.now }
 {
     text < other
 }

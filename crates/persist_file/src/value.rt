@@ -5,8 +5,9 @@ ghost use Rattle.std.specs.Fmt.{digit_glyph};
 ghost use Rattle.std.specs.List.{flat_map};
 ghost use Rattle.std.specs.Str.{bytes_eq};
 ghost use Rattle.hex.specs.Hex.{decode_of};
-ghost use Rattle.init_base.specs.Quoted.{is_plain as is_plain_lem, quoted, quoted_byte};
-ghost use Rattle.persist_file.specs.Causes.{hex_value as hex_value_lem, value_in as value_in_lem};
+ghost use Rattle.init_base.specs.Quoted.{quoted, quoted_byte};
+ghost use Rattle.init_base.specs.Quoted as quoted_spec;
+ghost use Rattle.persist_file.specs.Causes as causes_spec;
 ghost use Rattle.persist_file.specs.Store.{hex_text};
 
 use crate::version::Version;
@@ -19,7 +20,7 @@ const EMPTY: &[u8] = b"-";
 
 /// The value of a word. None exactly where its form isn't the version's.
 pub fn value_in(alloc: Global, version: Version, word: &[u8]) -> Result<Option<Text>, NoMemory>
-    ensures { IfOk result (λ value. value ≡ value_in_lem version word.now) }
+    ensures { IfOk result (λ value. value ≡ causes_spec.value_in version word.now) }
 {
     match version {
         Version::First => hex_value(alloc, word),
@@ -29,7 +30,7 @@ pub fn value_in(alloc: Global, version: Version, word: &[u8]) -> Result<Option<T
 
 /// The value that hexadecimal digits spell, where these are how it is written.
 fn hex_value(alloc: Global, word: &[u8]) -> Result<Option<Text>, NoMemory>
-    ensures { IfOk result (λ value. value ≡ hex_value_lem word.now) }
+    ensures { IfOk result (λ value. value ≡ causes_spec.hex_value word.now) }
 {
     if word == EMPTY {
         return Ok(Some(Text::empty()));
@@ -99,7 +100,7 @@ fn put_quoted_byte(page: &mut Vec<u8>, byte: u8) -> Result<(), NoMemory>
 
 /// Whether a byte stands for itself in q form.
 fn is_plain(byte: u8) -> bool
-    ensures { result ≡ is_plain_lem byte }
+    ensures { result ≡ quoted_spec.is_plain byte }
 {
     byte >= 0x21 && byte <= 0x7e && byte != b'%'
 }

@@ -1,7 +1,7 @@
 //! The versions of the store's text.
 
 ghost use Rattle.std.specs.Prelude.{◌≡◌};
-ghost use Rattle.persist_file.specs.Causes.{version_of as version_of_lem};
+ghost use Rattle.persist_file.specs.Causes as spec;
 
 /// A version of the store's text.
 #[derive(Clone, Copy)]
@@ -20,7 +20,7 @@ const SECOND: &[u8] = b"persist 2";
 
 /// The version of a first line.
 pub fn version_of(line: &[u8]) -> Option<Version>
-    ensures { result ≡ version_of_lem line.now }
+    ensures { result ≡ spec.version_of line.now }
 {
     if line == FIRST {
         Some(Version::First)

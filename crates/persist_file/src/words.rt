@@ -1,7 +1,8 @@
 //! The words of a line.
 
 ghost use Rattle.std.specs.Prelude.{◌≡◌, ◌<◌, ◌==◌, [], ◌∷◌, IfSome, MatchOption, length, position};
-ghost use Rattle.persist_file.specs.Causes.{filled as filled_lem, parts_at, three_words, words_in as words_in_lem};
+ghost use Rattle.persist_file.specs.Causes.{parts_at, three_words};
+ghost use Rattle.persist_file.specs.Causes as spec;
 
 use crate::version::Version;
 
@@ -18,8 +19,9 @@ const NO_KIND: &[u8] = b"any";
 
 /// The words of a line. None exactly where it hasn't the version's number of words, with one space between.
 pub fn words_in(version: Version, line: &[u8]) -> Option<Words<'_>>
-    ensures { MatchOption result (words_in_lem version line.entry.now ≡ None)
-        (λ words. words_in_lem version line.entry.now ≡ Some (record { name = words.name.now; kind = words.kind.now; value = words.value.now })) }
+    ensures { MatchOption result (spec.words_in version line.entry.now ≡ None)
+        (λ words. spec.words_in version line.entry.now
+        ≡ Some (record { name = words.name.now; kind = words.kind.now; value = words.value.now })) }
 {
     let (name, rest) = cut(line, b' ')?;
     match version {
@@ -57,7 +59,7 @@ fn words_of<'a>(name: &'a [u8], kind: &'a [u8], value: &'a [u8]) -> Option<Words
 
 /// Three words. None exactly where one is empty.
 fn filled<'a>(name: &'a [u8], kind: &'a [u8], value: &'a [u8]) -> Option<Words<'a>>
-    ensures { let words = filled_lem name.entry.now kind.entry.now value.entry.now in
+    ensures { let words = spec.filled name.entry.now kind.entry.now value.entry.now in
         MatchOption result (words ≡ None)
         (λ found. words ≡ Some (record { name = found.name.now; kind = found.kind.now; value = found.value.now })) }
 {

@@ -29,9 +29,11 @@ pub struct Asked<'a> {
 impl Equivalent<Pair> for Asked<'_> {
     ghost equivalent = { λ asked pair. is_pair_of asked.domain.bytes.now asked.label.bytes.now pair };
 
-    ghost respects_hash = { λ asked pair same. same_words (λ domain label. domain ∷ label ∷ []) asked.domain.bytes.now asked.label.bytes.now pair same };
+    ghost respects_hash = { λ asked pair same. same_words
+        (λ domain label. domain ∷ label ∷ []) asked.domain.bytes.now asked.label.bytes.now pair same };
 
-    ghost respects_eq = { λ asked x y same. same_words (λ domain label. bytes_eq domain y.domain && bytes_eq label y.label) asked.domain.bytes.now asked.label.bytes.now x same };
+    ghost respects_eq = { λ asked x y same. same_words
+        (λ domain label. bytes_eq domain y.domain && bytes_eq label y.label) asked.domain.bytes.now asked.label.bytes.now x same };
 
     fn equivalent(&self, pair: &Pair) -> bool {
         self.domain.bytes == pair.domain.bytes() && self.label.bytes == pair.label.bytes()
@@ -83,7 +85,8 @@ impl Allowances {
 /// Adds the pair of a line, if it isn't there.
 fn add_line(alloc: Global, pairs: &mut IndexSet<Pair>, line: &AllowLine) -> Result<(), NoMemory>
     ensures { OnOk result ((domain label : Items ℕ) →
-        list_any (is_pair_of domain label) pairs.new.keys ≡ (is_pair_for domain label line.now || list_any (is_pair_of domain label) pairs.old.keys)) }
+        list_any (is_pair_of domain label) pairs.new.keys
+        ≡ (is_pair_for domain label line.now || list_any (is_pair_of domain label) pairs.old.keys)) }
 {
     pairs.insert(Pair {
         domain: TextKey::of(alloc, line.domain.bytes())?,

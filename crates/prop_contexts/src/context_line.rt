@@ -2,7 +2,8 @@
 
 ghost use Rattle.std.specs.Prelude.{◌≡◌, Some, None, drop, IfOk, MatchOption};
 ghost use Rattle.prop_contexts.specs.Lines.{words_of};
-ghost use Rattle.prop_contexts.specs.Contexts.{kind_of, plain_type as plain_type_lem, reading_of, scope_of as scope_of_lem, type_of, line_of as line_of_lem};
+ghost use Rattle.prop_contexts.specs.Contexts.{kind_of, reading_of, type_of};
+ghost use Rattle.prop_contexts.specs.Contexts as spec;
 ghost use Rattle.prop_contexts.specs.Named.{seen};
 
 use crate::line::{Reading, all_words, first_word, is_comment};
@@ -67,7 +68,7 @@ pub fn read_line(alloc: Global, line: &[u8]) -> Result<Reading<NamedLine>, NoMem
 
 /// What a line says that begins with this name, by what stands behind it.
 fn read_named(alloc: Global, name: &[u8], rest: &[u8]) -> Result<Reading<NamedLine>, NoMemory>
-    ensures { IfOk result (λ reading. seen reading ≡ line_of_lem name.now (words_of rest.now)) }
+    ensures { IfOk result (λ reading. seen reading ≡ spec.line_of name.now (words_of rest.now)) }
 {
     let Some((label, rest)) = first_word(rest) else {
         return Ok(Reading::Bad);
@@ -104,7 +105,7 @@ fn first_scope(words: &[u8]) -> Option<(Scope, &[u8])>
 }
 
 fn scope_of(word: &[u8]) -> Option<Scope>
-    ensures { result ≡ scope_of_lem word.now }
+    ensures { result ≡ spec.scope_of word.now }
 {
     if word == EXACT {
         Some(Scope::Exact)
@@ -134,7 +135,7 @@ fn read_type(alloc: Global, words: &[u8]) -> Result<Option<TypeKind>, NoMemory>
 
 /// A type without values.
 fn plain_type(word: &[u8]) -> Option<TypeKind>
-    ensures { result ≡ plain_type_lem word.now }
+    ensures { result ≡ spec.plain_type word.now }
 {
     if word == STRING || word == DOUBLE || word == SIZE {
         Some(TypeKind::Any)

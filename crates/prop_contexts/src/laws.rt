@@ -16,7 +16,8 @@ pub fn each_text_has_one_reading()
     ensures not_both { (contexts allow : List ℕ) (policy : PolicyLines) (why : PolicyRefusal) →
         IsPolicy contexts allow policy → IsRefused contexts allow why → why ≡ NoMemory }
     ensures one_of_both { (contexts allow : List ℕ) →
-        ((policy : PolicyLines) × IsPolicy contexts allow policy) ⊎ ((why : PolicyRefusal) × IsRefused contexts allow why × (why ≢ NoMemory)) }
+        ((policy : PolicyLines) × IsPolicy contexts allow policy)
+        ⊎ ((why : PolicyRefusal) × IsRefused contexts allow why × (why ≢ NoMemory)) }
 {}
 
 /// Four lines, the contexts that they give to names, and the values of a type.

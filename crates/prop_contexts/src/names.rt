@@ -9,7 +9,7 @@ ghost use Rattle.std.specs.Option.{option_copied, option_map};
 ghost use Rattle.std.specs.Str.{bytes_eq};
 ghost use Rattle.init_machine.specs.Policy.{is_prefix_for, longest};
 ghost use Rattle.prop_contexts.specs.NameLines.{context_in, has_name, lines_in, named};
-ghost use Rattle.prop_contexts.specs.Digests.{digest_of as digest_of_lem, with_byte as with_byte_lem};
+ghost use Rattle.prop_contexts.specs.Digests as spec;
 ghost use Rattle.prop_contexts.specs.Walks.{IsWalked};
 
 use crate::digest_set::DigestSet;
@@ -78,7 +78,7 @@ impl Names {
 
     /// The context of the line for a name that has this digest. It takes no memory.
     pub fn get(&self, name: &[u8], digest: u64) -> Option<&Context>
-        requires { digest ≡ digest_of_lem name.now }
+        requires { digest ≡ spec.digest_of name.now }
         ensures { option_copied result ≡ context_in self.now name.now }
     {
         let place = self.digests.place(digest)?;
@@ -124,7 +124,8 @@ impl Names {
     /// The context of the longest line for a front of a name that was walked over. It takes no memory.
     pub fn longest(&self, walked: Walked<'_>) -> Option<&Context>
         requires { IsWalked self.now walked.name.now walked.digest walked.front }
-        ensures { option_copied result ≡ option_map (λ line. line.context) (longest (filter (is_prefix_for walked.entry.name.now) self.now)) }
+        ensures { option_copied result
+            ≡ option_map (λ line. line.context) (longest (filter (is_prefix_for walked.entry.name.now) self.now)) }
     {
         let place = walked.front.place?;
         let front = &walked.name[..walked.front.len];
@@ -143,8 +144,10 @@ fn put(
     context: Context,
 ) -> Result<bool, NoMemory>
     ensures fresh { IfOk result (λ fresh. fresh ≡ not (has_name (lines_in contexts.old) name.items)) }
-    ensures added { IfOk result (λ fresh. IsTrue fresh → lines_in contexts.new ≡ lines_in contexts.old ++ named name.items context ∷ []) }
-    ensures names { OnOk result ((other : List ℕ) → has_name (lines_in contexts.new) other ≡ (bytes_eq other name.items || has_name (lines_in contexts.old) other)) }
+    ensures added { IfOk result
+        (λ fresh. IsTrue fresh → lines_in contexts.new ≡ lines_in contexts.old ++ named name.items context ∷ []) }
+    ensures names { OnOk result ((other : List ℕ)
+        → has_name (lines_in contexts.new) other ≡ (bytes_eq other name.items || has_name (lines_in contexts.old) other)) }
     ensures err { OnErr result (lines_in contexts.new ≡ lines_in contexts.old) }
 {
     Ok(contexts.insert(TextKey::from_vec(name), context)?.is_none())
@@ -163,7 +166,7 @@ fn later_front(known: Front, len: usize, place: Option<usize>) -> Front
 
 /// The digest of a text.
 fn digest_of(text: &[u8]) -> u64
-    ensures { result ≡ digest_of_lem text.now }
+    ensures { result ≡ spec.digest_of text.now }
 {
     let mut digest = 0;
     for byte in text {
@@ -174,7 +177,7 @@ fn digest_of(text: &[u8]) -> u64
 
 /// The digest of a text with a byte more behind it.
 fn with_byte(digest: u64, byte: u8) -> u64
-    ensures { result ≡ with_byte_lem digest byte }
+    ensures { result ≡ spec.with_byte digest byte }
 {
     digest.wrapping_mul(FACTOR).wrapping_add(u64::from(byte))
 }

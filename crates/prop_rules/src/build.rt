@@ -1,7 +1,8 @@
 //! The pairs of build files (AOSP, `build.prop`). The rules are in `specs/Build.antt`.
 
 ghost use Rattle.std.specs.Prelude.{◌≡◌, ◌<◌, ◌≤◌, ◌+◌, ◌++◌, ◌∷◌, ◌==◌, position, IfOk, OnOk, length};
-ghost use Rattle.prop_rules.specs.Build.{build_line as build_line_lem, faults_in, is_blank as is_blank_lem, is_line_feed, IsBuildFile, lines_of, pairs_in, parted_at, trimmed as trimmed_lem, with_name, without_first_blanks as without_first_blanks_lem, without_last_blanks as without_last_blanks_lem};
+ghost use Rattle.prop_rules.specs.Build.{faults_in, is_line_feed, IsBuildFile, lines_of, pairs_in, parted_at, with_name};
+ghost use Rattle.prop_rules.specs.Build as spec;
 
 use init_base::{List, NoMemory, Text};
 use init_machine::{DiagKind, Diagnostic, Pair};
@@ -71,7 +72,7 @@ fn add_line(
 }
 
 fn read_line(alloc: Global, line: &[u8]) -> Result<BuildLine, NoMemory>
-    ensures { IfOk result (λ said. said ≡ build_line_lem line.now) }
+    ensures { IfOk result (λ said. said ≡ spec.build_line line.now) }
 {
     let line = without_first_blanks(line);
     match line {
@@ -130,13 +131,13 @@ fn line_end(bytes: &[u8]) -> Option<usize>
 }
 
 fn trimmed(text: &[u8]) -> &[u8]
-    ensures { result.now ≡ trimmed_lem text.entry.now }
+    ensures { result.now ≡ spec.trimmed text.entry.now }
 {
     without_last_blanks(without_first_blanks(text))
 }
 
 fn without_first_blanks(text: &[u8]) -> &[u8]
-    ensures { result.now ≡ without_first_blanks_lem text.entry.now }
+    ensures { result.now ≡ spec.without_first_blanks text.entry.now }
 {
     let mut rest = text;
     while let [first, behind @ ..] = rest {
@@ -149,7 +150,7 @@ fn without_first_blanks(text: &[u8]) -> &[u8]
 }
 
 fn without_last_blanks(text: &[u8]) -> &[u8]
-    ensures { result.now ≡ without_last_blanks_lem text.entry.now }
+    ensures { result.now ≡ spec.without_last_blanks text.entry.now }
 {
     let mut rest = text;
     while let [before @ .., last] = rest {
@@ -162,7 +163,7 @@ fn without_last_blanks(text: &[u8]) -> &[u8]
 }
 
 fn is_blank(byte: u8) -> bool
-    ensures { result ≡ is_blank_lem byte }
+    ensures { result ≡ spec.is_blank byte }
 {
     matches!(byte, b' ' | b'\t' | b'\r')
 }

@@ -3,7 +3,8 @@
 ghost use Rattle.std.specs.Prelude.{◌≡◌, ◌+◌, ◌<◌, ◌≤◌, length, Ok, IfOk, not, ◌==◌};
 ghost use Rattle.std.specs.List.{list_all};
 ghost use Rattle.init_base.specs.Value.{max_value_len};
-ghost use Rattle.init_machine.specs.Expand.{expand as expand_lem, joined, piece_value, values_of, pieces_of, within_limit};
+ghost use Rattle.init_machine.specs.Expand.{joined, piece_value, values_of, pieces_of, within_limit};
+ghost use Rattle.init_machine.specs.Expand as spec;
 ghost use Rattle.init_machine.specs.Props.{value_in};
 ghost use Rattle.prop_rules.specs.Answers.{IsExpansion, IsAppended, AppendsValue};
 ghost use Rattle.prop_rules.specs.Pieces.{meant, piece_at};
@@ -101,7 +102,8 @@ fn append_dollar<S: PropStore>(
     dollar: Dollar<'_>,
     out: &mut Vec<u8>,
 ) -> Result<(), ExpandRefusal>
-    ensures value { IsAppended result out.new.items (joined (Ok out.old.items) (piece_value (value_in (S.meaning store.old)) place (meant dollar.entry))) }
+    ensures value { IsAppended result out.new.items
+        (joined (Ok out.old.items) (piece_value (value_in (S.meaning store.old)) place (meant dollar.entry))) }
     ensures same { S.meaning store.new ≡ S.meaning store.old }
     ensures told { S.told store.new ≡ S.told store.old }
     ensures spare { S.spare store.new ≡ S.spare store.old }
@@ -135,7 +137,8 @@ fn append_piece<S: PropStore>(
     out: &mut Vec<u8>,
 ) -> Result<usize, ExpandRefusal>
     requires { place < length text.now }
-    ensures value { IsAppended result out.new.items (joined (Ok out.old.items) (piece_value (value_in (S.meaning store.old)) place (piece_at text.now place).piece)) }
+    ensures value { IsAppended result out.new.items
+        (joined (Ok out.old.items) (piece_value (value_in (S.meaning store.old)) place (piece_at text.now place).piece)) }
     ensures written { IfOk result (λ written. written ≡ (piece_at text.now place).length) }
     ensures some { IfOk result (λ written. 1 ≤ written) }
     ensures within { IfOk result (λ written. place + written ≤ length text.now) }
@@ -161,7 +164,8 @@ fn append_all<S: PropStore>(
     text: &[u8],
     out: &mut Vec<u8>,
 ) -> Result<(), ExpandRefusal>
-    ensures value { IsAppended result out.new.items (joined (Ok out.old.items) (values_of (value_in (S.meaning store.old)) (pieces_of text.now))) }
+    ensures value { IsAppended result out.new.items
+        (joined (Ok out.old.items) (values_of (value_in (S.meaning store.old)) (pieces_of text.now))) }
     ensures same { S.meaning store.new ≡ S.meaning store.old }
     ensures told { S.told store.new ≡ S.told store.old }
     ensures spare { S.spare store.new ≡ S.spare store.old }
@@ -202,7 +206,7 @@ pub fn expand<S: PropStore>(
     text: &Text,
     store: &mut S,
 ) -> Result<Text, ExpandRefusal>
-    ensures answer { IsExpansion result (expand_lem (value_in (S.meaning store.old)) text.now) }
+    ensures answer { IsExpansion result (spec.expand (value_in (S.meaning store.old)) text.now) }
     ensures same { S.meaning store.new ≡ S.meaning store.old }
     ensures told { S.told store.new ≡ S.told store.old }
     ensures spare { S.spare store.new ≡ S.spare store.old }

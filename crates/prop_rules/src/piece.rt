@@ -1,7 +1,7 @@
 //! What a `$` in a text begins (`behind_dollar` of `init_machine`'s `specs/Expand.antt`).
 
 ghost use Rattle.std.specs.Prelude.{◌≡◌, ◌+◌, ◌<◌, ◌≤◌, ◌==◌, length, position, IfSome};
-ghost use Rattle.init_machine.specs.Expand.{default_place as default_place_lem, braced as braced_lem, behind_brace as behind_brace_lem, behind_dollar as behind_dollar_lem};
+ghost use Rattle.init_machine.specs.Expand as spec;
 ghost use Rattle.prop_rules.specs.Pieces.{meant};
 
 use init_base::PropName;
@@ -23,7 +23,7 @@ const ON_DEFAULT: &[u8] = b":-";
 
 /// The place of the first `:-`, or the length where there is none.
 fn default_place(inside: &[u8]) -> usize
-    ensures place { result ≡ default_place_lem inside.now }
+    ensures place { result ≡ spec.default_place inside.now }
     ensures within { result ≤ length inside.now }
     ensures fits { result < length inside.now → result + 2 ≤ length inside.now }
 {
@@ -37,7 +37,7 @@ fn default_place(inside: &[u8]) -> usize
 
 /// What stands between the braces.
 fn braced(inside: &[u8]) -> Dollar<'_>
-    ensures { meant result ≡ braced_lem inside.entry.now }
+    ensures { meant result ≡ spec.braced inside.entry.now }
 {
     let place = default_place(inside);
     let Some(name) = PropName::of(&inside[..place]) else {
@@ -60,8 +60,8 @@ fn close_of(text: &[u8]) -> Option<usize>
 
 /// What `${` begins, where the text stands behind it, and how many bytes it is written with.
 fn behind_brace(text: &[u8]) -> (Dollar<'_>, usize)
-    ensures piece { meant result.0 ≡ (behind_brace_lem text.entry.now).piece }
-    ensures written { result.1 ≡ (behind_brace_lem text.entry.now).length }
+    ensures piece { meant result.0 ≡ (spec.behind_brace text.entry.now).piece }
+    ensures written { result.1 ≡ (spec.behind_brace text.entry.now).length }
     ensures some { 1 ≤ result.1 }
     ensures within { result.1 ≤ length text.entry.now + 2 }
 {
@@ -73,8 +73,8 @@ fn behind_brace(text: &[u8]) -> (Dollar<'_>, usize)
 
 /// What a `$` begins, where the text stands behind it, and how many bytes it is written with.
 pub fn behind_dollar(text: &[u8]) -> (Dollar<'_>, usize)
-    ensures piece { meant result.0 ≡ (behind_dollar_lem text.entry.now).piece }
-    ensures written { result.1 ≡ (behind_dollar_lem text.entry.now).length }
+    ensures piece { meant result.0 ≡ (spec.behind_dollar text.entry.now).piece }
+    ensures written { result.1 ≡ (spec.behind_dollar text.entry.now).length }
     ensures some { 1 ≤ result.1 }
     ensures within { result.1 ≤ length text.entry.now + 1 }
 {

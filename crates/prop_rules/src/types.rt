@@ -1,7 +1,8 @@
 //! The types of values (AOSP, property_contexts).
 
 ghost use Rattle.std.specs.Prelude.{◌≡◌};
-ghost use Rattle.init_machine.specs.Typed.{has_form as has_form_lem, is_int as is_int_lem, is_one_of as is_one_of_lem, is_typed, is_uint as is_uint_lem};
+ghost use Rattle.init_machine.specs.Typed.{is_typed};
+ghost use Rattle.init_machine.specs.Typed as spec;
 
 use init_base::{List, Text};
 use init_machine::{TypeKind, decimal};
@@ -17,7 +18,7 @@ const PAST_UINT: u128 = 1 << 64;
 const PAST_INT: u128 = 1 << 63;
 
 fn is_uint(text: &[u8]) -> bool
-    ensures { result ≡ is_uint_lem text.now }
+    ensures { result ≡ spec.is_uint text.now }
 {
     match decimal(MOST_UINT_DIGITS, text) {
         Some(number) => number < PAST_UINT,
@@ -26,7 +27,7 @@ fn is_uint(text: &[u8]) -> bool
 }
 
 fn is_int(text: &[u8]) -> bool
-    ensures { result ≡ is_int_lem text.now }
+    ensures { result ≡ spec.is_int text.now }
 {
     match text {
         [] => false,
@@ -42,13 +43,13 @@ fn is_int(text: &[u8]) -> bool
 }
 
 fn is_bool(text: &[u8]) -> bool
-    ensures { result ≡ has_form_lem TypeKind.Bool text.now }
+    ensures { result ≡ spec.has_form TypeKind.Bool text.now }
 {
     matches!(text, b"0" | b"1" | b"false" | b"true")
 }
 
 fn is_one_of(texts: &List<Text>, text: &[u8]) -> bool
-    ensures { result ≡ is_one_of_lem texts.now text.now }
+    ensures { result ≡ spec.is_one_of texts.now text.now }
 {
     texts.items().iter().any(|one| one.is(text))
 }

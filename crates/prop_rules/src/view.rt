@@ -5,7 +5,7 @@ ghost use Rattle.std.specs.Prelude.{◌≡◌, ◌∷◌, ℕ, List as Items, If
 ghost use Rattle.init_base.specs.Value.{LegalValue};
 ghost use Rattle.init_machine.specs.Props.{is_absent, lookup_in, value_in, with_set};
 ghost use Rattle.init_machine.specs.declared.config.Pair.{Pair as AnyPair};
-ghost use Rattle.prop_rules.specs.View.{view as view_lem};
+ghost use Rattle.prop_rules.specs.View as spec;
 ghost use Rattle.prop_rules.specs.Code.Views.{Shows, with_legal};
 
 use init_base::{List, NoMemory, PropName, PropValue};
@@ -19,7 +19,7 @@ const CAPACITY: u64 = u64::MAX;
 /// The store in which each name has the value of its last pair, where that pair's name and value are legal. It takes the
 /// time of the pairs. A view that takes more words than can be counted is want of memory.
 pub fn boot_view(alloc: Global, pairs: &List<Pair>) -> Result<ListStore, NoMemory>
-    ensures { IfOk result (λ store. (name : Items ℕ) → value_in store.props name ≡ view_lem pairs.now name) }
+    ensures { IfOk result (λ store. (name : Items ℕ) → value_in store.props name ≡ spec.view pairs.now name) }
 {
     let mut decided = TextIndex::new(alloc);
     let mut view = ListStore::new(alloc, CAPACITY)?;
@@ -40,7 +40,8 @@ fn take_earlier(
     pair: &Pair,
 ) -> Result<(), NoMemory>
     requires { (taken : Items AnyPair) × Shows decided.old view.old.props taken }
-    ensures { OnOk result ((later : Items AnyPair) → Shows decided.old view.old.props later → Shows decided.new view.new.props (pair.now ∷ later)) }
+    ensures { OnOk result ((later : Items AnyPair) → Shows decided.old view.old.props later
+        → Shows decided.new view.new.props (pair.now ∷ later)) }
 {
     let name = pair.name.bytes();
     if decided.place(name).is_some() {

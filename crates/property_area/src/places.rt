@@ -54,7 +54,8 @@ impl Places {
     }
 
     fn try_note(&mut self, name: &[u8], place: usize) -> Result<(), NoMemory>
-        ensures noted { OnOk result ((other : Items ℕ) → place_in self.new other ≡ (if bytes_eq name.now other then Some place else place_in self.old other)) }
+        ensures noted { OnOk result ((other : Items ℕ)
+            → place_in self.new other ≡ (if bytes_eq name.now other then Some place else place_in self.old other)) }
         ensures same { OnErr result ((other : Items ℕ) → place_in self.new other ≡ place_in self.old other) }
         ensures whole { self.new.whole ≡ self.old.whole }
     {

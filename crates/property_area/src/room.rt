@@ -3,7 +3,7 @@
 ghost use Rattle.std.specs.Prelude.{◌≡◌, ◌+◌, nat_lt, not};
 ghost use Rattle.std.specs.Result.{result_err};
 ghost use Rattle.init_machine.specs.Kept.Room.{full_with, numbers_full};
-ghost use Rattle.init_machine.specs.Words.{cell_words as cell_words_lem};
+ghost use Rattle.init_machine.specs.Words as spec;
 ghost use Rattle.property_area.specs.Room.{some_need};
 
 use init_machine::{Full, cell_words};
@@ -16,7 +16,7 @@ const MOST_NODE_WORDS: u64 = 9472;
 
 /// Whether there are words left for any name with a value of so many bytes.
 pub(crate) fn has_room_for_any(used: u64, len: usize, capacity: u64) -> bool
-    ensures { result ≡ not (nat_lt capacity (used + (9472 + cell_words_lem len))) }
+    ensures { result ≡ not (nat_lt capacity (used + (9472 + spec.cell_words len))) }
 {
     !is_past(used, MOST_NODE_WORDS + cell_words(len), capacity)
 }

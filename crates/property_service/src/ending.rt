@@ -53,7 +53,8 @@ impl<'a, N: AreaName> Desk<'a, N> {
     /// reader among those that are given, with the least such client. At `Missing` too those that are given have their parts.
     pub fn finish(self, readers: List<Reader>) -> Result<Closed, FinishRefusal>
         requires area { All (λ reader. reader.table ≡ N.area) readers }
-        ensures seat { IfOk result (λ closed. (closed.seat.table ≡ N.area) × (closed.seat.view ≡ taking_all self.entry.seat readers)) }
+        ensures seat { IfOk result
+            (λ closed. (closed.seat.table ≡ N.area) × (closed.seat.view ≡ taking_all self.entry.seat readers)) }
         ensures saved { IfOk result (λ closed. (closed.saved ≡ (state_after self.entry).saved)
             × (closed.saving ≡ (state_after self.entry).saving)) }
         ensures policy { IfOk result (λ closed. closed.policy ≡ self.entry.opening.policy) }
@@ -75,7 +76,8 @@ impl<'a, N: AreaName> Desk<'a, N> {
     fn close(self, readers: List<Reader>) -> Result<Closed, FinishRefusal>
         requires ready { self.spent ≡ false }
         requires area { All (λ reader. reader.table ≡ N.area) readers }
-        ensures seat { IfOk result (λ closed. (closed.seat.table ≡ N.area) × (closed.seat.view ≡ taking_all self.entry.seat readers)) }
+        ensures seat { IfOk result
+            (λ closed. (closed.seat.table ≡ N.area) × (closed.seat.view ≡ taking_all self.entry.seat readers)) }
         ensures saved { IfOk result (λ closed. (closed.saved ≡ (state_after self.entry).saved)
             × (closed.saving ≡ (state_after self.entry).saving)) }
         ensures policy { IfOk result (λ closed. closed.policy ≡ self.entry.opening.policy) }

@@ -3,7 +3,7 @@
 ghost use Rattle.std.specs.Prelude.{◌≡◌, ◌+◌, ◌<◌, ◌≤◌, ◌^◌, [], drop, length, None, IsTrue};
 ghost use Rattle.init_base.specs.Name.{LegalName};
 ghost use Rattle.init_base.specs.Value.{LegalValue, max_value_len};
-ghost use Rattle.init_machine.specs.Words.{cell_words as cell_words_lem};
+ghost use Rattle.init_machine.specs.Words as spec;
 ghost use Rattle.serial_value.specs.declared.view.CellView.TheVariants.{Writer};
 ghost use Rattle.serial_value.specs.Cell.{sets_of};
 ghost use Rattle.serial_value.specs.Steps.{IsSameSeat, HasCell};
@@ -58,7 +58,7 @@ fn word_of_node(part: &[u8], k: usize) -> u64
 fn word_of_cell(number: u64, value: &[u8], k: usize) -> u64
     requires within { length value.now ≤ 8191 }
     requires number { number < 2 ^ 55 }
-    requires inside { k < cell_words_lem (length value.now) }
+    requires inside { k < spec.cell_words (length value.now) }
     ensures { result ≡ new_cell_word number value.now k }
 {
     if k == 0 {
@@ -103,7 +103,7 @@ fn store_cell<V, K, R: TrieRule<V, K>, Q: Added>(
 )
     requires table { SitsAt seat.old table.now.shared.table_id (R.words seat.old.me.0) }
     requires place { (place ≡ free_place (sets_of (R.cell seat.old.me.0)) Q.name Q.linked)
-        × (place + cell_words_lem (length value.now) ≤ table.now.shared.table_id.words) }
+        × (place + spec.cell_words (length value.now) ≤ table.now.shared.table_id.words) }
     requires adds { R.Settled seat.old.me.0
         × IsAdding (R.cell seat.old.me.0) (R.trie seat.old.me.0) Q.name Q.linked [] }
     requires value { (length value.now ≤ 8191) × (number < 2 ^ 55) }
@@ -215,7 +215,8 @@ fn add_as<V, K, R: TrieRule<V, K>, Q: Added>(
     requires number { (number ≡ length (sets_of (R.cell seat.old.me.0)) + 1) × (number < 2 ^ 55) }
     requires missing { IsMissing table.now.shared.table_id.words (sets_of (R.cell seat.old.me.0)) Q.name missing }
     requires mark { mark ≡ mark_of (sets_of (R.cell seat.old.me.0)) }
-    requires room { new_place (sets_of (R.cell seat.old.me.0)) Q.name + cell_words_lem (length value.now) ≤ table.now.shared.table_id.words }
+    requires room { new_place (sets_of (R.cell seat.old.me.0)) Q.name + spec.cell_words
+        (length value.now) ≤ table.now.shared.table_id.words }
     ensures seat { IsSameSeat seat.old seat.new }
     ensures place { result ≡ new_place (sets_of (R.cell seat.old.me.0)) Q.name }
     ensures view { seat.new.me
@@ -254,7 +255,7 @@ pub fn add<V, K, R: TrieRule<V, K>>(
     requires missing { IsMissing table.now.shared.table_id.words (sets_of (R.cell seat.old.me.0)) name.bytes.now missing }
     requires mark { mark ≡ mark_of (sets_of (R.cell seat.old.me.0)) }
     requires room { new_place (sets_of (R.cell seat.old.me.0)) name.bytes.now
-        + cell_words_lem (length value.bytes.now) ≤ table.now.shared.table_id.words }
+        + spec.cell_words (length value.bytes.now) ≤ table.now.shared.table_id.words }
     ensures seat { IsSameSeat seat.old seat.new }
     ensures place { result ≡ new_place (sets_of (R.cell seat.old.me.0)) name.entry.bytes.now }
     ensures view { seat.new.me

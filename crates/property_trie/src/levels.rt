@@ -10,7 +10,8 @@ ghost use Rattle.std.specs.Option.{option_copied, option_map};
 ghost use Rattle.std.specs.Str.{bytes_eq};
 ghost use Rattle.init_machine.specs.Sets.{Set};
 ghost use Rattle.property_trie.specs.Siblings.{with_node};
-ghost use Rattle.property_trie.specs.Levels.{front_of as front_of_lem, level_as, level_noted, noted_at, noted_below, AreLevels, BeginsPart, ChangesLevel, Grows, LinkedAt};
+ghost use Rattle.property_trie.specs.Levels.{level_as, level_noted, noted_at, noted_below, AreLevels, BeginsPart, ChangesLevel, Grows, LinkedAt};
+ghost use Rattle.property_trie.specs.Levels as spec;
 
 use crate::level::Level;
 use crate::part::node_size;
@@ -36,7 +37,7 @@ pub struct Levels {
 /// The front of a name before the part that begins at this byte.
 fn front_of(name: &[u8], from: usize) -> Option<&[u8]>
     requires { from ≤ length name.now }
-    ensures { option_copied result ≡ front_of_lem from name.now }
+    ensures { option_copied result ≡ spec.front_of from name.now }
 {
     if from == 0 {
         return None;
@@ -107,7 +108,8 @@ impl Levels {
     /// Notes the level below a front.
     fn put(&mut self, front: &[u8], level: Level) -> Result<(), NoMemory>
         ensures top { OnOk result (self.new.top ≡ self.old.top) }
-        ensures below { OnOk result ((other : Items ℕ) → noted_below self.new.below other ≡ (if bytes_eq front.now other then Some level else noted_below self.old.below other)) }
+        ensures below { OnOk result ((other : Items ℕ) → noted_below self.new.below other
+            ≡ (if bytes_eq front.now other then Some level else noted_below self.old.below other)) }
     {
         let Some(below) = &mut self.below else {
             return Err(NoMemory);
@@ -125,7 +127,8 @@ impl Levels {
         part: &[u8],
         place: usize,
     ) -> Result<(), NoMemory>
-        ensures { OnOk result (ChangesLevel (option_copied front.entry) (option_map (with_node part.now place) (level_noted self.old (option_copied front.entry))) self.old self.new) }
+        ensures { OnOk result (ChangesLevel (option_copied front.entry)
+            (option_map (with_node part.now place) (level_noted self.old (option_copied front.entry))) self.old self.new) }
     {
         let Some(front) = front else {
             let Some(level) = &mut self.top else {
@@ -261,7 +264,8 @@ fn add_below(
 ) -> Result<(), NoMemory>
     ensures own { OnOk result (option_map level_as (get_by (bytes_eq front.now) below.new)
         ≡ option_map (with_node part.now place) (option_map level_as (get_by (bytes_eq front.now) below.old))) }
-    ensures others { OnOk result ((other : Items ℕ) → bytes_eq front.now other ≡ false → get_by (bytes_eq other) below.new ≡ get_by (bytes_eq other) below.old) }
+    ensures others { OnOk result ((other : Items ℕ) → bytes_eq front.now other ≡ false
+        → get_by (bytes_eq other) below.new ≡ get_by (bytes_eq other) below.old) }
 {
     let Some(level) = below.get_mut(Spelled { bytes: front }) else {
         return Ok(());

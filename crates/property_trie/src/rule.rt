@@ -86,7 +86,8 @@ pub trait TrieRule<V, K>: CellRule<V, K> {
 
     ghost words_stay: { (v : V) (t : TrieView) → Self.words (with_trie v t) ≡ Self.words v };
 
-    ghost list_beside: { (v : V) (t : TrieView) → (Self.list (with_trie v t) ≡ Self.list v) × (Self.began (with_trie v t) ≡ Self.began v) };
+    ghost list_beside: { (v : V) (t : TrieView)
+        → (Self.list (with_trie v t) ≡ Self.list v) × (Self.began (with_trie v t) ≡ Self.began v) };
 
     /// A cell that a live seat has found is linked.
     ghost known_linked: { (v : V) (name : List ℕ) (place : ℕ) →
@@ -99,7 +100,8 @@ pub trait TrieRule<V, K>: CellRule<V, K> {
     ghost followed_link: { (key : K) (slots id : ℕ) (m : Me Unit V) (name : List ℕ) (link : ℕ) (rest : List (List ℕ)) →
         LeadsTo (trie m.0) name link rest →
         Allows (Self.holds key) slots id m link (λ n. n)
-        (λ n after. (after.1 ≡ m.1) × Follows with_trie Self.noted (Self.words m.0) (Self.cell m.0) (trie m.0) m.0 name link rest n after.0) };
+        (λ n after. (after.1 ≡ m.1)
+        × Follows with_trie Self.noted (Self.words m.0) (Self.cell m.0) (trie m.0) m.0 name link rest n after.0) };
 
     /// It loads the length of the part of the node that it stands at.
     ghost node_length: { (key : K) (slots id : ℕ) (m : Me Unit V) (place : ℕ) →

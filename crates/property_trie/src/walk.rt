@@ -191,7 +191,8 @@ pub fn find<V, K, R: TrieRule<V, K>>(
     ensures seat { IsSameSeat seat.old seat.new × (seat.new.me.1 ≡ seat.old.me.1) }
     ensures found { let v = seat.old.me.0 in
         Finds R.with_trie R.noted (R.words v) (R.cell v) (R.trie v) v name.entry.bytes.now result seat.new.me.0 }
-    ensures linked { IfSome result (λ place. HasCell table.now.shared.table_id place × R.Linked seat.new.me.0 name.entry.bytes.now place) }
+    ensures linked { IfSome result
+        (λ place. HasCell table.now.shared.table_id place × R.Linked seat.new.me.0 name.entry.bytes.now place) }
 {
     find_as::<V, K, R, Brand>(table, seat, name.bytes)
 }

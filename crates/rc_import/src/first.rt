@@ -6,9 +6,10 @@ ghost use Rattle.init_base.specs.Faults.{Counted};
 ghost use Rattle.init_machine.specs.Props.{value_in};
 ghost use Rattle.init_machine.specs.WellFormed.{IsWellFormed};
 ghost use Rattle.rc_import.specs.Answers.{HasItsNumber, IsAnswer, is_read_fault};
-ghost use Rattle.rc_import.specs.Limits.{diagnostics_of, loaded as loaded_lem};
+ghost use Rattle.rc_import.specs.Limits.{diagnostics_of};
+ghost use Rattle.rc_import.specs.Limits as limits_spec;
 ghost use Rattle.rc_import.specs.Order.{at_first, directories, in_directory};
-ghost use Rattle.rc_import.specs.Paths.{file_in as file_in_lem};
+ghost use Rattle.rc_import.specs.Paths as paths_spec;
 ghost use Rattle.rc_import.specs.Stores.{IsKept};
 ghost use Rattle.rc_import.specs.World.{IsWorld, World};
 ghost use Rattle.rc_import.specs.Code.Steps.{Follows, FollowsFile, IsGatheredOf};
@@ -47,7 +48,8 @@ pub fn load<F: Files, S: PropStore>(
     props: &mut S,
 ) -> Result<Loaded, LoadRefusal>
     // What is loaded, or why nothing is, where the tree is told.
-    ensures loaded { (world : World) → IsWorld (F.tree files.old) (value_in (S.meaning props.old)) world → IsAnswer result (loaded_lem world) }
+    ensures loaded { (world : World) → IsWorld (F.tree files.old) (value_in (S.meaning props.old)) world
+        → IsAnswer result (limits_spec.loaded world) }
     ensures well_formed { IfOk result (λ loaded. IsWellFormed loaded.config) }
     ensures number { HasItsNumber result }
     ensures tree { F.tree files.new ≡ F.tree files.old }
@@ -70,7 +72,7 @@ pub fn diagnose<F: Files, S: PropStore>(
 ) -> Result<List<Diagnostic>, LoadRefusal>
     // The diagnostics of what is loaded, or why nothing is, where the tree is told.
     ensures diagnostics { (world : World) → IsWorld (F.tree files.old) (value_in (S.meaning props.old)) world →
-        IsAnswer result (diagnostics_of (loaded_lem world)) }
+        IsAnswer result (diagnostics_of (limits_spec.loaded world)) }
     ensures number { HasItsNumber result }
     ensures tree { F.tree files.new ≡ F.tree files.old }
     ensures cause { Counted (is_read_fault result) (F.fault_count files.old) (F.fault_count files.new) }
@@ -86,7 +88,8 @@ fn gather<F: Files, S: PropStore, G: Gathers>(
     files: &mut F,
     props: &mut S,
 ) -> Result<(G, List<Diagnostic>), LoadRefusal>
-    ensures gathered { (world : World) → IsWorld (F.tree files.old) (value_in (S.meaning props.old)) world → IsGatheredOf G.holds result (loaded_lem world) }
+    ensures gathered { (world : World) → IsWorld (F.tree files.old) (value_in (S.meaning props.old)) world
+        → IsGatheredOf G.holds result (limits_spec.loaded world) }
     ensures number { HasItsNumber result }
     ensures tree { F.tree files.new ≡ F.tree files.old }
     ensures cause { Counted (is_read_fault result) (F.fault_count files.old) (F.fault_count files.new) }
@@ -108,7 +111,8 @@ fn follow_directories<F: Files, S: PropStore, G: Gathers>(
     props: &mut S,
     loading: Loading<G>,
 ) -> Result<Loading<G>, LoadRefusal>
-    ensures order { Follows G.holds (F.tree files.old) (value_in (S.meaning props.old)) loading result (λ world. flat_map (in_directory world) directories) }
+    ensures order { Follows G.holds (F.tree files.old) (value_in (S.meaning props.old)) loading result
+        (λ world. flat_map (in_directory world) directories) }
     ensures number { HasItsNumber result }
     ensures tree { F.tree files.new ≡ F.tree files.old }
     ensures cause { Counted (is_read_fault result) (F.fault_count files.old) (F.fault_count files.new) }
@@ -130,7 +134,8 @@ fn follow_directory<F: Files, S: PropStore, G: Gathers>(
     loading: Loading<G>,
     dir: &Text,
 ) -> Result<Loading<G>, LoadRefusal>
-    ensures order { Follows G.holds (F.tree files.old) (value_in (S.meaning props.old)) loading result (λ world. in_directory world dir.now) }
+    ensures order { Follows G.holds (F.tree files.old) (value_in (S.meaning props.old)) loading result
+        (λ world. in_directory world dir.now) }
     ensures number { HasItsNumber result }
     ensures tree { F.tree files.new ≡ F.tree files.old }
     ensures cause { Counted (is_read_fault result) (F.fault_count files.old) (F.fault_count files.new) }
@@ -151,7 +156,8 @@ fn follow_names<F: Files, S: PropStore, G: Gathers>(
     dir: &Text,
     names: List<Text>,
 ) -> Result<Loading<G>, LoadRefusal>
-    ensures order { Follows G.holds (F.tree files.old) (value_in (S.meaning props.old)) loading result (λ world. flat_map (λ name. at_first world (file_in_lem dir.now name)) names) }
+    ensures order { Follows G.holds (F.tree files.old) (value_in (S.meaning props.old)) loading result
+        (λ world. flat_map (λ name. at_first world (paths_spec.file_in dir.now name)) names) }
     ensures number { HasItsNumber result }
     ensures tree { F.tree files.new ≡ F.tree files.old }
     ensures cause { Counted (is_read_fault result) (F.fault_count files.old) (F.fault_count files.new) }
@@ -173,7 +179,8 @@ fn follow_first<F: Files, S: PropStore, G: Gathers>(
     loading: Loading<G>,
     path: Text,
 ) -> Result<(Loading<G>, bool), LoadRefusal>
-    ensures order { FollowsFile G.holds (F.tree files.old) (value_in (S.meaning props.old)) loading result (λ world. at_first world path) path }
+    ensures order { FollowsFile G.holds (F.tree files.old) (value_in (S.meaning props.old)) loading result
+        (λ world. at_first world path) path }
     ensures number { HasItsNumber result }
     ensures tree { F.tree files.new ≡ F.tree files.old }
     ensures cause { Counted (is_read_fault result) (F.fault_count files.old) (F.fault_count files.new) }

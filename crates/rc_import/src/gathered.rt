@@ -53,8 +53,10 @@ impl Gathered {
     ) -> Result<(Gathered, List<Diagnostic>), NoMemory>
         requires { AreSound parsed.actions parsed.services }
         ensures actions { IfOk result (λ next. next.0.actions ≡ self.actions ++ parsed.actions) }
-        ensures kept { IfOk result (λ next. (read : Items ServiceDef) → self.services ≡ kept read → Kept (read ++ parsed.services) next.0.services) }
-        ensures again { IfOk result (λ next. (read : Items ServiceDef) → self.services ≡ kept read → next.1 ≡ agains_behind read parsed.services) }
+        ensures kept { IfOk result
+            (λ next. (read : Items ServiceDef) → self.services ≡ kept read → Kept (read ++ parsed.services) next.0.services) }
+        ensures again { IfOk result
+            (λ next. (read : Items ServiceDef) → self.services ≡ kept read → next.1 ≡ agains_behind read parsed.services) }
     {
         let (merger, agains) = self.merger.merge(alloc, parsed)?;
         Ok((Gathered { merger }, agains))
@@ -69,7 +71,8 @@ impl Gathered {
     ) -> Result<(Gathered, List<Import>), NoMemory>
         requires { AreSound parsed.actions parsed.services }
         ensures actions { IfOk result (λ next. next.0.actions ≡ self.actions ++ parsed.actions) }
-        ensures services { IfOk result (λ next. (read : Items ServiceDef) → self.services ≡ kept read → next.0.services ≡ kept (read ++ parsed.services)) }
+        ensures services { IfOk result (λ next. (read : Items ServiceDef) → self.services ≡ kept read
+            → next.0.services ≡ kept (read ++ parsed.services)) }
         ensures imports { IfOk result (λ next. next.1 ≡ parsed.imports) }
         ensures diagnostics { OnOk result ((read : Items ServiceDef) → self.services ≡ kept read →
             diagnostics.new ≡ diagnostics.old ++ (parsed.diagnostics ++ agains_behind read parsed.services)) }
@@ -95,7 +98,8 @@ impl Gathered {
     /// The configuration of these actions and services, and of nothing else.
     #[tactic(auto, using(crate::proofs::Sound::gathered_config))]
     pub fn into_config(self, alloc: Global) -> Result<Config, NoMemory>
-        ensures config { IfOk result (λ config. config ≡ record { actions = self.actions; services = self.services; pairs = []; saved = []; plans = []; domains = [] }) }
+        ensures config { IfOk result (λ config. config
+            ≡ record { actions = self.actions; services = self.services; pairs = []; saved = []; plans = []; domains = [] }) }
         ensures well_formed { IfOk result IsWellFormed }
     {
         one_service_of_a_name();

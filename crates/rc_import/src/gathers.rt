@@ -32,7 +32,8 @@ pub trait Gathers: Drop {
     ) -> Result<(Self, List<Import>), NoMemory>
         requires { length content.now ≤ 1048576 }
         ensures gathered { IfOk result (λ next. (actions : Items Action) (services : Items ServiceDef) (parsed : Parsed) →
-            holds self actions services → Reads path.now content.now parsed → holds next.0 (actions ++ parsed.actions) (services ++ parsed.services)) }
+            holds self actions services → Reads path.now content.now parsed
+            → holds next.0 (actions ++ parsed.actions) (services ++ parsed.services)) }
         ensures imports { IfOk result (λ next. (parsed : Parsed) → Reads path.now content.now parsed → next.1 ≡ parsed.imports) }
         ensures diagnostics { OnOk result ((actions : Items Action) (services : Items ServiceDef) (parsed : Parsed) →
             holds self actions services → Reads path.now content.now parsed →

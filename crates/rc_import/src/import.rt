@@ -8,7 +8,7 @@ ghost use Rattle.init_base.specs.Tree.{file_at};
 ghost use Rattle.init_machine.specs.Props.{value_in};
 ghost use Rattle.rc_import.specs.Answers.{HasItsNumber, is_read_fault};
 ghost use Rattle.rc_import.specs.Order.{at_expanded, at_file, at_import, at_path, at_target, fault};
-ghost use Rattle.rc_import.specs.Paths.{file_in as file_in_lem};
+ghost use Rattle.rc_import.specs.Paths as spec;
 ghost use Rattle.rc_import.specs.Stores.{IsKept};
 ghost use Rattle.rc_import.specs.Code.Steps.{Follows, FollowsFile};
 
@@ -32,7 +32,9 @@ pub fn follow_file<F: Files, S: PropStore, G: Gathers>(
     loading: Loading<G>,
     place: &Place,
 ) -> Result<(Loading<G>, bool), LoadRefusal>
-    ensures order { FollowsFile G.holds (F.tree files.old) (value_in (S.meaning props.old)) loading result (λ world. at_file world (at_target world place.now.left place.now.trail place.now.file) [] place.now.file (file_at world.tree place.now.file)) place.now.file }
+    ensures order { FollowsFile G.holds (F.tree files.old) (value_in (S.meaning props.old)) loading result
+        (λ world. at_file world (at_target world place.now.left place.now.trail place.now.file) [] place.now.file
+        (file_at world.tree place.now.file)) place.now.file }
     ensures number { HasItsNumber result }
     ensures tree { F.tree files.new ≡ F.tree files.old }
     ensures cause { Counted (is_read_fault result) (F.fault_count files.old) (F.fault_count files.new) }
@@ -56,7 +58,8 @@ fn follow_imports<F: Files, S: PropStore, G: Gathers>(
     place: &Place,
     imports: List<Import>,
 ) -> Result<Loading<G>, LoadRefusal>
-    ensures order { Follows G.holds (F.tree files.old) (value_in (S.meaning props.old)) loading result (λ world. flat_map (at_import world place.now.file (at_target world place.now.left place.now.trail place.now.file)) imports) }
+    ensures order { Follows G.holds (F.tree files.old) (value_in (S.meaning props.old)) loading result
+        (λ world. flat_map (at_import world place.now.file (at_target world place.now.left place.now.trail place.now.file)) imports) }
     ensures number { HasItsNumber result }
     ensures tree { F.tree files.new ≡ F.tree files.old }
     ensures cause { Counted (is_read_fault result) (F.fault_count files.old) (F.fault_count files.new) }
@@ -79,7 +82,8 @@ fn follow_import<F: Files, S: PropStore, G: Gathers>(
     place: &Place,
     import: Import,
 ) -> Result<Loading<G>, LoadRefusal>
-    ensures order { Follows G.holds (F.tree files.old) (value_in (S.meaning props.old)) loading result (λ world. at_import world place.now.file (at_target world place.now.left place.now.trail place.now.file) import) }
+    ensures order { Follows G.holds (F.tree files.old) (value_in (S.meaning props.old)) loading result
+        (λ world. at_import world place.now.file (at_target world place.now.left place.now.trail place.now.file) import) }
     ensures number { HasItsNumber result }
     ensures tree { F.tree files.new ≡ F.tree files.old }
     ensures cause { Counted (is_read_fault result) (F.fault_count files.old) (F.fault_count files.new) }
@@ -102,7 +106,8 @@ fn follow_path<F: Files, S: PropStore, G: Gathers>(
     line: u32,
     path: Text,
 ) -> Result<Loading<G>, LoadRefusal>
-    ensures order { Follows G.holds (F.tree files.old) (value_in (S.meaning props.old)) loading result (λ world. at_expanded world (fault place.now.file line) (at_target world place.now.left place.now.trail place.now.file line) (Ok path)) }
+    ensures order { Follows G.holds (F.tree files.old) (value_in (S.meaning props.old)) loading result (λ world. at_expanded world
+        (fault place.now.file line) (at_target world place.now.left place.now.trail place.now.file line) (Ok path)) }
     ensures number { HasItsNumber result }
     ensures tree { F.tree files.new ≡ F.tree files.old }
     ensures cause { Counted (is_read_fault result) (F.fault_count files.old) (F.fault_count files.new) }
@@ -130,7 +135,8 @@ fn follow_names<F: Files, S: PropStore, G: Gathers>(
     dir: &Text,
     names: List<Text>,
 ) -> Result<Loading<G>, LoadRefusal>
-    ensures order { Follows G.holds (F.tree files.old) (value_in (S.meaning props.old)) loading result (λ world. flat_map (λ name. at_target world place.now.left place.now.trail place.now.file line (file_in_lem dir.now name)) names) }
+    ensures order { Follows G.holds (F.tree files.old) (value_in (S.meaning props.old)) loading result (λ world. flat_map
+        (λ name. at_target world place.now.left place.now.trail place.now.file line (spec.file_in dir.now name)) names) }
     ensures number { HasItsNumber result }
     ensures tree { F.tree files.new ≡ F.tree files.old }
     ensures cause { Counted (is_read_fault result) (F.fault_count files.old) (F.fault_count files.new) }
@@ -155,7 +161,8 @@ fn follow_target<F: Files, S: PropStore, G: Gathers>(
     line: u32,
     path: Text,
 ) -> Result<Loading<G>, LoadRefusal>
-    ensures order { Follows G.holds (F.tree files.old) (value_in (S.meaning props.old)) loading result (λ world. at_target world place.now.left place.now.trail place.now.file line path) }
+    ensures order { Follows G.holds (F.tree files.old) (value_in (S.meaning props.old)) loading result
+        (λ world. at_target world place.now.left place.now.trail place.now.file line path) }
     ensures number { HasItsNumber result }
     ensures tree { F.tree files.new ≡ F.tree files.old }
     ensures cause { Counted (is_read_fault result) (F.fault_count files.old) (F.fault_count files.new) }

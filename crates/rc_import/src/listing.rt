@@ -4,7 +4,7 @@ ghost use Rattle.std.specs.Prelude.{◌≡◌, IfOk, OnOk};
 ghost use Rattle.init_base.specs.Faults.{Counted};
 ghost use Rattle.rc_import.specs.Answers.{HasItsNumber, is_read_fault};
 ghost use Rattle.rc_import.specs.Code.Listings.{ListsInOrder};
-ghost use Rattle.rc_import.specs.Names.{in_byte_order as in_byte_order_lem};
+ghost use Rattle.rc_import.specs.Names as spec;
 
 use crate::loaded::{LoadLimit, LoadRefusal};
 use init_base::{Files, List, NoMemory, ReadRefusal, Text};
@@ -39,7 +39,7 @@ pub fn list<F: Files>(
 
 /// The names in the order of their bytes.
 fn in_byte_order(names: List<Text>) -> Result<List<Text>, NoMemory>
-    ensures { IfOk result (λ sorted. sorted ≡ in_byte_order_lem names) }
+    ensures { IfOk result (λ sorted. sorted ≡ spec.in_byte_order names) }
 {
     let mut names = names.into_vec();
     names.sort_by(|one, other| one.bytes().cmp(other.bytes()))?;

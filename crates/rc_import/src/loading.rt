@@ -4,7 +4,8 @@ ghost use Rattle.std.specs.Prelude.{◌≡◌, ◌≤◌, ◌<◌, ◌+◌, ℕ,
 ghost use Rattle.init_base.specs.Faults.{Counted};
 ghost use Rattle.rc_parse.specs.Files.{Reads};
 ghost use Rattle.rc_import.specs.Answers.{HasItsNumber, is_read_fault};
-ghost use Rattle.rc_import.specs.Limits.{SoFar, nothing, with_bytes, with_file as with_file_lem};
+ghost use Rattle.rc_import.specs.Limits.{SoFar, nothing, with_bytes};
+ghost use Rattle.rc_import.specs.Limits as spec;
 ghost use Rattle.rc_import.specs.Order.{fault};
 ghost use Rattle.rc_import.specs.World.{IsWorld, World};
 ghost use Rattle.rc_parse.specs.declared.parsed.Parsed.{Parsed};
@@ -119,7 +120,8 @@ impl<G: Gathers> Loading<G> {
         requires few { self.files < 1024 }
         requires short { length content.now ≤ 1048576 }
         ensures read { (world : World) → MeansFiles world → (sofar : SoFar) → Stands G.holds self sofar →
-            ReachesImports G.holds result (with_bytes world sofar path.now (Some content.now)) (Some (world.means path.now content.now).imports) }
+            ReachesImports G.holds result (with_bytes world sofar path.now (Some content.now))
+            (Some (world.means path.now content.now).imports) }
         ensures number { HasItsNumber result }
         ensures steady { is_read_fault result ≡ false }
     {
@@ -145,8 +147,9 @@ impl<G: Gathers> Loading<G> {
     ) -> Result<(Loading<G>, List<Import>), NoMemory>
         requires few { self.files < 1024 }
         requires short { length content.now ≤ 1048576 }
-        ensures stands { IfOk result (λ next. (sofar : SoFar) (size : ℕ) (parsed : Parsed) → Stands G.holds self sofar → Reads path.now content.now parsed →
-            bytes ≡ sofar.bytes + size → bytes ≤ 33554432 → Stands G.holds next.0 (with_file_lem sofar size parsed)) }
+        ensures stands { IfOk result (λ next. (sofar : SoFar) (size : ℕ) (parsed : Parsed) → Stands G.holds self sofar
+            → Reads path.now content.now parsed →
+            bytes ≡ sofar.bytes + size → bytes ≤ 33554432 → Stands G.holds next.0 (spec.with_file sofar size parsed)) }
         ensures imports { IfOk result (λ next. (parsed : Parsed) → Reads path.now content.now parsed → next.1 ≡ parsed.imports) }
     {
         let Loading {

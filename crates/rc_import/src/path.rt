@@ -1,11 +1,11 @@
 //! The paths to which imports lead. The rules are in `specs/Paths.antt`.
 
 ghost use Rattle.std.specs.Prelude.{◌≡◌, ◌∷◌, ◌++◌, ◌≤◌, IfOk, length};
-ghost use Rattle.init_machine.specs.Expand.{expand as expand_lem};
+ghost use Rattle.init_machine.specs.Expand as expand_spec;
 ghost use Rattle.init_machine.specs.Props.{value_in};
 ghost use Rattle.rc_import.specs.Code.Steps.{IsExpanded};
 ghost use Rattle.rc_import.specs.Stores.{IsKept};
-ghost use Rattle.rc_import.specs.Paths.{bare as bare_lem, file_in as file_in_lem, is_absolute as is_absolute_lem, without_last_slashes as without_last_slashes_lem};
+ghost use Rattle.rc_import.specs.Paths as paths_spec;
 
 use init_base::{NoMemory, Text};
 use init_machine::PropStore;
@@ -18,7 +18,7 @@ pub fn expanded<S: PropStore>(
     props: &mut S,
     path: &Text,
 ) -> Result<Option<Text>, NoMemory>
-    ensures answer { IsExpanded result (expand_lem (value_in (S.meaning props.old)) path.now) }
+    ensures answer { IsExpanded result (expand_spec.expand (value_in (S.meaning props.old)) path.now) }
     ensures store { IsKept S.meaning S.told S.spare S.Beside props.old props.new }
 {
     match expand(alloc, path, props) {
@@ -29,14 +29,14 @@ pub fn expanded<S: PropStore>(
 }
 
 pub fn is_absolute(path: &[u8]) -> bool
-    ensures { result ≡ is_absolute_lem path.now }
+    ensures { result ≡ paths_spec.is_absolute path.now }
 {
     matches!(path, [b'/', ..])
 }
 
 /// The path without the slashes at its end; its first byte stays.
 pub fn bare(path: &Text) -> Result<Text, NoMemory>
-    ensures { IfOk result (λ kept. kept ≡ bare_lem path.now) }
+    ensures { IfOk result (λ kept. kept ≡ paths_spec.bare path.now) }
 {
     let [_, rest @ ..] = path.bytes() else {
         return path.share();
@@ -46,7 +46,7 @@ pub fn bare(path: &Text) -> Result<Text, NoMemory>
 }
 
 fn without_last_slashes(text: &[u8]) -> &[u8]
-    ensures value { result.now ≡ without_last_slashes_lem text.entry.now }
+    ensures value { result.now ≡ paths_spec.without_last_slashes text.entry.now }
     ensures shorter { length result.now ≤ length text.entry.now }
 {
     let mut rest = text;
@@ -61,7 +61,7 @@ fn without_last_slashes(text: &[u8]) -> &[u8]
 
 /// The path of a file in a directory.
 pub fn file_in(alloc: Global, dir: &[u8], name: &[u8]) -> Result<Text, NoMemory>
-    ensures { IfOk result (λ path. path ≡ file_in_lem dir.now name.now) }
+    ensures { IfOk result (λ path. path ≡ paths_spec.file_in dir.now name.now) }
 {
     let mut path = Vec::from_slice(alloc, dir)?;
     if !dir.ends_with(b"/") {

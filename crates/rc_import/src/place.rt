@@ -36,7 +36,8 @@ impl Place {
     /// That of a file to which an import of this one leads.
     pub fn below(&self, alloc: Global, file: Text) -> Result<Place, NoMemory>
         requires { 0 < self.now.left }
-        ensures { IfOk result (λ place. place ≡ record { trail = self.now.trail ++ file ∷ []; file = file; left = self.now.left - 1 }) }
+        ensures { IfOk result (λ place. place
+            ≡ record { trail = self.now.trail ++ file ∷ []; file = file; left = self.now.left - 1 }) }
     {
         let mut trail = self.trail(alloc)?;
         trail.push(file.share()?)?;

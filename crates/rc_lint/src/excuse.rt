@@ -5,8 +5,10 @@ ghost use Rattle.std.specs.List.{list_any};
 ghost use Rattle.init_base.specs.Tree.{has_name};
 ghost use Rattle.rc_parse.specs.Lines.{lines_before_header};
 ghost use Rattle.rc_parse.specs.Triggers.{is_equals_sign, triggers_of};
-ghost use Rattle.rc_lint.specs.Code.Steps.{HasNumbers, is_excused_at as is_excused_at_lem};
-ghost use Rattle.rc_lint.specs.Excused.{all_taken_elsewhere, are_good_as_equal as are_good_as_equal_lem, as_equal as as_equal_lem, good_header, has_bang as has_bang_lem, is_excused_command as is_excused_command_lem, is_excused_in_action as is_excused_in_action_lem, is_excused_in_service as is_excused_in_service_lem, is_excused_option as is_excused_option_lem, number_if, numbers_of, taken_elsewhere as taken_elsewhere_lem, without_bang as without_bang_lem};
+ghost use Rattle.rc_lint.specs.Code.Steps.{HasNumbers};
+ghost use Rattle.rc_lint.specs.Code.Steps as steps_spec;
+ghost use Rattle.rc_lint.specs.Excused.{all_taken_elsewhere, good_header, number_if, numbers_of};
+ghost use Rattle.rc_lint.specs.Excused as excused_spec;
 
 use crate::not_modelled::{is_command_not_modelled, is_option_not_modelled};
 use init_base::{List, NoMemory, Text};
@@ -33,25 +35,25 @@ fn is_allowed(allowed: &List<Text>, word: &[u8]) -> bool
 }
 
 fn is_excused_command(allowed: &List<Text>, word: &[u8]) -> bool
-    ensures { result ≡ is_excused_command_lem allowed.now word.now }
+    ensures { result ≡ excused_spec.is_excused_command allowed.now word.now }
 {
     is_command_not_modelled(word) || is_allowed(allowed, word)
 }
 
 fn is_excused_option(allowed: &List<Text>, word: &[u8]) -> bool
-    ensures { result ≡ is_excused_option_lem allowed.now word.now }
+    ensures { result ≡ excused_spec.is_excused_option allowed.now word.now }
 {
     is_option_not_modelled(word) || is_allowed(allowed, word)
 }
 
 fn is_excused_in_action(allowed: &List<Text>, line: &Line<'_>) -> bool
-    ensures { result ≡ is_excused_in_action_lem allowed.now line.now }
+    ensures { result ≡ excused_spec.is_excused_in_action allowed.now line.now }
 {
     is_excused_command(allowed, first_word(line.words()))
 }
 
 fn is_excused_in_service(allowed: &List<Text>, line: &Line<'_>) -> bool
-    ensures { result ≡ is_excused_in_service_lem allowed.now line.now }
+    ensures { result ≡ excused_spec.is_excused_in_service allowed.now line.now }
 {
     let words = line.words();
     let word = first_word(words);
@@ -64,7 +66,7 @@ fn is_excused_in_service(allowed: &List<Text>, line: &Line<'_>) -> bool
 
 /// Whether another init takes a line of a section.
 fn is_excused_at(part: Part, allowed: &List<Text>, line: &Line<'_>) -> bool
-    ensures { result ≡ is_excused_at_lem part allowed.now line.now }
+    ensures { result ≡ steps_spec.is_excused_at part allowed.now line.now }
 {
     match part {
         Part::Action => is_excused_in_action(allowed, line),
@@ -81,7 +83,7 @@ fn equals_sign(text: &[u8]) -> Option<usize>
 
 /// The text without the `!` before its first `=`.
 fn without_bang(alloc: Global, text: &Text) -> Result<Text, NoMemory>
-    ensures { IfOk result (λ equal. equal ≡ without_bang_lem (position is_equals_sign text.now) text.now) }
+    ensures { IfOk result (λ equal. equal ≡ excused_spec.without_bang (position is_equals_sign text.now) text.now) }
 {
     let bytes = text.bytes();
     let Some(at) = equals_sign(bytes) else {
@@ -97,7 +99,7 @@ fn without_bang(alloc: Global, text: &Text) -> Result<Text, NoMemory>
 
 /// `property:NAME!=VALUE` read as `property:NAME=VALUE`.
 fn as_equal(alloc: Global, word: &Text) -> Result<Text, NoMemory>
-    ensures { IfOk result (λ equal. equal ≡ as_equal_lem word.now) }
+    ensures { IfOk result (λ equal. equal ≡ excused_spec.as_equal word.now) }
 {
     if word.bytes().starts_with(ON_PROPERTY) {
         without_bang(alloc, word)
@@ -108,7 +110,7 @@ fn as_equal(alloc: Global, word: &Text) -> Result<Text, NoMemory>
 
 /// `on`, and behind it the words with each `!=` read as `=`.
 fn equal_words(alloc: Global, words: &[Text]) -> Result<List<Text>, NoMemory>
-    ensures { IfOk result (λ equal. equal ≡ (111 ∷ 110 ∷ []) ∷ map as_equal_lem words.now) }
+    ensures { IfOk result (λ equal. equal ≡ (111 ∷ 110 ∷ []) ∷ map excused_spec.as_equal words.now) }
 {
     let mut equal = List::with_capacity(alloc, words.len())?;
     equal.push(Text::of(alloc, b"on")?)?;
@@ -120,20 +122,20 @@ fn equal_words(alloc: Global, words: &[Text]) -> Result<List<Text>, NoMemory>
 
 /// Whether a word has a `!`, as each test with `!=` does.
 fn has_bang(word: &Text) -> bool
-    ensures { result ≡ has_bang_lem word.now }
+    ensures { result ≡ excused_spec.has_bang word.now }
 {
     word.bytes().iter().any(|byte| *byte == b'!')
 }
 
 fn have_bang(words: &[Text]) -> bool
-    ensures { result ≡ list_any has_bang_lem words.now }
+    ensures { result ≡ list_any excused_spec.has_bang words.now }
 {
     words.iter().any(|word| has_bang(word))
 }
 
 /// Whether the words behind `on` have a `!`, and are well-formed triggers where each `!=` is read as `=`.
 fn are_good_as_equal(alloc: Global, words: &[Text]) -> Result<bool, NoMemory>
-    ensures { IfOk result (λ good. good ≡ are_good_as_equal_lem words.now) }
+    ensures { IfOk result (λ good. good ≡ excused_spec.are_good_as_equal words.now) }
 {
     if have_bang(words) {
         are_triggers_as_equal(alloc, words)
@@ -145,7 +147,7 @@ fn are_good_as_equal(alloc: Global, words: &[Text]) -> Result<bool, NoMemory>
 /// Whether the words are well-formed triggers where each `!=` is read as `=`.
 #[tactic(auto, using(crate::proofs::Headers::good_alone))]
 fn are_triggers_as_equal(alloc: Global, words: &[Text]) -> Result<bool, NoMemory>
-    ensures { IfOk result (λ good. good ≡ is_ok (triggers_of (map as_equal_lem words.now))) }
+    ensures { IfOk result (λ good. good ≡ is_ok (triggers_of (map excused_spec.as_equal words.now))) }
 {
     let tokens = Tokens::of_line(alloc, 1, equal_words(alloc, words)?)?;
     let parsed = parse(alloc, &Text::empty(), &tokens)?;
@@ -159,7 +161,7 @@ fn add_line(
     allowed: &List<Text>,
     line: &Line<'_>,
 ) -> Result<(), NoMemory>
-    ensures { OnOk result (numbers.new ≡ numbers.old ++ number_if (is_excused_at_lem part allowed.now) line.now) }
+    ensures { OnOk result (numbers.new ≡ numbers.old ++ number_if (steps_spec.is_excused_at part allowed.now) line.now) }
 {
     if is_excused_at(part, allowed, line) {
         numbers.push(line.number())
@@ -175,7 +177,7 @@ fn add_lines(
     allowed: &List<Text>,
     mut lines: LineSlice<'_>,
 ) -> Result<(), NoMemory>
-    ensures { OnOk result (numbers.new ≡ numbers.old ++ numbers_of (is_excused_at_lem part allowed.now) lines.entry) }
+    ensures { OnOk result (numbers.new ≡ numbers.old ++ numbers_of (steps_spec.is_excused_at part allowed.now) lines.entry) }
 {
     while let Some(line) = lines.pop() {
         add_line(numbers, part, allowed, &line)?;
@@ -203,7 +205,7 @@ fn add_section(
     behind: &LineSlice<'_>,
 ) -> Result<(), NoMemory>
     ensures { OnOk result (numbers.new ≡ numbers.old
-        ++ taken_elsewhere_lem allowed.now (record { header = header.now; body = lines_before_header behind.now })) }
+        ++ excused_spec.taken_elsewhere allowed.now (record { header = header.now; body = lines_before_header behind.now })) }
 {
     if is_on(header) {
         add_header(alloc, numbers, header)?;
@@ -224,7 +226,8 @@ fn add_first(
     first: &Line<'_>,
     behind: &LineSlice<'_>,
 ) -> Result<(), NoMemory>
-    ensures { OnOk result (numbers.new ++ all_taken_elsewhere allowed.now behind.now ≡ numbers.old ++ all_taken_elsewhere allowed.now (first.now ∷ behind.now)) }
+    ensures { OnOk result (numbers.new ++ all_taken_elsewhere allowed.now behind.now
+        ≡ numbers.old ++ all_taken_elsewhere allowed.now (first.now ∷ behind.now)) }
 {
     if is_header(first) {
         add_section(alloc, numbers, allowed, first, behind)

@@ -69,7 +69,8 @@ pub fn tell_all<F: Files>(
     teller: &mut Teller<'_>,
     diagnostics: &[Diagnostic],
 ) -> Result<Judged, LoadRefusal>
-    ensures told { (told : Told) → IsTold (F.tree files.old) told → IfOk result (λ judged. diagnostics_of judged.findings ≡ errors_among request.now.allowed told diagnostics.now) }
+    ensures told { (told : Told) → IsTold (F.tree files.old) told
+        → IfOk result (λ judged. diagnostics_of judged.findings ≡ errors_among request.now.allowed told diagnostics.now) }
     ensures kind { IfErr result IsLater }
     ensures tree { F.tree files.new ≡ F.tree files.old }
     ensures cause { Counted (is_read_fault result) (F.fault_count files.old) (F.fault_count files.new) }

@@ -4,7 +4,8 @@ ghost use Rattle.std.specs.Prelude.{◌≡◌, ◌≤◌, IfOk, IfSome, length};
 ghost use Rattle.init_base.specs.Faults.{Counted};
 ghost use Rattle.rc_import.specs.Answers.{IsAnswer, is_read_fault};
 ghost use Rattle.rc_import.specs.World.{World};
-ghost use Rattle.rc_lint.specs.Loads.{IsWorldOf, loaded as loaded_lem};
+ghost use Rattle.rc_lint.specs.Loads.{IsWorldOf};
+ghost use Rattle.rc_lint.specs.Loads as spec;
 ghost use Rattle.rc_lint.specs.Code.Steps.{GivesBuildFile, GivesBuildFiles, GivesText};
 
 use init_base::{Files, ReadRefusal, Text};
@@ -76,7 +77,7 @@ fn read_build_files<F: Files>(alloc: Global, files: &mut F) -> Result<BuildProps
 /// `NoInit` comes exactly where the root file isn't there, `TooLarge` and `TooMany` exactly where what is read passes a limit,
 /// the first one that does, and `ReadFault` only where the count of the files' faults rose.
 pub fn load<F: Files>(alloc: Global, files: &mut F) -> Result<Loaded, LoadRefusal>
-    ensures load { (world : World) → IsWorldOf (F.tree files.old) world → IsAnswer result (loaded_lem world) }
+    ensures load { (world : World) → IsWorldOf (F.tree files.old) world → IsAnswer result (spec.loaded world) }
     ensures tree { F.tree files.new ≡ F.tree files.old }
     ensures cause { Counted (is_read_fault result) (F.fault_count files.old) (F.fault_count files.new) }
 {

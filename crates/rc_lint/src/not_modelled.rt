@@ -3,7 +3,7 @@
 ghost use Rattle.std.specs.Prelude.{◌≡◌};
 ghost use Rattle.std.specs.List.{list_any};
 ghost use Rattle.std.specs.Str.{bytes_eq};
-ghost use Rattle.rc_lint.specs.NotModelled.{is_command_not_modelled as is_command_not_modelled_lem, is_option_not_modelled as is_option_not_modelled_lem};
+ghost use Rattle.rc_lint.specs.NotModelled as spec;
 
 use rc_parse::is_text;
 
@@ -59,7 +59,7 @@ const LEAST_BYTES: usize = 7;
 /// Whether AOSP's init has a command that this machine doesn't model. Most words are too short for one.
 #[tactic(auto, using(crate::proofs::Words::short_is_none))]
 pub fn is_command_not_modelled(word: &[u8]) -> bool
-    ensures { result ≡ is_command_not_modelled_lem word.now }
+    ensures { result ≡ spec.is_command_not_modelled word.now }
 {
     if word.len() < LEAST_BYTES {
         return false;
@@ -69,7 +69,7 @@ pub fn is_command_not_modelled(word: &[u8]) -> bool
 
 /// Whether AOSP's init has an option that this machine doesn't model.
 pub fn is_option_not_modelled(word: &[u8]) -> bool
-    ensures { result ≡ is_option_not_modelled_lem word.now }
+    ensures { result ≡ spec.is_option_not_modelled word.now }
 {
     is_among(&OPTIONS, word)
 }

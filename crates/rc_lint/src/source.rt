@@ -6,8 +6,9 @@ ghost use Rattle.init_base.specs.Faults.{Counted};
 ghost use Rattle.init_machine.specs.declared.diagnostic.Diagnostic.{Diagnostic as AnyDiagnostic};
 ghost use Rattle.rc_import.specs.Answers.{is_read_fault};
 ghost use Rattle.rc_lint.specs.Code.Sources.{AreSourcesOf, HasSourceAt, IsLater, IsSourceOf};
-ghost use Rattle.rc_lint.specs.Excused.{is_excusable as is_excusable_lem};
-ghost use Rattle.rc_lint.specs.Told.{IsTold, Told, lines_at, lines_of as lines_of_lem};
+ghost use Rattle.rc_lint.specs.Excused as excused_spec;
+ghost use Rattle.rc_lint.specs.Told.{IsTold, Told, lines_at};
+ghost use Rattle.rc_lint.specs.Told as told_spec;
 
 use crate::excuse::{Part, taken_elsewhere};
 use init_base::{Files, List, NoMemory, ReadRefusal, Text};
@@ -74,7 +75,7 @@ fn place_of_line(lines: &LineSlice<'_>, number: u32) -> usize {
 
 /// Whether a diagnostic of this kind can be excused.
 fn is_excusable(kind: DiagKind) -> bool
-    ensures { result ≡ is_excusable_lem kind }
+    ensures { result ≡ excused_spec.is_excusable kind }
 {
     matches!(kind, DiagKind::BadWord | DiagKind::BadTrigger)
 }
@@ -82,7 +83,7 @@ fn is_excusable(kind: DiagKind) -> bool
 impl Source {
     /// Whether a diagnostic of the file is excused.
     pub fn is_excused(&self, diagnostic: &Diagnostic) -> bool
-        ensures { result ≡ (is_excusable_lem diagnostic.now.kind && list_any (nat_eq diagnostic.now.line) self.now.taken.keys) }
+        ensures { result ≡ (excused_spec.is_excusable diagnostic.now.kind && list_any (nat_eq diagnostic.now.line) self.now.taken.keys) }
     {
         is_excusable(diagnostic.kind) && self.taken.contains(&diagnostic.line)
     }
@@ -90,7 +91,8 @@ impl Source {
 
 /// The lines that some bytes spell. None where they are past the limit of files.
 fn tokens_of(alloc: Global, bytes: &[u8]) -> Result<Tokens, NoMemory>
-    ensures { (told : Told) (tree : Items (Items ℕ × Items ℕ)) → IsTold (Some tree) told → IfOk result (λ tokens. tokens.lines ≡ lines_of_lem told (Some bytes.now)) }
+    ensures { (told : Told) (tree : Items (Items ℕ × Items ℕ)) → IsTold (Some tree) told
+        → IfOk result (λ tokens. tokens.lines ≡ told_spec.lines_of told (Some bytes.now)) }
 {
     match lines(alloc, bytes) {
         Ok(tokens) => Ok(tokens),
@@ -202,7 +204,8 @@ impl Sources {
         file: &Text,
     ) -> Result<usize, LoadRefusal>
         ensures place { IfOk result (HasSourceAt self.new.sources file.now) }
-        ensures told { (told : Told) → IsTold (F.tree files.old) told → AreSourcesOf allowed.now told self.old.sources → IfOk result (λ _. AreSourcesOf allowed.now told self.new.sources) }
+        ensures told { (told : Told) → IsTold (F.tree files.old) told → AreSourcesOf allowed.now told self.old.sources
+            → IfOk result (λ _. AreSourcesOf allowed.now told self.new.sources) }
         ensures kind { IfErr result IsLater }
         ensures tree { F.tree files.new ≡ F.tree files.old }
         ensures cause { Counted (is_read_fault result) (F.fault_count files.old) (F.fault_count files.new) }

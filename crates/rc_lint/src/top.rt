@@ -4,7 +4,8 @@ ghost use Rattle.std.specs.Prelude.{◌≡◌, ℕ, IfErr, IfOk};
 ghost use Rattle.init_base.specs.Faults.{Counted};
 ghost use Rattle.rc_import.specs.Answers.{is_read_fault};
 ghost use Rattle.lint_findings.specs.Findings.{diagnostics_of, errors_in};
-ghost use Rattle.rc_lint.specs.Code.Reported.{Finds, IsRead, status_of as status_of_lem};
+ghost use Rattle.rc_lint.specs.Code.Reported.{Finds, IsRead};
+ghost use Rattle.rc_lint.specs.Code.Reported as spec;
 ghost use Rattle.rc_lint.specs.Code.Sources.{IsLater};
 ghost use Rattle.rc_lint.specs.Excused.{errors_among};
 ghost use Rattle.rc_lint.specs.Keeps.{IsUnkept, LintKeeps};
@@ -62,7 +63,8 @@ fn findings_of<F: Files>(
     files: &mut F,
     tree: &Read,
 ) -> Result<List<Finding>, LoadRefusal>
-    ensures told { (told : Told) → IsTold (F.tree files.old) told → IfOk result (λ findings. diagnostics_of findings ≡ errors_among request.now.allowed told tree.now.loaded.diagnostics) }
+    ensures told { (told : Told) → IsTold (F.tree files.old) told
+        → IfOk result (λ findings. diagnostics_of findings ≡ errors_among request.now.allowed told tree.now.loaded.diagnostics) }
     ensures kind { IfErr result IsLater }
     ensures cause { Counted (is_read_fault result) (F.fault_count files.old) (F.fault_count files.new) }
 {
@@ -95,7 +97,7 @@ fn report_of<F: Files>(
 
 /// The status of a report that is written.
 fn status_of(promoted: &Promoted, findings: &[Finding]) -> Status
-    ensures { result ≡ status_of_lem (errors_in promoted.now findings.now) }
+    ensures { result ≡ spec.status_of (errors_in promoted.now findings.now) }
 {
     if count_errors(promoted, findings) == 0 {
         Status::Clean
@@ -106,7 +108,8 @@ fn status_of(promoted: &Promoted, findings: &[Finding]) -> Status
 
 /// Writes a report.
 fn write_report<K: Sink>(alloc: Global, request: &Request, report: &Report, out: &mut K) -> Status
-    ensures report { (told : Told) → Tells request.now told report.now.findings → LintSays request.now told (K.taken out.old) (K.taken out.new) result }
+    ensures report { (told : Told) → Tells request.now told report.now.findings
+        → LintSays request.now told (K.taken out.old) (K.taken out.new) result }
     ensures faults { (files : ℕ) → AreCounted result
         (record { files = files; out = K.fault_count out.old }) (record { files = files; out = K.fault_count out.new }) }
     ensures unwritten { IsUnwritten (K.taken out.old) (K.taken out.new) result }
@@ -137,7 +140,8 @@ pub fn lint<F: Files, K: Sink>(
     out: &mut K,
 ) -> Status
     // What the status says of a told tree, and what is written then.
-    ensures report { (told : Told) → IsTold (F.tree files.old.files) told → LintSays request.now told (K.taken out.old) (K.taken out.new) result }
+    ensures report { (told : Told) → IsTold (F.tree files.old.files) told
+        → LintSays request.now told (K.taken out.old) (K.taken out.new) result }
 
     // A fault comes only where the count of its object rose, and all other counts are as before.
     ensures faults { AreCounted result
@@ -160,7 +164,8 @@ pub fn lint<F: Files, K: Sink>(
 
 /// The status where the baseline of some findings is put into a keeper.
 fn keep_report<K: Keeper>(alloc: Global, report: &Report, keeper: &mut K) -> Status
-    ensures kept { (request : AnyRequest) (told : Told) → Tells request told report.now.findings → LintKeeps request told (K.held keeper.old) (K.held keeper.new) result }
+    ensures kept { (request : AnyRequest) (told : Told) → Tells request told report.now.findings
+        → LintKeeps request told (K.held keeper.old) (K.held keeper.new) result }
     ensures faults { (files : ℕ) → AreCounted result
         (record { files = files; out = K.fault_count keeper.old }) (record { files = files; out = K.fault_count keeper.new }) }
     ensures unkept { IsUnkept (K.held keeper.old) (K.held keeper.new) result }
@@ -181,7 +186,8 @@ pub fn keep_known<F: Files, K: Keeper>(
     keeper: &mut K,
 ) -> Status
     // What the status says of a told tree, and what is held then.
-    ensures kept { (told : Told) → IsTold (F.tree files.old.files) told → LintKeeps request.now told (K.held keeper.old) (K.held keeper.new) result }
+    ensures kept { (told : Told) → IsTold (F.tree files.old.files) told
+        → LintKeeps request.now told (K.held keeper.old) (K.held keeper.new) result }
 
     // A fault comes only where the count of its object rose, and all other counts are as before.
     ensures faults { AreCounted result

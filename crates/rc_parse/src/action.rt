@@ -26,7 +26,8 @@ fn add_command(
     diagnostics: &mut List<Diagnostic>,
 ) -> Result<(), NoMemory>
     ensures commands { OnOk result (commands.new ≡ commands.old ++ values (command_at file.now line.now)) }
-    ensures diagnostics { OnOk result (diagnostics.new ≡ diagnostics.old ++ diagnosed file.now line.now.number (command_at file.now line.now)) }
+    ensures diagnostics { OnOk result
+        (diagnostics.new ≡ diagnostics.old ++ diagnosed file.now line.now.number (command_at file.now line.now)) }
 {
     match command(alloc, file, line.number(), line.words()) {
         Ok(command) => commands.push(command),

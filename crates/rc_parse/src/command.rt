@@ -1,8 +1,9 @@
 //! Command lines.
 
 ghost use Rattle.std.specs.Prelude.{◌≡◌, IfOk, length};
-ghost use Rattle.rc_parse.specs.Commands.{command_of, command_word as command_word_lem};
-ghost use Rattle.rc_parse.specs.Lines.{arguments as arguments_lem, first_word as first_word_lem};
+ghost use Rattle.rc_parse.specs.Commands.{command_of};
+ghost use Rattle.rc_parse.specs.Commands as commands_spec;
+ghost use Rattle.rc_parse.specs.Lines as lines_spec;
 ghost use Rattle.rc_parse.specs.Readings.{IsReading};
 
 use crate::fault::Fault;
@@ -14,7 +15,7 @@ use std::alloc::Global;
 /// The word of a command with so many arguments.
 #[tactic(auto, unfolding(crate::specs::Commands::command_word))]
 pub fn command_word(word: &[u8], count: usize) -> Result<Word, Fault>
-    ensures { IsReading result (command_word_lem word.now count) }
+    ensures { IsReading result (commands_spec.command_word word.now count) }
 {
     let Some(word) = Word::of(word) else {
         return Err(Fault::Bad(DiagKind::BadWord));
@@ -27,7 +28,7 @@ pub fn command_word(word: &[u8], count: usize) -> Result<Word, Fault>
 
 /// The word of the command that these words are.
 pub fn word_of_command(words: &[Text]) -> Result<Word, Fault>
-    ensures { IsReading result (command_word_lem (first_word_lem words.now) (length (arguments_lem words.now))) }
+    ensures { IsReading result (commands_spec.command_word (lines_spec.first_word words.now) (length (lines_spec.arguments words.now))) }
 {
     command_word(first_word(words), arguments(words).len())
 }

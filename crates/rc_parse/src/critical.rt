@@ -5,7 +5,8 @@ ghost use Rattle.std.specs.List.{ends_with, starts_with};
 ghost use Rattle.std.specs.Option.{option_copied};
 ghost use Rattle.rc_parse.specs.Code.Parts.{mark_of, with_part};
 ghost use Rattle.rc_parse.specs.Readings.{IsReading};
-ghost use Rattle.rc_parse.specs.Values.{critical_of, default_window as default_window_lem, part_of, parts_at_default, plain_window as plain_window_lem, target_part, window_of};
+ghost use Rattle.rc_parse.specs.Values.{critical_of, part_of, parts_at_default, target_part, window_of};
+ghost use Rattle.rc_parse.specs.Values as spec;
 
 use crate::fault::Fault;
 use crate::number::number_from;
@@ -49,7 +50,7 @@ const MILLIS_OF_MINUTE: u64 = 60_000;
 
 /// A window as it is written.
 fn plain_window(text: &[u8]) -> Option<WindowLength>
-    ensures { result ≡ plain_window_lem text.now }
+    ensures { result ≡ spec.plain_window text.now }
 {
     if text == NO_WINDOW {
         return Some(WindowLength::Off);
@@ -62,7 +63,8 @@ fn plain_window(text: &[u8]) -> Option<WindowLength>
 
 /// What stands before the first `:-`, and what stands behind it.
 fn parts_at_default(text: &[u8]) -> Option<(&[u8], &[u8])>
-    ensures { MatchOption result (parts_at_default text.entry.now ≡ None) (λ parts. parts_at_default text.entry.now ≡ Some (parts.0.now, parts.1.now)) }
+    ensures { MatchOption result (parts_at_default text.entry.now ≡ None)
+        (λ parts. parts_at_default text.entry.now ≡ Some (parts.0.now, parts.1.now)) }
 {
     for place in 0..text.len() {
         let left = &text[place..];
@@ -76,7 +78,7 @@ fn parts_at_default(text: &[u8]) -> Option<(&[u8], &[u8])>
 /// M of `${NAME:-M}`, where NAME ends at the first `:-`.
 #[tactic(auto, using(crate::proofs::Windows::no_opening))]
 fn default_window(text: &[u8]) -> Option<&[u8]>
-    ensures { option_copied result ≡ default_window_lem text.entry.now }
+    ensures { option_copied result ≡ spec.default_window text.entry.now }
 {
     let (front, back) = parts_at_default(text)?;
     let name = behind_opening(front)?;
@@ -99,7 +101,8 @@ fn behind_opening(text: &[u8]) -> Option<&[u8]>
 
 /// What stands before a `}` at the end.
 fn before_closing(text: &[u8]) -> Option<&[u8]>
-    ensures { option_copied result ≡ (if ends_with nat_eq text.entry.now (codes "}") then Some (take (length text.entry.now - 1) text.entry.now) else None) }
+    ensures { option_copied result
+        ≡ (if ends_with nat_eq text.entry.now (codes "}") then Some (take (length text.entry.now - 1) text.entry.now) else None) }
 {
     if text.ends_with(CLOSING) {
         Some(&text[..text.len() - CLOSING.len()])

@@ -3,7 +3,7 @@
 ghost use Rattle.std.specs.Prelude.{◌≡◌, ◌∷◌, ◌++◌, ◌==◌, [], OnOk, if◌then◌else◌, length};
 ghost use Rattle.init_machine.specs.declared.diagnostic.DiagKind.TheVariants as kinds;
 ghost use Rattle.rc_parse.specs.Code.Adding.{section_of};
-ghost use Rattle.rc_parse.specs.Lines.{arguments as arguments_lem};
+ghost use Rattle.rc_parse.specs.Lines as spec;
 ghost use Rattle.rc_parse.specs.Readings.{diagnostic};
 ghost use Rattle.rc_parse.specs.Sections.{cut, import_diagnostics, import_with, orphan_diagnostics};
 
@@ -54,8 +54,9 @@ pub fn read_import(
     header: &Line<'_>,
     lines: LineSlice<'_>,
 ) -> Result<(), NoMemory>
-    ensures imports { OnOk result (imports.new ≡ imports.old ++ import_with header.now.number (arguments_lem header.now.words)) }
-    ensures diagnostics { OnOk result (diagnostics.new ≡ diagnostics.old ++ import_diagnostics file.now (section_of header.now lines.entry)) }
+    ensures imports { OnOk result (imports.new ≡ imports.old ++ import_with header.now.number (spec.arguments header.now.words)) }
+    ensures diagnostics { OnOk result
+        (diagnostics.new ≡ diagnostics.old ++ import_diagnostics file.now (section_of header.now lines.entry)) }
 {
     let words = arguments(header.words());
     add_path(imports, diagnostics, file, header.number(), words)?;

@@ -3,7 +3,8 @@
 ghost use Rattle.std.specs.Prelude.{◌≡◌};
 ghost use Rattle.std.specs.List.{position_or_len};
 ghost use Rattle.rc_parse.specs.Code.Adding.{from_header};
-ghost use Rattle.rc_parse.specs.Lines.{is_header as is_header_lem, lines_before_header};
+ghost use Rattle.rc_parse.specs.Lines.{lines_before_header};
+ghost use Rattle.rc_parse.specs.Lines as spec;
 
 use crate::words::is_header;
 use rc_tokens::{Line, LineSlice};
@@ -17,7 +18,7 @@ pub struct Section<'a> {
 
 /// The number of lines before the first header.
 fn section_len(lines: &LineSlice<'_>) -> usize
-    ensures { result ≡ position_or_len is_header_lem lines.now }
+    ensures { result ≡ position_or_len spec.is_header lines.now }
 {
     let mut left = lines.again();
     while let Some(line) = left.pop() {

@@ -41,8 +41,10 @@ impl Merger {
         ensures diagnostics { IfOk result (λ next. next.1 ≡ agains_behind self.services parsed.services) }
         // Over all services that were read, file after file, those stay that `Kept` says, and the diagnostics are those
         // of the services of this file behind all before it.
-        ensures kept { IfOk result (λ next. (read : Items Service) → self.services ≡ kept read → Kept (read ++ parsed.services) next.0.services) }
-        ensures again { IfOk result (λ next. (read : Items Service) → self.services ≡ kept read → next.1 ≡ agains_behind read parsed.services) }
+        ensures kept { IfOk result
+            (λ next. (read : Items Service) → self.services ≡ kept read → Kept (read ++ parsed.services) next.0.services) }
+        ensures again { IfOk result
+            (λ next. (read : Items Service) → self.services ≡ kept read → next.1 ≡ agains_behind read parsed.services) }
     {
         let Merger {
             mut actions,
@@ -58,7 +60,8 @@ impl Merger {
 
     /// The configuration of these actions and services, and of nothing else.
     pub fn into_config(self, alloc: Global) -> Result<Config, NoMemory>
-        ensures { IfOk result (λ config. config ≡ record { actions = self.actions; services = self.services; pairs = []; saved = []; plans = []; domains = [] }) }
+        ensures { IfOk result (λ config. config
+            ≡ record { actions = self.actions; services = self.services; pairs = []; saved = []; plans = []; domains = [] }) }
     {
         Ok(Config {
             actions: self.actions,

@@ -34,7 +34,8 @@ impl Names {
     #[tactic(auto, using(crate::proofs::KnownNames::name_put, crate::proofs::KnownNames::is_longer))]
     fn put(&mut self, name: &[u8]) -> Result<bool, NoMemory>
         ensures added { IfOk result (λ is_new. is_new ≡ not (knows self.old.names name.now)) }
-        ensures names { OnOk result ((other : Items ℕ) → knows self.new.names other ≡ (bytes_eq name.now other || knows self.old.names other)) }
+        ensures names { OnOk result
+            ((other : Items ℕ) → knows self.new.names other ≡ (bytes_eq name.now other || knows self.old.names other)) }
     {
         let count = self.names.len();
         self.names.add(name)?;
@@ -48,9 +49,11 @@ impl Names {
         service: &ServiceMark,
         diagnostics: &mut List<Diagnostic>,
     ) -> Result<(), NoMemory>
-        ensures names { OnOk result ((before : Items ServiceDef) (read : ServiceDef) → AreNamesOf self.old before → service.now ≡ mark_of read →
+        ensures names { OnOk result
+            ((before : Items ServiceDef) (read : ServiceDef) → AreNamesOf self.old before → service.now ≡ mark_of read →
             AreNamesOf self.new (before ++ read ∷ [])) }
-        ensures diagnostics { OnOk result ((before : Items ServiceDef) (read : ServiceDef) → AreNamesOf self.old before → service.now ≡ mark_of read →
+        ensures diagnostics { OnOk result
+            ((before : Items ServiceDef) (read : ServiceDef) → AreNamesOf self.old before → service.now ≡ mark_of read →
             diagnostics.new ≡ diagnostics.old ++ agains_behind before (read ∷ [])) }
     {
         let is_new = self.put(service.name.bytes())?;
@@ -74,7 +77,8 @@ impl Names {
     ) -> Result<(), NoMemory>
         ensures names { OnOk result ((before read : Items ServiceDef) → AreNamesOf self.old before → services ≡ map mark_of read →
             AreNamesOf self.new (before ++ read)) }
-        ensures diagnostics { OnOk result ((before read : Items ServiceDef) → AreNamesOf self.old before → services ≡ map mark_of read →
+        ensures diagnostics { OnOk result
+            ((before read : Items ServiceDef) → AreNamesOf self.old before → services ≡ map mark_of read →
             diagnostics.new ≡ diagnostics.old ++ agains_behind before read) }
     {
         for service in services.into_vec() {

@@ -12,7 +12,8 @@ ghost use Rattle.rc_parse.specs.declared.parsed.Parsed.{Parsed};
 #[tactic(auto, using(crate::proofs::Placed::lines_parted, crate::proofs::Placed::diagnostics_placed, crate::proofs::Placed::diagnostics_ascend))]
 pub fn lines_have_their_places()
     ensures lines { (lines : List Line) → IsParted lines }
-    ensures diagnostics { (file : List ℕ) (tokens : Tokens) (parsed : Parsed) → Sections file tokens parsed → ArePlaced file tokens parsed }
+    ensures diagnostics { (file : List ℕ) (tokens : Tokens) (parsed : Parsed) → Sections file tokens parsed
+        → ArePlaced file tokens parsed }
     // The lines of diagnostics ascend, since the numbers of lines do.
     ensures ascend { (file : List ℕ) (tokens : Tokens) (parsed : Parsed) → Sections file tokens parsed →
         Ascend (numbers tokens.lines tokens.dropped) → Ascend (places parsed.diagnostics) }

@@ -3,7 +3,7 @@
 ghost use Rattle.std.specs.Prelude.{◌≡◌, false, IsTrue, IfOk, OnOk};
 ghost use Rattle.std.specs.List.{list_all};
 ghost use Rattle.rc_parse.specs.Code.Adding.{section_of, with_section};
-ghost use Rattle.rc_parse.specs.Lines.{is_on as is_on_lem, is_service as is_service_lem};
+ghost use Rattle.rc_parse.specs.Lines as spec;
 ghost use Rattle.rc_parse.specs.Sections.{Sections, has_command};
 
 use crate::action::add_action;
@@ -18,8 +18,8 @@ use std::alloc::Global;
 
 /// Adds an `import` section. The lines behind it belong to no section.
 fn add_import(parsed: &mut Parsed, file: &Text, section: Section<'_>) -> Result<(), NoMemory>
-    requires other { is_on_lem section.header ≡ false }
-    requires import { is_service_lem section.header ≡ false }
+    requires other { spec.is_on section.header ≡ false }
+    requires import { spec.is_service section.header ≡ false }
     ensures { OnOk result (parsed.new ≡ with_section file.now parsed.old (section_of section.entry.header section.entry.body)) }
 {
     let Section { header, body } = section;

@@ -5,7 +5,8 @@ ghost use Rattle.rc_parse.specs.Code.Adding.{section_of, setting_diagnostics, wi
 ghost use Rattle.rc_parse.specs.Lines.{is_on, is_service};
 ghost use Rattle.rc_parse.specs.Readings.{diagnosed, values};
 ghost use Rattle.rc_parse.specs.Sections.{setting_at, settings_of};
-ghost use Rattle.rc_parse.specs.Services.{is_service_header as is_service_header_lem, is_service_name as is_service_name_lem, service_with};
+ghost use Rattle.rc_parse.specs.Services.{service_with};
+ghost use Rattle.rc_parse.specs.Services as spec;
 ghost use Rattle.rc_parse.specs.Code.Settings.{with_setting, with_settings};
 
 use crate::fault::Fault;
@@ -26,14 +27,14 @@ const DEFAULT_CLASS: &[u8] = b"default";
 const DEFAULT_PERIOD: Millis = Millis(5000);
 
 fn is_service_name(name: &[u8]) -> bool
-    ensures { result ≡ is_service_name_lem name.now }
+    ensures { result ≡ spec.is_service_name name.now }
 {
     is_legal_name(name) && name.len() <= LONGEST_NAME
 }
 
 /// Whether these are the words behind `service` in a header of a good form.
 pub fn is_service_header(words: &[Text]) -> bool
-    ensures { result ≡ is_service_header_lem words.now }
+    ensures { result ≡ spec.is_service_header words.now }
 {
     words.len() >= 2 && is_service_name(words[0].bytes()) && !words[1].is_empty()
 }
@@ -46,7 +47,7 @@ fn new_service(
     line: u32,
     words: &[Text],
 ) -> Result<ServiceDef, NoMemory>
-    requires { is_service_header_lem words.now ≡ true }
+    requires { spec.is_service_header words.now ≡ true }
     ensures { IfOk result (λ service. service ≡ service_with file.now line words.now []) }
 {
     let mut classes = List::new(alloc);
@@ -96,7 +97,8 @@ fn set_option(
     diagnostics: &mut List<Diagnostic>,
 ) -> Result<(), NoMemory>
     ensures service { OnOk result (service.new ≡ with_settings service.old (values (setting_at file.now line.now))) }
-    ensures diagnostics { OnOk result (diagnostics.new ≡ diagnostics.old ++ diagnosed file.now line.now.number (setting_at file.now line.now)) }
+    ensures diagnostics { OnOk result
+        (diagnostics.new ≡ diagnostics.old ++ diagnosed file.now line.now.number (setting_at file.now line.now)) }
 {
     match read_setting(alloc, file, line.number(), line.words()) {
         Ok(setting) => set(service, setting),

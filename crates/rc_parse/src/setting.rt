@@ -1,10 +1,12 @@
 //! The options of a service.
 
 ghost use Rattle.std.specs.Prelude.{◌≡◌, ◌*◌, ℕ, List as Items};
-ghost use Rattle.rc_parse.specs.Code.Skimming.{onrestart_word as onrestart_word_lem, overriding};
-ghost use Rattle.rc_parse.specs.Options.{is_waiting_word as is_waiting_word_lem, onrestart_of, option_word as option_word_lem, row_of, seconds_of, setting_of, word_with as word_with_lem};
+ghost use Rattle.rc_parse.specs.Code.Skimming.{overriding};
+ghost use Rattle.rc_parse.specs.Code.Skimming as skimming_spec;
+ghost use Rattle.rc_parse.specs.Options.{onrestart_of, row_of, seconds_of, setting_of};
+ghost use Rattle.rc_parse.specs.Options as options_spec;
 ghost use Rattle.rc_parse.specs.Readings.{IsReading};
-ghost use Rattle.rc_parse.specs.Values.{millis as millis_lem};
+ghost use Rattle.rc_parse.specs.Values as values_spec;
 
 use crate::command::{command_with, command_word};
 use crate::critical::critical;
@@ -49,7 +51,7 @@ fn row_of_option(rows: &[(OptionWord, Arity)], word: &[u8]) -> Option<(OptionWor
 
 /// The row's option, if the row permits so many arguments.
 fn word_with(row: Option<(OptionWord, Arity)>, count: usize) -> Result<OptionWord, Fault>
-    ensures { IsReading result (word_with_lem count row) }
+    ensures { IsReading result (options_spec.word_with count row) }
 {
     let Some((word, arity)) = row else {
         return Err(Fault::Bad(DiagKind::BadWord));
@@ -63,20 +65,20 @@ fn word_with(row: Option<(OptionWord, Arity)>, count: usize) -> Result<OptionWor
 /// The word of an option with so many arguments.
 #[tactic(auto, unfolding(crate::specs::Options::option_word))]
 fn option_word(word: &[u8], count: usize) -> Result<OptionWord, Fault>
-    ensures { IsReading result (option_word_lem word.now count) }
+    ensures { IsReading result (options_spec.option_word word.now count) }
 {
     word_with(row_of_option(&OPTIONS, word), count)
 }
 
 fn is_waiting_word(text: &[u8]) -> bool
-    ensures { result ≡ is_waiting_word_lem text.now }
+    ensures { result ≡ options_spec.is_waiting_word text.now }
 {
     WAITING.iter().any(|word| text == word.name())
 }
 
 /// The word of the command behind `onrestart`, with so many arguments.
 fn onrestart_word(text: &[u8], count: usize) -> Result<Word, Fault>
-    ensures { IsReading result (onrestart_word_lem text.now count) }
+    ensures { IsReading result (skimming_spec.onrestart_word text.now count) }
 {
     if is_waiting_word(text) {
         return Err(Fault::Bad(DiagKind::BadOption));
@@ -94,7 +96,7 @@ fn onrestart(alloc: Global, file: &Text, line: u32, words: &[Text]) -> Result<Co
 }
 
 fn millis(seconds: u32) -> Millis
-    ensures { result ≡ millis_lem (seconds * 1000) }
+    ensures { result ≡ values_spec.millis (seconds * 1000) }
 {
     Millis(u64::from(seconds) * MILLIS_OF_SECOND)
 }

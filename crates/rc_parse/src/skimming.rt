@@ -4,7 +4,7 @@ ghost use Rattle.std.specs.Prelude.{◌≡◌, ◌++◌, true, false, IfOk, OnOk
 ghost use Rattle.std.specs.List.{list_any};
 ghost use Rattle.rc_parse.specs.Code.Adding.{command_diagnostics, section_of, setting_diagnostics};
 ghost use Rattle.rc_parse.specs.Code.Skimming.{settled, with_skim};
-ghost use Rattle.rc_parse.specs.Lines.{arguments as arguments_lem, is_on as is_on_lem, is_service as is_service_lem};
+ghost use Rattle.rc_parse.specs.Lines as spec;
 ghost use Rattle.rc_parse.specs.Readings.{IsReading, diagnosed, values};
 ghost use Rattle.rc_parse.specs.Sections.{Sections, action_diagnostics, command_at, orphan_diagnostics, setting_at, settings_of};
 ghost use Rattle.rc_parse.specs.Services.{is_override};
@@ -60,7 +60,7 @@ fn judge_commands(
 /// Whether the triggers of an `on` line are of a good form. Of one alone no value is made.
 #[tactic(auto, using(crate::proofs::Alone::good_alone, crate::proofs::Alone::bad_alone))]
 fn judge_triggers(alloc: Global, header: &SpanLine<'_>) -> Result<(), Fault>
-    ensures { IsReading result (settled (triggers_of (arguments_lem header.now.words))) }
+    ensures { IsReading result (settled (triggers_of (spec.arguments header.now.words))) }
 {
     if header.len() == 2 {
         if is_bad_trigger(second_of(header)) {
@@ -82,7 +82,7 @@ fn judge_action(
     lines: SpanSlice<'_>,
 ) -> Result<(), NoMemory>
     ensures { OnOk result (diagnostics.new ≡ diagnostics.old
-        ++ action_diagnostics file.now (section_of header.now lines.entry) (triggers_of (arguments_lem header.now.words))) }
+        ++ action_diagnostics file.now (section_of header.now lines.entry) (triggers_of (spec.arguments header.now.words))) }
 {
     match judge_triggers(alloc, header) {
         Ok(()) => judge_commands(diagnostics, file, lines),
@@ -99,7 +99,8 @@ fn judge_option(
     line: &SpanLine<'_>,
 ) -> Result<bool, NoMemory>
     ensures overrides { IfOk result (λ overrides. overrides ≡ list_any is_override (values (setting_at file.now line.now))) }
-    ensures diagnostics { OnOk result (diagnostics.new ≡ diagnostics.old ++ diagnosed file.now line.now.number (setting_at file.now line.now)) }
+    ensures diagnostics { OnOk result
+        (diagnostics.new ≡ diagnostics.old ++ diagnosed file.now line.now.number (setting_at file.now line.now)) }
 {
     match judge_setting(alloc, line) {
         Ok(overrides) => Ok(overrides),
@@ -137,8 +138,8 @@ fn skim_service(
     header: &SpanLine<'_>,
     lines: SpanSlice<'_>,
 ) -> Result<(), NoMemory>
-    requires other { is_on_lem header.now ≡ false }
-    requires service { is_service_lem header.now ≡ true }
+    requires other { spec.is_on header.now ≡ false }
+    requires service { spec.is_service header.now ≡ true }
     ensures { OnOk result (skimmed.new ≡ with_skim file.now skimmed.old (section_of header.now lines.entry)) }
 {
     let texts = header.texts(alloc)?;
@@ -164,7 +165,7 @@ fn skim_action(
     header: &SpanLine<'_>,
     lines: SpanSlice<'_>,
 ) -> Result<(), NoMemory>
-    requires { is_on_lem header.now ≡ true }
+    requires { spec.is_on header.now ≡ true }
     ensures { OnOk result (skimmed.new ≡ with_skim file.now skimmed.old (section_of header.now lines.entry)) }
 {
     judge_action(&mut skimmed.diagnostics, alloc, file, header, lines)?;
@@ -193,8 +194,8 @@ fn skim_import(
     header: &SpanLine<'_>,
     lines: SpanSlice<'_>,
 ) -> Result<(), NoMemory>
-    requires other { is_on_lem header.now ≡ false }
-    requires import { is_service_lem header.now ≡ false }
+    requires other { spec.is_on header.now ≡ false }
+    requires import { spec.is_service header.now ≡ false }
     ensures { OnOk result (skimmed.new ≡ with_skim file.now skimmed.old (section_of header.now lines.entry)) }
 {
     let Skimmed {

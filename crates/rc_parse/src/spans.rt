@@ -3,7 +3,8 @@
 ghost use Rattle.std.specs.Prelude.{◌≡◌};
 ghost use Rattle.std.specs.List.{position_or_len};
 ghost use Rattle.rc_parse.specs.Code.Adding.{from_header};
-ghost use Rattle.rc_parse.specs.Lines.{arguments as arguments_lem, first_word as first_word_lem, is_header as is_header_lem, lines_before_header};
+ghost use Rattle.rc_parse.specs.Lines.{lines_before_header};
+ghost use Rattle.rc_parse.specs.Lines as spec;
 
 use crate::words::is_header_word;
 use rc_tokens::{SpanLine, SpanSlice};
@@ -11,7 +12,7 @@ use rc_tokens::{SpanLine, SpanSlice};
 /// The first word, or the empty word.
 #[tactic(auto, using(crate::proofs::Firsts::first_got, crate::proofs::Firsts::none_got))]
 pub fn first_of<'a>(line: &SpanLine<'a>) -> &'a [u8]
-    ensures { result.now ≡ first_word_lem line.now.words }
+    ensures { result.now ≡ spec.first_word line.now.words }
 {
     match line.at(0) {
         Some(word) => word,
@@ -22,7 +23,7 @@ pub fn first_of<'a>(line: &SpanLine<'a>) -> &'a [u8]
 /// The first of the words behind it, or the empty word.
 #[tactic(auto, using(crate::proofs::Firsts::second_got, crate::proofs::Firsts::no_second))]
 pub fn second_of<'a>(line: &SpanLine<'a>) -> &'a [u8]
-    ensures { result.now ≡ first_word_lem (arguments_lem line.now.words) }
+    ensures { result.now ≡ spec.first_word (spec.arguments line.now.words) }
 {
     match line.at(1) {
         Some(word) => word,
@@ -32,14 +33,14 @@ pub fn second_of<'a>(line: &SpanLine<'a>) -> &'a [u8]
 
 /// Whether a line begins a section.
 pub fn is_span_header(line: &SpanLine<'_>) -> bool
-    ensures { result ≡ is_header_lem line.now }
+    ensures { result ≡ spec.is_header line.now }
 {
     is_header_word(first_of(line))
 }
 
 /// The number of lines before the first header.
 fn span_section_len(lines: &SpanSlice<'_>) -> usize
-    ensures { result ≡ position_or_len is_header_lem lines.now }
+    ensures { result ≡ position_or_len spec.is_header lines.now }
 {
     let mut left = lines.again();
     while let Some(line) = left.pop() {

@@ -108,7 +108,8 @@ fn put_place(
     name: &[u8],
     place: usize,
 ) -> Result<(), NoMemory>
-    ensures { OnOk result ((other : Items ℕ) → place_of places.new other ≡ (if bytes_eq other name.now then Some place else place_of places.old other)) }
+    ensures { OnOk result ((other : Items ℕ)
+        → place_of places.new other ≡ (if bytes_eq other name.now then Some place else place_of places.old other)) }
 {
     places.insert(Vec::from_slice(alloc, name)?, place)?;
     Ok(())

@@ -3,9 +3,11 @@
 ghost use Rattle.std.specs.Prelude.{◌≡◌, false, IfOk, MatchOption, map};
 ghost use Rattle.std.specs.List.{list_any, position};
 ghost use Rattle.std.specs.Option.{option_copied};
-ghost use Rattle.rc_parse.specs.Code.Joining.{Parts, behind_joiner as behind_joiner_lem, joined_of, with_trigger};
+ghost use Rattle.rc_parse.specs.Code.Joining.{Parts, joined_of, with_trigger};
+ghost use Rattle.rc_parse.specs.Code.Joining as joining_spec;
 ghost use Rattle.rc_parse.specs.Readings.{IsReading, is_bad};
-ghost use Rattle.rc_parse.specs.Triggers.{has_twice, is_equals_sign, test_of, tested_value as tested_value_lem, trigger_of, triggers_of};
+ghost use Rattle.rc_parse.specs.Triggers.{has_twice, is_equals_sign, test_of, trigger_of, triggers_of};
+ghost use Rattle.rc_parse.specs.Triggers as triggers_spec;
 
 use crate::fault::Fault;
 use crate::words::{behind, is_legal_name};
@@ -40,7 +42,8 @@ fn equals_sign(text: &[u8]) -> Option<usize>
 /// What stands before the first `=`, and what stands behind it.
 #[tactic(auto, using(crate::proofs::Signs::no_parts))]
 fn parts_at_equals(text: &Text) -> Result<Option<(Text, Text)>, NoMemory>
-    ensures { IfOk result (λ parts. MatchOption parts (list_any is_equals_sign text.now ≡ false) (λ found. Parts text.now found.0 found.1)) }
+    ensures { IfOk result (λ parts. MatchOption parts (list_any is_equals_sign text.now ≡ false)
+        (λ found. Parts text.now found.0 found.1)) }
 {
     let Some(place) = equals_sign(text.bytes()) else {
         return Ok(None);
@@ -52,7 +55,7 @@ fn parts_at_equals(text: &Text) -> Result<Option<(Text, Text)>, NoMemory>
 
 /// The value that is tested; `*` stands for any.
 fn tested_value(value: Text) -> Option<Text>
-    ensures { result ≡ tested_value_lem value }
+    ensures { result ≡ triggers_spec.tested_value value }
 {
     if value.is(b"*") { None } else { Some(value) }
 }
@@ -142,7 +145,7 @@ impl Triggers {
 
 /// What stands behind a joining word, or nothing at the end. None for another word.
 fn behind_joiner(words: &[Text]) -> Option<&[Text]>
-    ensures { option_copied result ≡ behind_joiner_lem words.entry.now }
+    ensures { option_copied result ≡ joining_spec.behind_joiner words.entry.now }
 {
     match words {
         [] => Some(&[]),

@@ -2,8 +2,8 @@
 
 ghost use Rattle.std.specs.Prelude.{◌≡◌, ◌≤◌, ◌||◌, IfOk, codes, drop, length};
 ghost use Rattle.std.specs.Str.{bytes_eq};
-ghost use Rattle.init_base.specs.Name.{is_legal_name as is_legal_name_lem};
-ghost use Rattle.rc_parse.specs.Lines.{arguments as arguments_lem, first_word as first_word_lem, is_header as is_header_lem, is_on as is_on_lem, is_service as is_service_lem};
+ghost use Rattle.init_base.specs.Name as name_spec;
+ghost use Rattle.rc_parse.specs.Lines as lines_spec;
 
 use init_base::{List, NoMemory, PropName, Text};
 use rc_tokens::Line;
@@ -11,7 +11,7 @@ use std::alloc::Global;
 
 /// The first of some words, or the empty word.
 pub fn first_word(words: &[Text]) -> &[u8]
-    ensures { result.now ≡ first_word_lem words.entry.now }
+    ensures { result.now ≡ lines_spec.first_word words.entry.now }
 {
     match words {
         [] => &[],
@@ -21,7 +21,7 @@ pub fn first_word(words: &[Text]) -> &[u8]
 
 /// The words behind the first one.
 pub fn arguments(words: &[Text]) -> &[Text]
-    ensures { result.now ≡ arguments_lem words.entry.now }
+    ensures { result.now ≡ lines_spec.arguments words.entry.now }
 {
     match words {
         [] => &[],
@@ -31,14 +31,14 @@ pub fn arguments(words: &[Text]) -> &[Text]
 
 /// Whether a line begins an action.
 pub fn is_on(line: &Line<'_>) -> bool
-    ensures { result ≡ is_on_lem line.now }
+    ensures { result ≡ lines_spec.is_on line.now }
 {
     is_text(first_word(line.words()), b"on")
 }
 
 /// Whether a line begins a service.
 pub fn is_service(line: &Line<'_>) -> bool
-    ensures { result ≡ is_service_lem line.now }
+    ensures { result ≡ lines_spec.is_service line.now }
 {
     is_text(first_word(line.words()), b"service")
 }
@@ -61,14 +61,14 @@ pub fn is_header_word(word: &[u8]) -> bool
 
 /// Whether a line begins a section.
 pub fn is_header(line: &Line<'_>) -> bool
-    ensures { result ≡ is_header_lem line.now }
+    ensures { result ≡ lines_spec.is_header line.now }
 {
     is_header_word(first_word(line.words()))
 }
 
 /// Whether a text is the name of a property.
 pub fn is_legal_name(name: &[u8]) -> bool
-    ensures { result ≡ is_legal_name_lem name.now }
+    ensures { result ≡ name_spec.is_legal_name name.now }
 {
     PropName::of(name).is_some()
 }

@@ -1,7 +1,8 @@
 //! Lines of words, as they are looked at.
 
 ghost use Rattle.std.specs.Prelude.{◌≡◌, ◌∷◌, ◌≤◌, ◌↔◌, [], IsTrue, MatchOption, length, take, drop, slice_get};
-ghost use Rattle.rc_tokens.specs.Code.Ranges.{are_among, is_within, line_at as line_at_lem, lines_at};
+ghost use Rattle.rc_tokens.specs.Code.Ranges.{are_among, is_within, lines_at};
+ghost use Rattle.rc_tokens.specs.Code.Ranges as spec;
 
 use crate::range::{Mark, Range};
 use init_base::Text;
@@ -126,7 +127,7 @@ impl<'a> LineSlice<'a> {
 
 fn line_at<'a>(words: &'a [Text], mark: Mark) -> Line<'a>
     requires { IsTrue (is_within (length words.now) mark.words) }
-    ensures { result ≡ line_at_lem words.now mark }
+    ensures { result ≡ spec.line_at words.now mark }
 {
     let Range { from, to } = mark.words;
     Line {

@@ -56,7 +56,8 @@ pub fn one_reading()
 
 /// The numbers of the lines of a text ascend, and that of the line that is left out is the greatest.
 pub fn lines_ascend()
-    ensures { (bytes : Items ℕ) (lines : Items Line) (dropped : Option ℕ) → Lines bytes lines dropped → Ascend (numbers lines dropped) }
+    ensures { (bytes : Items ℕ) (lines : Items Line) (dropped : Option ℕ) → Lines bytes lines dropped
+        → Ascend (numbers lines dropped) }
 {}
 
 fn read(alloc: Global, bytes: &[u8]) -> Result<SpanTokens, NoMemory>

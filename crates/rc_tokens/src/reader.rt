@@ -2,7 +2,7 @@
 //! `with_run` and `finished` of `specs/Code/Steps.antt`.
 
 ghost use Rattle.std.specs.Prelude.{◌≡◌, ◌≢◌, ◌<◌, ◌≤◌, ◌^◌, ◌+◌, ◌-◌, ◌++◌, ◌∷◌, [], IsTrue, OnOk, IfOk, length};
-ghost use Rattle.rc_tokens.specs.Grammar.{escaped as escaped_lem};
+ghost use Rattle.rc_tokens.specs.Grammar as spec;
 ghost use Rattle.rc_tokens.specs.Code.Steps as steps;
 
 use crate::run::{blanks, is_blank, is_space, is_token_next, line_feeds, run_len};
@@ -319,7 +319,7 @@ fn number_after(number: u32, byte: u8) -> u32
 
 /// The byte that a backslash and this byte give.
 fn escaped(byte: u8) -> u8
-    ensures { result ≡ escaped_lem byte }
+    ensures { result ≡ spec.escaped byte }
 {
     match byte {
         b'n' => b'\n',

@@ -2,7 +2,8 @@
 
 ghost use Rattle.std.specs.Prelude.{◌≡◌, ◌==◌, ◌≤◌, not, length};
 ghost use Rattle.std.specs.List.{count_by, position_or_len};
-ghost use Rattle.rc_tokens.specs.Grammar.{begins, is_blank as is_blank_lem, is_line_feed, is_plain as is_plain_lem, is_space as is_space_lem};
+ghost use Rattle.rc_tokens.specs.Grammar.{begins, is_line_feed};
+ghost use Rattle.rc_tokens.specs.Grammar as spec;
 ghost use Rattle.rc_tokens.specs.Code.Steps.{begins_token, ends_run};
 
 use crate::reader::Mode;
@@ -32,7 +33,7 @@ pub fn is_token_next(bytes: &[u8]) -> bool
 
 /// The number of blanks at the front.
 pub fn blanks(bytes: &[u8]) -> usize
-    ensures { result ≡ position_or_len (λ b. not (is_blank_lem b)) bytes.now }
+    ensures { result ≡ position_or_len (λ b. not (spec.is_blank b)) bytes.now }
 {
     for (place, byte) in bytes.iter().enumerate() {
         if !is_blank(*byte) {
@@ -44,7 +45,7 @@ pub fn blanks(bytes: &[u8]) -> usize
 
 /// The number of bytes at the front that stand for themselves in a token.
 fn plain_bytes(bytes: &[u8]) -> usize
-    ensures { result ≡ position_or_len (λ b. not (is_plain_lem b)) bytes.now }
+    ensures { result ≡ position_or_len (λ b. not (spec.is_plain b)) bytes.now }
 {
     for (place, byte) in bytes.iter().enumerate() {
         if !is_plain(*byte) {
@@ -75,13 +76,13 @@ pub fn line_feeds(bytes: &[u8]) -> usize
 }
 
 pub fn is_space(byte: u8) -> bool
-    ensures { result ≡ is_space_lem byte }
+    ensures { result ≡ spec.is_space byte }
 {
     byte == b' ' || byte == b'\t'
 }
 
 pub fn is_blank(byte: u8) -> bool
-    ensures { result ≡ is_blank_lem byte }
+    ensures { result ≡ spec.is_blank byte }
 {
     is_space(byte) || byte == b'\r'
 }
@@ -89,7 +90,7 @@ pub fn is_blank(byte: u8) -> bool
 /// Whether a byte stands for itself in a token outside quotes. Two tests tell it of most bytes.
 #[tactic(auto, using(crate::proofs::Bytes::plain_above, crate::proofs::Bytes::plain_below))]
 fn is_plain(byte: u8) -> bool
-    ensures { result ≡ is_plain_lem byte }
+    ensures { result ≡ spec.is_plain byte }
 {
     if byte > b'"' {
         byte != b'\\'

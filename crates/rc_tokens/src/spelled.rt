@@ -92,7 +92,8 @@ impl Spelled {
 
     /// The words of the present line are a line of this number.
     pub fn end_line(&mut self, number: u32) -> Result<(), NoMemory>
-        ensures { OnOk result (self.new ≡ record self.old { lines = self.old.lines ++ record { number = number; words = self.old.words } ∷ []; words = [] }) }
+        ensures { OnOk result (self.new
+            ≡ record self.old { lines = self.old.lines ++ record { number = number; words = self.old.words } ∷ []; words = [] }) }
     {
         let to = place(self.words.len())?;
         let words = Range {

@@ -1,8 +1,10 @@
 //! Why a line of a policy's texts is bad. The causes are defined in `specs/Contexts.antt` and `specs/Allows.antt`.
 
 ghost use Rattle.std.specs.Prelude.{◌≡◌, ◌≤◌, ◌↔◌, ℕ, IfOk, IsTrue, List as Bytes, MatchOption, length};
-ghost use Rattle.refusal_causes.specs.Allows.{IsAllowCause, numbered_allow_cause as numbered_allow_cause_lem};
-ghost use Rattle.refusal_causes.specs.Contexts.{IsBadContexts, IsContextCause, numbered_context_cause as numbered_context_cause_lem};
+ghost use Rattle.refusal_causes.specs.Allows.{IsAllowCause};
+ghost use Rattle.refusal_causes.specs.Allows as allows_spec;
+ghost use Rattle.refusal_causes.specs.Contexts.{IsBadContexts, IsContextCause};
+ghost use Rattle.refusal_causes.specs.Contexts as contexts_spec;
 ghost use Rattle.prop_contexts.specs.Grammar.{IsBadAllow, IsRefused};
 ghost use Rattle.refusal_causes.specs.Contexts.{IsUnrefused};
 
@@ -77,7 +79,7 @@ fn numbered_context_cause(
     bytes: &[u8],
     number: u32,
 ) -> Result<Option<ContextCause>, NoMemory>
-    ensures { IfOk result (λ cause. cause ≡ numbered_context_cause_lem bytes.now number) }
+    ensures { IfOk result (λ cause. cause ≡ contexts_spec.numbered_context_cause bytes.now number) }
 {
     let lines = lines(alloc, bytes)?;
     let at = number.saturating_sub(1) as usize;
@@ -147,7 +149,7 @@ fn numbered_allow_cause(
     bytes: &[u8],
     number: u32,
 ) -> Result<Option<AllowCause>, NoMemory>
-    ensures { IfOk result (λ cause. cause ≡ numbered_allow_cause_lem bytes.now number) }
+    ensures { IfOk result (λ cause. cause ≡ allows_spec.numbered_allow_cause bytes.now number) }
 {
     let lines = lines(alloc, bytes)?;
     match lines.at(number.saturating_sub(1) as usize) {

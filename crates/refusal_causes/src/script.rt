@@ -2,8 +2,9 @@
 
 ghost use Rattle.std.specs.Prelude.{◌≡◌, ◌↔◌, ℕ, IfOk, IsTrue, List as Bytes, MatchOption, not};
 ghost use Rattle.std.specs.List.{find};
-ghost use Rattle.refusal_causes.specs.Script.{IsScriptCause, line_cause as line_cause_lem, numbered_cause as numbered_cause_lem};
-ghost use Rattle.script_lang.specs.Lines.{is_permitted as is_permitted_lem};
+ghost use Rattle.refusal_causes.specs.Script.{IsScriptCause};
+ghost use Rattle.refusal_causes.specs.Script as script_spec;
+ghost use Rattle.script_lang.specs.Lines as lines_spec;
 ghost use Rattle.script_lang.specs.Refusal.{IsBadAt, IsRefused};
 
 mod argument;
@@ -69,7 +70,7 @@ fn is_at(refusal: ScriptRefusal, number: u32) -> Result<bool, NoMemory>
 
 /// Why the line with this number is bad. None where it isn't, or isn't there.
 fn numbered_cause(alloc: Global, bytes: &[u8], number: u32) -> Result<Option<ScriptCause>, NoMemory>
-    ensures { IfOk result (λ cause. cause ≡ numbered_cause_lem bytes.now number) }
+    ensures { IfOk result (λ cause. cause ≡ script_spec.numbered_cause bytes.now number) }
 {
     let lines = lines(alloc, bytes)?;
     let at = number.saturating_sub(1) as usize;
@@ -81,7 +82,7 @@ fn numbered_cause(alloc: Global, bytes: &[u8], number: u32) -> Result<Option<Scr
 
 /// Why a line is bad behind the lines before it.
 fn line_cause(alloc: Global, before: &[Text], line: &[u8]) -> Result<Option<ScriptCause>, NoMemory>
-    ensures { IfOk result (λ cause. cause ≡ line_cause_lem before.now line.now) }
+    ensures { IfOk result (λ cause. cause ≡ script_spec.line_cause before.now line.now) }
 {
     if says_nothing(line) {
         return Ok(None);
@@ -98,7 +99,7 @@ fn line_cause(alloc: Global, before: &[Text], line: &[u8]) -> Result<Option<Scri
 
 /// The first byte of a line that may not stand in one.
 fn forbidden_byte(line: &[u8]) -> Option<u8>
-    ensures { result ≡ find (λ byte. not (is_permitted_lem byte)) line.now }
+    ensures { result ≡ find (λ byte. not (lines_spec.is_permitted byte)) line.now }
 {
     line.iter().copied().find(|byte| !is_permitted(*byte))
 }

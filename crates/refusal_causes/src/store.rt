@@ -3,7 +3,8 @@
 ghost use Rattle.std.specs.Prelude.{◌≡◌, ◌≤◌, ◌==◌, ℕ, IfOk, List as Bytes, MatchOption, if◌then◌else◌, length};
 ghost use Rattle.persist_file.specs.Causes.{IsRefused, IsUnfitAt};
 ghost use Rattle.persist_file.specs.declared.refusal.StoreCause.{StoreCause as AnyCause};
-ghost use Rattle.refusal_causes.specs.Store.{IsStoreFault, fault_at as fault_at_lem, fault_of as fault_of_lem, line_at as line_at_lem, lacks_end as lacks_end_lem, shape_fault as shape_fault_lem, version_in as version_in_lem, words_fault as words_fault_lem};
+ghost use Rattle.refusal_causes.specs.Store.{IsStoreFault};
+ghost use Rattle.refusal_causes.specs.Store as spec;
 
 pub mod cause;
 mod words;
@@ -22,7 +23,8 @@ use words::{name_fault, name_in, order_fault, value_fault};
 #[tactic(auto, using(crate::proofs::StoreFaults::is_told))]
 pub fn store_cause(alloc: Global, bytes: &[u8], number: u32) -> Result<Option<StoreFault>, NoMemory>
     requires { length bytes.now ≤ 33554432 }
-    ensures { IfOk result (λ fault. MatchOption fault ((why : AnyCause) → ¬ IsUnfitAt bytes.now number why) (IsStoreFault bytes.now number)) }
+    ensures { IfOk result (λ fault. MatchOption fault ((why : AnyCause) → ¬ IsUnfitAt bytes.now number why)
+        (IsStoreFault bytes.now number)) }
 {
     match first_cause(alloc, bytes, number)? {
         Some(cause) => Ok(Some(fault_of(alloc, bytes, number, cause)?)),
@@ -33,7 +35,8 @@ pub fn store_cause(alloc: Global, bytes: &[u8], number: u32) -> Result<Option<St
 /// Why the line with this number doesn't fit, where it is the first that doesn't.
 fn first_cause(alloc: Global, bytes: &[u8], number: u32) -> Result<Option<StoreCause>, NoMemory>
     requires { length bytes.now ≤ 33554432 }
-    ensures { IfOk result (λ cause. MatchOption cause ((why : AnyCause) → ¬ IsUnfitAt bytes.now number why) (IsUnfitAt bytes.now number)) }
+    ensures { IfOk result (λ cause. MatchOption cause ((why : AnyCause) → ¬ IsUnfitAt bytes.now number why)
+        (IsUnfitAt bytes.now number)) }
 {
     match refusal_of(alloc, bytes) {
         Some(refusal) => cause_at(refusal, number),
@@ -76,7 +79,7 @@ fn fault_of(
     number: u32,
     cause: StoreCause,
 ) -> Result<StoreFault, NoMemory>
-    ensures { IfOk result (λ fault. fault ≡ fault_of_lem bytes.now number cause) }
+    ensures { IfOk result (λ fault. fault ≡ spec.fault_of bytes.now number cause) }
 {
     let lines = lines(alloc, bytes)?;
     let is_cut = lacks_end(bytes, lines.len(), number);
@@ -90,7 +93,7 @@ fn fault_at(
     number: u32,
     cause: StoreCause,
 ) -> Result<StoreFault, NoMemory>
-    ensures { IfOk result (λ fault. fault ≡ fault_at_lem lines.now is_cut number cause) }
+    ensures { IfOk result (λ fault. fault ≡ spec.fault_at lines.now is_cut number cause) }
 {
     let version = version_in(lines);
     match cause {
@@ -116,7 +119,7 @@ fn words_fault(
     words: Words<'_>,
     cause: StoreCause,
 ) -> Result<StoreFault, NoMemory>
-    ensures { IfOk result (λ fault. fault ≡ words_fault_lem version before.now earlier
+    ensures { IfOk result (λ fault. fault ≡ spec.words_fault version before.now earlier
         (record { name = words.entry.name.now; kind = words.entry.kind.now; value = words.entry.value.now }) cause) }
 {
     match cause {
@@ -131,7 +134,7 @@ fn words_fault(
 
 /// What is wrong with a line that hasn't its version's words, or its end.
 fn shape_fault(version: Version, is_cut: bool) -> StoreFault
-    ensures { result ≡ shape_fault_lem version is_cut }
+    ensures { result ≡ spec.shape_fault version is_cut }
 {
     if is_cut {
         StoreFault::NoEnd
@@ -142,7 +145,7 @@ fn shape_fault(version: Version, is_cut: bool) -> StoreFault
 
 /// The version of a text. One whose first line is that of none counts as version 1.
 fn version_in(lines: &List<Text>) -> Version
-    ensures { result ≡ version_in_lem lines.now }
+    ensures { result ≡ spec.version_in lines.now }
 {
     match version_of(line_at(lines, 1)) {
         Some(version) => version,
@@ -152,7 +155,7 @@ fn version_in(lines: &List<Text>) -> Version
 
 /// The line with a number, from 1; the empty one where there is none.
 fn line_at(lines: &List<Text>, number: u32) -> &[u8]
-    ensures { result.now ≡ line_at_lem lines.now number }
+    ensures { result.now ≡ spec.line_at lines.now number }
 {
     match lines.at(number.saturating_sub(1) as usize) {
         Some(line) => line.bytes(),
@@ -162,7 +165,7 @@ fn line_at(lines: &List<Text>, number: u32) -> &[u8]
 
 /// Whether the line with this number is the last of so many, and the text doesn't end with LF.
 fn lacks_end(bytes: &[u8], count: usize, number: u32) -> bool
-    ensures { result ≡ lacks_end_lem bytes.now count number }
+    ensures { result ≡ spec.lacks_end bytes.now count number }
 {
     !bytes.ends_with(b"\n") && count == number as usize
 }

@@ -123,7 +123,8 @@ fn hold(order: &mut Agenda, time: Option<u64>, at: usize) -> Result<(), NoMemory
 
 /// Takes a time at a place out of the order, unless it is the other one.
 fn strike(order: &mut Agenda, time: Option<u64>, other: Option<u64>, at: usize)
-    ensures { (t n : ℕ) → is_held t n order.new ≡ (not (is_kept t time && not (is_kept t other) && at == n) && is_held t n order.old) }
+    ensures { (t n : ℕ) → is_held t n order.new
+        ≡ (not (is_kept t time && not (is_kept t other) && at == n) && is_held t n order.old) }
 {
     if let Some(time) = time
         && !is_same(other, time)

@@ -5,7 +5,7 @@ ghost use Rattle.std.specs.List.{position, position_or_len};
 ghost use Rattle.std.specs.Str.{bytes_eq};
 ghost use Rattle.script_lang.specs.Building.{built_from, empty_script, with_act, with_statement};
 ghost use Rattle.script_lang.specs.Ordering.{first_unfit};
-ghost use Rattle.script_lang.specs.Script.{client_id as client_id_lem};
+ghost use Rattle.script_lang.specs.Script as spec;
 
 use crate::script::{Act, Client, Script};
 use crate::statement::{Said, Statement};
@@ -64,7 +64,7 @@ fn push_act(script: &mut Script, line: u32, act: Act) -> Result<(), NoMemory>
 /// The number of the client with this name, from 1.
 fn client_id(clients: &[Client], name: &[u8]) -> ClientId
     requires { length clients.now ≤ 64 }
-    ensures { result ≡ client_id_lem clients.now name.now }
+    ensures { result ≡ spec.client_id clients.now name.now }
 {
     ClientId(place_or_len(clients, name) as u32 + 1)
 }

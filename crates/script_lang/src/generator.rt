@@ -1,7 +1,8 @@
 //! Generating a boot of so many services.
 
 ghost use Rattle.std.specs.Prelude.{◌≡◌, ◌≤◌, ◌++◌, IfOk, OnOk, string_bytes};
-ghost use Rattle.script_lang.specs.Generated.{ask_lines as ask_lines_lem, each_to, generated, root_text, script_text, service_line as service_line_lem, service_lines as service_lines_lem, setprop_line as setprop_line_lem, trigger_line as trigger_line_lem};
+ghost use Rattle.script_lang.specs.Generated.{each_to, generated, root_text, script_text};
+ghost use Rattle.script_lang.specs.Generated as spec;
 
 use init_base::{NoMemory, Text};
 use std::alloc::Global;
@@ -47,7 +48,7 @@ fn root(alloc: Global, services: u32) -> Result<Text, NoMemory>
 
 #[tactic(auto, unfolding(crate::specs::Generated::service_lines))]
 fn service_lines(page: &mut String, number: u32) -> Result<(), NoMemory>
-    ensures { OnOk result (string_bytes page.new ≡ string_bytes page.old ++ service_lines_lem number) }
+    ensures { OnOk result (string_bytes page.new ≡ string_bytes page.old ++ spec.service_lines number) }
 {
     service_line(page, number)?;
     trigger_line(page, number)?;
@@ -56,7 +57,7 @@ fn service_lines(page: &mut String, number: u32) -> Result<(), NoMemory>
 
 #[tactic(auto, unfolding(crate::specs::Generated::service_line))]
 fn service_line(page: &mut String, number: u32) -> Result<(), NoMemory>
-    ensures { OnOk result (string_bytes page.new ≡ string_bytes page.old ++ service_line_lem number) }
+    ensures { OnOk result (string_bytes page.new ≡ string_bytes page.old ++ spec.service_line number) }
 {
     writeln!(page, "service s{number} /bin/s{number}")?;
     Ok(())
@@ -64,7 +65,7 @@ fn service_line(page: &mut String, number: u32) -> Result<(), NoMemory>
 
 #[tactic(auto, unfolding(crate::specs::Generated::trigger_line))]
 fn trigger_line(page: &mut String, number: u32) -> Result<(), NoMemory>
-    ensures { OnOk result (string_bytes page.new ≡ string_bytes page.old ++ trigger_line_lem number) }
+    ensures { OnOk result (string_bytes page.new ≡ string_bytes page.old ++ spec.trigger_line number) }
 {
     writeln!(page, "on property:p{number}=*")?;
     Ok(())
@@ -72,7 +73,7 @@ fn trigger_line(page: &mut String, number: u32) -> Result<(), NoMemory>
 
 #[tactic(auto, unfolding(crate::specs::Generated::setprop_line))]
 fn setprop_line(page: &mut String, number: u32) -> Result<(), NoMemory>
-    ensures { OnOk result (string_bytes page.new ≡ string_bytes page.old ++ setprop_line_lem number) }
+    ensures { OnOk result (string_bytes page.new ≡ string_bytes page.old ++ spec.setprop_line number) }
 {
     writeln!(page, "setprop q{number} ${{p{number}}}")?;
     Ok(())
@@ -94,7 +95,7 @@ fn script(alloc: Global, services: u32) -> Result<Text, NoMemory>
 
 #[tactic(auto, unfolding(crate::specs::Generated::ask_lines))]
 fn ask_lines(page: &mut String, number: u32) -> Result<(), NoMemory>
-    ensures { OnOk result (string_bytes page.new ≡ string_bytes page.old ++ ask_lines_lem number) }
+    ensures { OnOk result (string_bytes page.new ≡ string_bytes page.old ++ spec.ask_lines number) }
 {
     writeln!(page, "@c set p{number} {number}")?;
     writeln!(page, "@c read p{number}")?;

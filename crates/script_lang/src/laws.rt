@@ -18,8 +18,10 @@ pub fn each_text_has_one_reading()
     ensures one_limit { (bytes : Items ℕ) (limit other : Limit) (number count : ℕ) →
         IsTooLarge bytes limit number → IsTooLarge bytes other count → (limit ≡ other) × (number ≡ count) }
     ensures one_line { (bytes : Items ℕ) (line other : ℕ) → IsBadAt bytes line → IsBadAt bytes other → line ≡ other }
-    ensures script_within { (bytes : Items ℕ) (script : Acts) (limit : Limit) (number : ℕ) → IsScript bytes script → ¬ IsTooLarge bytes limit number }
-    ensures line_within { (bytes : Items ℕ) (line : ℕ) (limit : Limit) (number : ℕ) → IsBadAt bytes line → ¬ IsTooLarge bytes limit number }
+    ensures script_within { (bytes : Items ℕ) (script : Acts) (limit : Limit) (number : ℕ) → IsScript bytes script
+        → ¬ IsTooLarge bytes limit number }
+    ensures line_within { (bytes : Items ℕ) (line : ℕ) (limit : Limit) (number : ℕ) → IsBadAt bytes line
+        → ¬ IsTooLarge bytes limit number }
     ensures script_or_line { (bytes : Items ℕ) (script : Acts) (line : ℕ) → IsScript bytes script → ¬ IsBadAt bytes line }
     ensures one_of_three { (bytes : Items ℕ) → ((script : Acts) × IsScript bytes script)
         ⊎ (((limit : Limit) × (number : ℕ) × IsTooLarge bytes limit number) ⊎ ((line : ℕ) × IsBadAt bytes line)) }
@@ -29,7 +31,8 @@ pub fn each_text_has_one_reading()
 /// each number in decimal.
 pub fn statements_are_written_in_one_way()
     ensures read { (s : Spoken) → IsPermitted s → statement_of (statement_words s) ≡ Some s }
-    ensures written { (words : Items (Items ℕ)) (s : Spoken) → statement_of words ≡ Some s → (words ≡ statement_words s) × IsPermitted s }
+    ensures written { (words : Items (Items ℕ)) (s : Spoken) → statement_of words ≡ Some s
+        → (words ≡ statement_words s) × IsPermitted s }
 {}
 
 /// A script meets what a run asks of it.

@@ -4,7 +4,8 @@ ghost use Rattle.std.specs.Prelude.{◌≡◌, ◌^◌, ◌<◌};
 ghost use Rattle.std.specs.Char.{is_ascii_digit};
 ghost use Rattle.std.specs.List.{list_all};
 ghost use Rattle.script_lang.specs.Reading.{IsReading};
-ghost use Rattle.script_lang.specs.Statements.{is_canonical as is_canonical_lem, number_in, status_in};
+ghost use Rattle.script_lang.specs.Statements.{number_in, status_in};
+ghost use Rattle.script_lang.specs.Statements as spec;
 
 use crate::fault::Fault;
 
@@ -43,7 +44,7 @@ pub fn status(word: &[u8]) -> Result<u8, Fault>
 
 /// Whether a word is one digit, or more of which the first isn't 0.
 pub fn is_canonical(word: &[u8]) -> bool
-    ensures { result ≡ is_canonical_lem word.now }
+    ensures { result ≡ spec.is_canonical word.now }
 {
     match word {
         [] => false,

@@ -3,7 +3,7 @@
 ghost use Rattle.std.specs.Prelude.{◌≡◌, IfOk, ◌++◌, ◌∷◌, [], ◌&&◌, not, nat_lt, length, IsTrue, List as Items};
 ghost use Rattle.std.specs.List.{list_any};
 ghost use Rattle.std.specs.Str.{bytes_eq};
-ghost use Rattle.script_lang.specs.Ordering.{first_unfit as first_unfit_lem};
+ghost use Rattle.script_lang.specs.Ordering as spec;
 ghost use Rattle.script_lang.specs.Script.{fits};
 ghost use Rattle.script_lang.specs.declared.statement.Statement.{Statement as Spoken};
 
@@ -42,8 +42,10 @@ impl<'a> Order<'a> {
 
     /// Whether a statement fits behind those before it, to which it is added then.
     fn admits(&mut self, statement: &'a Statement) -> Result<bool, NoMemory>
-        ensures answer { IfOk result (λ answer. (before : Items Spoken) → Seen self.old before → answer ≡ fits before statement.entry.now) }
-        ensures added { IfOk result (λ answer. (before : Items Spoken) → Seen self.old before → IsTrue answer → Seen self.new (before ++ statement.entry.now ∷ [])) }
+        ensures answer { IfOk result
+            (λ answer. (before : Items Spoken) → Seen self.old before → answer ≡ fits before statement.entry.now) }
+        ensures added { IfOk result (λ answer. (before : Items Spoken) → Seen self.old before → IsTrue answer
+            → Seen self.new (before ++ statement.entry.now ∷ [])) }
     {
         match statement {
             Statement::Area(_) => Ok(!self.has_act && !mem::replace(&mut self.has_area, true)),
@@ -64,8 +66,10 @@ impl<'a> Order<'a> {
     }
 
     fn admits_client(&mut self, client: &'a Client) -> Result<bool, NoMemory>
-        ensures answer { IfOk result (λ answer. (before : Items Spoken) → Seen self.old before → answer ≡ fits before (Spoken.Client client.entry.now)) }
-        ensures added { IfOk result (λ answer. (before : Items Spoken) → Seen self.old before → IsTrue answer → Seen self.new (before ++ Spoken.Client client.entry.now ∷ [])) }
+        ensures answer { IfOk result
+            (λ answer. (before : Items Spoken) → Seen self.old before → answer ≡ fits before (Spoken.Client client.entry.now)) }
+        ensures added { IfOk result (λ answer. (before : Items Spoken) → Seen self.old before → IsTrue answer
+            → Seen self.new (before ++ Spoken.Client client.entry.now ∷ [])) }
     {
         let name = client.name.bytes();
         if !self.has_room_for(name) {
@@ -77,7 +81,8 @@ impl<'a> Order<'a> {
 
     /// Whether a client with this name may be declared.
     fn has_room_for(&self, name: &[u8]) -> bool
-        ensures { result ≡ (not self.now.has_act && not (list_any (λ other. bytes_eq other.now name.now) self.now.names.items) && nat_lt (length self.now.names.items) 64) }
+        ensures { result ≡ (not self.now.has_act && not (list_any (λ other. bytes_eq other.now name.now) self.now.names.items) && nat_lt
+            (length self.now.names.items) 64) }
     {
         !self.has_act && !self.has_name(name) && self.names.len() < MOST_CLIENTS
     }
@@ -92,7 +97,7 @@ impl<'a> Order<'a> {
 
 /// The line of the first statement that doesn't fit behind those before it.
 pub fn first_unfit(alloc: Global, said: &[Said]) -> Result<Option<u32>, NoMemory>
-    ensures { IfOk result (λ line. line ≡ first_unfit_lem [] said.now) }
+    ensures { IfOk result (λ line. line ≡ spec.first_unfit [] said.now) }
 {
     let mut order = Order::new(alloc);
     for said in said {

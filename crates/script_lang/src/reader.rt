@@ -2,7 +2,7 @@
 
 ghost use Rattle.std.specs.Prelude.{◌≡◌, [], IfOk, IfErr};
 ghost use Rattle.script_lang.specs.Gathering.{or_else};
-ghost use Rattle.script_lang.specs.Ordering.{first_unfit as first_unfit_lem};
+ghost use Rattle.script_lang.specs.Ordering as spec;
 ghost use Rattle.script_lang.specs.Refusal.{IsRefused};
 ghost use Rattle.script_lang.specs.Script.{IsScript};
 
@@ -53,7 +53,7 @@ pub fn read(alloc: Global, bytes: &[u8]) -> Result<Script, ScriptRefusal>
 
 /// The first line that is out of form, or says what doesn't fit.
 fn first_bad(alloc: Global, gathered: &Gathered) -> Result<Option<u32>, NoMemory>
-    ensures { IfOk result (λ line. line ≡ or_else (first_unfit_lem [] gathered.now.said) gathered.now.unread) }
+    ensures { IfOk result (λ line. line ≡ or_else (spec.first_unfit [] gathered.now.said) gathered.now.unread) }
 {
     Ok(first_unfit(alloc, gathered.said.items())?.or(gathered.unread))
 }

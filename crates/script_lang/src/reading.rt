@@ -2,8 +2,9 @@
 
 ghost use Rattle.std.specs.Prelude.{◌≡◌, ◌<◌};
 ghost use Rattle.std.specs.List.{list_all};
-ghost use Rattle.init_base.specs.Quoted.{unquoted as unquoted_lem};
-ghost use Rattle.script_lang.specs.Lines.{first_begins_with_hash, is_blank as is_blank_lem, is_comment as is_comment_lem, is_empty_line as is_empty_line_lem, is_permitted as is_permitted_lem, says_nothing as says_nothing_lem};
+ghost use Rattle.init_base.specs.Quoted as quoted_spec;
+ghost use Rattle.script_lang.specs.Lines.{first_begins_with_hash};
+ghost use Rattle.script_lang.specs.Lines as lines_spec;
 ghost use Rattle.script_lang.specs.Reading.{IsReading};
 ghost use Rattle.script_lang.specs.Statements.{act_of, area_of, ask_of, client_of, exit_of, file_of, plain_statement_of, plan_of, read_of, reading_of, set_of, statement_of, step_of, tick_of};
 
@@ -32,32 +33,32 @@ pub fn reading(alloc: Global, line: &[u8]) -> Result<Option<Statement>, Fault>
 
 /// Whether a line is empty or a comment.
 pub fn says_nothing(line: &[u8]) -> bool
-    ensures { result ≡ says_nothing_lem line.now }
+    ensures { result ≡ lines_spec.says_nothing line.now }
 {
     is_empty_line(line) || is_comment(line)
 }
 
 fn is_empty_line(line: &[u8]) -> bool
-    ensures { result ≡ is_empty_line_lem line.now }
+    ensures { result ≡ lines_spec.is_empty_line line.now }
 {
     line.iter().all(|byte| is_blank(*byte))
 }
 
 fn is_blank(byte: u8) -> bool
-    ensures { result ≡ is_blank_lem byte }
+    ensures { result ≡ lines_spec.is_blank byte }
 {
     is_space(byte) || byte == b'\r'
 }
 
 fn is_comment(line: &[u8]) -> bool
-    ensures { result ≡ is_comment_lem line.now }
+    ensures { result ≡ lines_spec.is_comment line.now }
 {
     begins_with_hash(Words::of(line)) && has_only_permitted(line)
 }
 
 /// Whether all bytes are permitted. It goes on behind one that isn't, so that many bytes are judged at a time.
 fn has_only_permitted(line: &[u8]) -> bool
-    ensures { result ≡ list_all is_permitted_lem line.now }
+    ensures { result ≡ list_all lines_spec.is_permitted line.now }
 {
     let mut permitted = true;
     for byte in line {
@@ -78,14 +79,14 @@ fn begins_with_hash(mut words: Words<'_>) -> bool
 
 /// Whether a byte may stand in a line.
 pub fn is_permitted(byte: u8) -> bool
-    ensures { result ≡ is_permitted_lem byte }
+    ensures { result ≡ lines_spec.is_permitted byte }
 {
     (byte >= 0x21 && byte <= 0x7e) || is_space(byte)
 }
 
 /// The text that a word is in q form.
 fn text(alloc: Global, word: &[u8]) -> Result<Text, Fault>
-    ensures { IsReading result (unquoted_lem word.now) }
+    ensures { IsReading result (quoted_spec.unquoted word.now) }
 {
     unquoted(alloc, word)?.ok_or(Fault::Bad)
 }

@@ -1,7 +1,8 @@
 //! The words of a line, one after another.
 
 ghost use Rattle.std.specs.Prelude.{◌≡◌, ◌≢◌, ◌<◌, [], ◌∷◌, IfOk, MatchOption, MatchResult, length, not};
-ghost use Rattle.script_lang.specs.Lines.{is_space as is_space_lem, words_of};
+ghost use Rattle.script_lang.specs.Lines.{words_of};
+ghost use Rattle.script_lang.specs.Lines as spec;
 ghost use Rattle.std.specs.List.{position, position_or_len};
 ghost use Rattle.script_lang.specs.Reading.{IsBad};
 
@@ -18,11 +19,11 @@ pub struct Words<'a> {
 
 impl<'a> Model for Words<'a> {
     ghost use Rattle.std.specs.Prelude.{ℕ, List};
-    ghost use Rattle.script_lang.specs.Lines.{words_of as words_of_lem};
+    ghost use Rattle.script_lang.specs.Lines as spec;
 
     ghost Value = { List (List ℕ) };
 
-    ghost view = { λ w. words_of_lem w.rest.now };
+    ghost view = { λ w. spec.words_of w.rest.now };
 }
 
 impl<'a> Words<'a> {
@@ -80,28 +81,28 @@ pub fn first_word(line: &[u8]) -> Option<(&[u8], &[u8])>
 
 /// The place of the first byte that is no space and no tab.
 fn word_start(line: &[u8]) -> Option<usize>
-    ensures { result ≡ position (λ byte. not (is_space_lem byte)) line.now }
+    ensures { result ≡ position (λ byte. not (spec.is_space byte)) line.now }
 {
     line.iter().position(|byte| !is_space(*byte))
 }
 
 /// The place of the first space or tab.
 fn word_end(line: &[u8]) -> Option<usize>
-    ensures { result ≡ position is_space_lem line.now }
+    ensures { result ≡ position spec.is_space line.now }
 {
     line.iter().position(|byte| is_space(*byte))
 }
 
 /// The number of bytes before the first space or tab.
 fn word_len(line: &[u8]) -> usize
-    ensures { result ≡ position_or_len is_space_lem line.now }
+    ensures { result ≡ position_or_len spec.is_space line.now }
 {
     word_end(line).unwrap_or(line.len())
 }
 
 /// Whether a byte parts words.
 pub fn is_space(byte: u8) -> bool
-    ensures { result ≡ is_space_lem byte }
+    ensures { result ≡ spec.is_space byte }
 {
     byte == b' ' || byte == b'\t'
 }

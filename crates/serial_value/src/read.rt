@@ -243,7 +243,8 @@ pub fn read_cell<V, K, R: CellRule<V, K>>(
     requires idle { making_of (R.cell seat.old.me.0) ≡ None }
     requires wide { max_value_len name.bytes.now ≤ length out.old }
     ensures seat { IsSameSeat seat.old seat.new × (seat.new.me.1 ≡ seat.old.me.1) }
-    ensures answer { Answers R.with_cell R.noted (R.cell seat.old.me.0) seat.old.me.0 name.entry.bytes.now result out.old out.new seat.new.me.0 }
+    ensures answer { Answers R.with_cell R.noted
+        (R.cell seat.old.me.0) seat.old.me.0 name.entry.bytes.now result out.old out.new seat.new.me.0 }
     ensures linked { R.Linked seat.new.me.0 name.entry.bytes.now at }
     ensures idle { making_of (R.cell seat.new.me.0) ≡ None }
 {

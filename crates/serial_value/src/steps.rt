@@ -36,7 +36,8 @@ struct Begun<K, R, Q> {
 }
 
 impl<V, K, R: CellRule<V, K>, Q: Asked> Play<(), V> for Begun<K, R, Q> {
-    ghost then = { λ st m n after. (after ≡ (R.with_cell m.0 (R.cell after.0), m.1)) × Begins (R.words m.0) (R.cell m.0) Q.name Q.place n (R.cell after.0) };
+    ghost then = { λ st m n after. (after ≡ (R.with_cell m.0 (R.cell after.0), m.1))
+        × Begins (R.words m.0) (R.cell m.0) Q.name Q.place n (R.cell after.0) };
 }
 
 /// The load of a word of the value or of the backup.
@@ -45,7 +46,8 @@ struct Copied<K, R, Q> {
 }
 
 impl<V, K, R: CellRule<V, K>, Q: Asked> Play<(), V> for Copied<K, R, Q> {
-    ghost then = { λ st m n after. (after ≡ (R.with_cell m.0 (R.cell after.0), m.1)) × Copies (R.words m.0) (R.cell m.0) Q.name Q.index n (R.cell after.0) };
+    ghost then = { λ st m n after. (after ≡ (R.with_cell m.0 (R.cell after.0), m.1))
+        × Copies (R.words m.0) (R.cell m.0) Q.name Q.index n (R.cell after.0) };
 }
 
 /// The load of the last serial.
@@ -126,7 +128,8 @@ pub fn clean_serial<V, K, R: CellRule<V, K>, Q: Asked>(
 )
     requires cell { IsAtCell seat.old table.now.shared.table_id at Q.place }
     requires writer { R.Settled seat.old.me.0 × R.Linked seat.old.me.0 Q.name Q.place }
-    requires update { IsUpdating (R.cell seat.old.me.0) Q.name Q.value Q.place 25 × (length (sets_of (R.cell seat.old.me.0)) + 1 < 2 ^ 55) }
+    requires update { IsUpdating (R.cell seat.old.me.0) Q.name Q.value Q.place 25
+        × (length (sets_of (R.cell seat.old.me.0)) + 1 < 2 ^ 55) }
     requires word { word ≡ clean_serial_of (top_byte Q.value) (length (sets_of (R.cell seat.old.me.0)) + 1) }
     ensures seat { IsSameSeat seat.old seat.new }
     ensures view { seat.new.me

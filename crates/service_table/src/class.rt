@@ -48,7 +48,8 @@ impl Classes {
     fn add(&mut self, alloc: Global, class: &[u8], service: usize) -> Result<(), NoMemory>
         requires { IsPaired self.old }
         ensures paired { OnOk result (IsPaired self.new) }
-        ensures places { OnOk result ((other : Items ℕ) → found self.new other ≡ placed_if (bytes_eq class.now other) service (found self.old other)) }
+        ensures places { OnOk result
+            ((other : Items ℕ) → found self.new other ≡ placed_if (bytes_eq class.now other) service (found self.old other)) }
     {
         let at = self.ensure(alloc, class)?;
         add_place(&mut self.places[at], service)?;
@@ -59,7 +60,8 @@ impl Classes {
     fn add_each(&mut self, alloc: Global, def: &ServiceDef, service: usize) -> Result<(), NoMemory>
         requires { IsPaired self.old }
         ensures paired { OnOk result (IsPaired self.new) }
-        ensures places { OnOk result ((other : Items ℕ) → found self.new other ≡ placed_if (is_of_class other def.now) service (found self.old other)) }
+        ensures places { OnOk result
+            ((other : Items ℕ) → found self.new other ≡ placed_if (is_of_class other def.now) service (found self.old other)) }
     {
         for class in def.classes.items() {
             self.add(alloc, class.bytes(), service)?;

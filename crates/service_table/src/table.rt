@@ -29,7 +29,8 @@ impl Model for Table {
 
     ghost view = { λ table. record { defs = table.defs; marks = table.marks.items } };
 
-    ghost invariant = { λ table. (table.names ≡ names_of table.defs) × (length table.marks.items ≡ length table.defs) × AreClasses table.defs table.classes };
+    ghost invariant = { λ table. (table.names ≡ names_of table.defs) × (length table.marks.items ≡ length table.defs)
+        × AreClasses table.defs table.classes };
 }
 
 impl Table {

@@ -27,7 +27,8 @@ impl Model for Services {
 
     ghost view = { λ s. record { defs = s.table.defs; marks = s.table.marks; exits = s.exits } };
 
-    ghost invariant = { λ s. (length s.exits ≡ length s.table.defs) × (s.restarts ≡ times_of kept_restart s.table.defs s.table.marks) × (s.timeouts ≡ times_of kept_timeout s.table.defs s.table.marks) };
+    ghost invariant = { λ s. (length s.exits ≡ length s.table.defs) × (s.restarts ≡ times_of kept_restart s.table.defs s.table.marks)
+        × (s.timeouts ≡ times_of kept_timeout s.table.defs s.table.marks) };
 }
 
 impl Services {

@@ -1,7 +1,7 @@
 //! Counting a history, entry by entry.
 
 ghost use Rattle.std.specs.Prelude.{◌≡◌, ◌+◌, IfOk, OnOk, [], count_by};
-ghost use Rattle.soak_summary.specs.Counting.{found_in as found_in_lem, is_found as is_found_lem};
+ghost use Rattle.soak_summary.specs.Counting as spec;
 ghost use Rattle.soak_summary.specs.Counts.{counted_of, tally_with, with_entry, with_output, with_outputs};
 
 use crate::store::{open_store, put_again};
@@ -101,7 +101,7 @@ fn one_more(number: u64) -> Result<u64, NoMemory>
 
 /// How many readings of clients found a value.
 fn found_in(clients: &[ClientPart]) -> Result<u64, NoMemory>
-    ensures { IfOk result (λ found. found ≡ found_in_lem clients.now) }
+    ensures { IfOk result (λ found. found ≡ spec.found_in clients.now) }
 {
     let mut found: u64 = 0;
     for client in clients {
@@ -112,7 +112,7 @@ fn found_in(clients: &[ClientPart]) -> Result<u64, NoMemory>
 }
 
 fn count_found(readings: &[Reading]) -> usize
-    ensures { result ≡ count_by is_found_lem readings.now }
+    ensures { result ≡ count_by spec.is_found readings.now }
 {
     readings
         .iter()

@@ -113,7 +113,8 @@ fn judge_pieces(
     requires asks { All (IsAskAmong (length script.now.clients)) script.now.acts }
     requires begun { HasTakenNone script.now audit.old }
     requires few { most_entries pieces.old < 18446744073709551615 }
-    ensures { (o : Opening) → HasTaken o script.now [] audit.old → SaysOfReport o diagnostics.now script.now (left_of pieces.old) result }
+    ensures { (o : Opening) → HasTaken o script.now [] audit.old
+        → SaysOfReport o diagnostics.now script.now (left_of pieces.old) result }
 {
     let rest = take_all(alloc, audit, script, pieces)?;
     Ok(audit.verdict(alloc, diagnostics, script, &rest)?)

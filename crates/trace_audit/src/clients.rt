@@ -1,7 +1,7 @@
 //! The clients that a report shows.
 
 ghost use Rattle.std.specs.Prelude.{◌≡◌, IfOk, map};
-ghost use Rattle.trace_audit.specs.Audited.{client_of as client_of_lem};
+ghost use Rattle.trace_audit.specs.Audited as spec;
 
 use init_base::NoMemory;
 use init_machine::ClientPart;
@@ -10,7 +10,7 @@ use std::alloc::Global;
 
 /// The clients of parts, in order.
 pub fn clients_of(alloc: Global, parts: &[ClientPart]) -> Result<Vec<Client>, NoMemory>
-    ensures { IfOk result (λ clients. clients.items ≡ map client_of_lem parts.now) }
+    ensures { IfOk result (λ clients. clients.items ≡ map spec.client_of parts.now) }
 {
     let mut clients = Vec::new(alloc);
     for part in parts {

@@ -4,8 +4,9 @@ ghost use Rattle.std.specs.Prelude.{◌≡◌, ◌↔◌, ◌≤◌, ◌<◌, �
 ghost use Rattle.std.specs.Prelude.{Some, None, MatchOption, length, List as Items};
 ghost use Rattle.std.specs.Option.{option_copied};
 ghost use Rattle.init_machine.specs.Facts.{IsSerialOf, MetWrite, Stands};
-ghost use Rattle.init_machine.specs.Serial.{is_dirty as is_dirty_lem, number_in as number_in_lem, rank as rank_lem};
-ghost use Rattle.init_machine.specs.Sets.{LaterSet, NoneBetween, Numbered, value_at as value_at_lem};
+ghost use Rattle.init_machine.specs.Serial as serial_spec;
+ghost use Rattle.init_machine.specs.Sets.{LaterSet, NoneBetween, Numbered};
+ghost use Rattle.init_machine.specs.Sets as sets_spec;
 ghost use Rattle.trace_audit.specs.Lists.{SomeBetween};
 
 use crate::same::Same;
@@ -45,7 +46,7 @@ fn is_within(sets: &Sets, number: u64) -> bool
 /// The value that a name has after so many sets. None exactly where it has none.
 fn value_at<'a>(sets: &'a Sets, number: usize, name: &Text) -> Option<&'a Text>
     requires { number ≤ length sets.now.pairs.items }
-    ensures { option_copied result ≡ value_at_lem sets.entry.now.pairs.items number name.now }
+    ensures { option_copied result ≡ sets_spec.value_at sets.entry.now.pairs.items number name.now }
 {
     let place = sets.last_before(name, number)?;
     let (_, value) = &sets.pairs[place];
@@ -54,7 +55,7 @@ fn value_at<'a>(sets: &'a Sets, number: usize, name: &Text) -> Option<&'a Text>
 
 fn is_found(sets: &Sets, number: u64, name: &Text, value: &Text) -> bool
     ensures { IsTrue result ↔ ((number ≤ length sets.now.pairs.items)
-        × (value_at_lem sets.now.pairs.items number name.now ≡ Some value.now)) }
+        × (sets_spec.value_at sets.now.pairs.items number name.now ≡ Some value.now)) }
 {
     if !is_within(sets, number) {
         return false;
@@ -67,7 +68,7 @@ fn is_found(sets: &Sets, number: u64, name: &Text, value: &Text) -> bool
 
 fn is_absent(sets: &Sets, number: u64, name: &Text) -> bool
     ensures { IsTrue result ↔ ((number ≤ length sets.now.pairs.items)
-        × (value_at_lem sets.now.pairs.items number name.now ≡ None)) }
+        × (sets_spec.value_at sets.now.pairs.items number name.now ≡ None)) }
 {
     is_within(sets, number) && value_at(sets, number as usize, name).is_none()
 }
@@ -112,8 +113,10 @@ fn numbered<'a>(sets: &'a Sets, number: u64, name: &Text) -> Option<&'a Text>
 
 /// Whether the cell of a serial is clean, or a later set of the name is there.
 fn is_settled(sets: &Sets, name: &Text, word: u64) -> bool
-    ensures later { IsTrue result → is_dirty_lem word ≡ true → LaterSet sets.now.pairs.items name.now (number_in_lem word) }
-    ensures none { result ≡ false → (is_dirty_lem word ≡ true) × ¬ LaterSet sets.now.pairs.items name.now (number_in_lem word) }
+    ensures later { IsTrue result → serial_spec.is_dirty word ≡ true
+        → LaterSet sets.now.pairs.items name.now (serial_spec.number_in word) }
+    ensures none { result ≡ false
+        → (serial_spec.is_dirty word ≡ true) × ¬ LaterSet sets.now.pairs.items name.now (serial_spec.number_in word) }
 {
     if !is_dirty(word) {
         return true;
@@ -138,10 +141,10 @@ fn is_serial_of(sets: &Sets, name: &Text, word: u64) -> bool
 /// Whether of two serials of a name that a reader of so many sets met, the second one can be.
 fn can_follow(sets: &Sets, number: u64, name: &Text, first: u64, second: u64) -> bool
     requires { number ≤ length sets.now.pairs.items }
-    ensures rises { IsTrue result → rank_lem first < rank_lem second }
-    ensures clean { IsTrue result → is_dirty_lem second ≡ false → number < number_in_lem second }
-    ensures dirty { IsTrue result → is_dirty_lem second ≡ true
-        → NoneBetween sets.now.pairs.items name.now (number_in_lem second) number }
+    ensures rises { IsTrue result → serial_spec.rank first < serial_spec.rank second }
+    ensures clean { IsTrue result → serial_spec.is_dirty second ≡ false → number < serial_spec.number_in second }
+    ensures dirty { IsTrue result → serial_spec.is_dirty second ≡ true
+        → NoneBetween sets.now.pairs.items name.now (serial_spec.number_in second) number }
     ensures none { result ≡ false → MetWrite sets.now.pairs.items None number name.now first second → ⊥ }
 {
     if rank(first) >= rank(second) {

@@ -66,10 +66,12 @@ impl Merge {
         requires asks { All (IsAskAmong (length script.now.clients)) script.now.acts }
         ensures taken { self.new.taken ≡ self.old.taken }
         ensures strays { self.new.strays ≡ self.old.strays }
-        ensures goes { IsTrue result → (history : Items Happened) → (entry : Happened) → entry.input ≡ input.now → self.old.taken ≡ length history
+        ensures goes { IsTrue result → (history : Items Happened) → (entry : Happened) → entry.input ≡ input.now
+            → self.old.taken ≡ length history
             → Goes script.now history (left_of script.now.acts self.old.progress)
             → Goes script.now (history ++ entry ∷ []) (left_of script.now.acts self.new.progress) }
-        ensures ends { result ≡ false → (history : Items Happened) → (entry : Happened) → entry.input ≡ input.now → self.old.taken ≡ length history
+        ensures ends { result ≡ false → (history : Items Happened) → (entry : Happened) → entry.input ≡ input.now
+            → self.old.taken ≡ length history
             → Goes script.now history (left_of script.now.acts self.old.progress)
             → StraysAt script.now (history ++ entry ∷ []) (self.old.taken + 1) }
     {
@@ -86,7 +88,8 @@ impl Merge {
         requires asks { All (IsAskAmong (length script.now.clients)) script.now.acts }
         requires few { self.old.taken < 18446744073709551615 }
         ensures begun { result ≡ None → self.old.strays ≡ None }
-        ensures end { (history : Items Happened) → HasMerged script.now history self.old → MatchOption result (Merges history (Parts script.now))
+        ensures end { (history : Items Happened) → HasMerged script.now history self.old
+            → MatchOption result (Merges history (Parts script.now))
             (λ number. StraysAt script.now history number ⊎ EndsEarly script.now history number) }
     {
         if self.strays.is_some() {

@@ -3,12 +3,14 @@
 ghost use Rattle.std.specs.Prelude.{◌≡◌, ◌∷◌, List as Items, IfSome, None};
 ghost use Rattle.std.specs.List.{filter_map, list_any};
 ghost use Rattle.std.specs.Option.{option_copied};
-ghost use Rattle.init_machine.specs.Orderly.{seen_again as seen_again_lem};
-ghost use Rattle.init_machine.specs.Serial.{is_dirty as is_dirty_lem, number_in as number_in_lem, rank as rank_lem};
-ghost use Rattle.script_lang.specs.Inputs.{ask_by as ask_by_lem};
+ghost use Rattle.init_machine.specs.Orderly as orderly_spec;
+ghost use Rattle.init_machine.specs.Serial as serial_spec;
+ghost use Rattle.script_lang.specs.Inputs as inputs_spec;
 ghost use Rattle.script_lang.specs.declared.script.Ask.{Ask as Asked};
-ghost use Rattle.trace_audit.specs.Audited.{answer_all, is_answer as is_answer_lem};
-ghost use Rattle.trace_audit.specs.Lists.{ascending, bounds_list, bounds_of as bounds_of_lem, is_no_higher as is_no_higher_lem, rises};
+ghost use Rattle.trace_audit.specs.Audited.{answer_all};
+ghost use Rattle.trace_audit.specs.Audited as audited_spec;
+ghost use Rattle.trace_audit.specs.Lists.{ascending, bounds_list, rises};
+ghost use Rattle.trace_audit.specs.Lists as lists_spec;
 
 use crate::serials::{is_dirty, number_in, rank};
 use crate::told::Bounds;
@@ -18,7 +20,7 @@ use script_lang::{Act, Ask};
 
 /// The request of an act, where it is that of the client with this number.
 fn ask_by(act: &Act, who: usize) -> Option<&Ask>
-    ensures { option_copied result ≡ ask_by_lem who act.now }
+    ensures { option_copied result ≡ inputs_spec.ask_by who act.now }
 {
     match act {
         Act::Ask { who: other, ask } if other.0 as usize == who => Some(ask),
@@ -28,7 +30,7 @@ fn ask_by(act: &Act, who: usize) -> Option<&Ask>
 
 /// Whether a reading answers a request.
 fn is_answer(ask: &Ask, reading: &Reading) -> bool
-    ensures { result ≡ is_answer_lem ask.now reading.now }
+    ensures { result ≡ audited_spec.is_answer ask.now reading.now }
 {
     match (ask, reading) {
         (
@@ -44,7 +46,7 @@ fn is_answer(ask: &Ask, reading: &Reading) -> bool
 
 /// Whether readings answer the requests of a client in order, each one but its sets.
 pub fn are_answers(acts: &[Act], who: usize, readings: &[Reading]) -> bool
-    ensures { result ≡ answer_all (filter_map (ask_by_lem who) acts.now) readings.now }
+    ensures { result ≡ answer_all (filter_map (inputs_spec.ask_by who) acts.now) readings.now }
 {
     let mut rest = readings;
     for act in acts {
@@ -67,7 +69,7 @@ pub fn are_answers(acts: &[Act], who: usize, readings: &[Reading]) -> bool
 
 /// Between which sets a reading stands.
 fn bounds_of(reading: &Reading) -> Bounds
-    ensures { result ≡ bounds_of_lem reading.now }
+    ensures { result ≡ lists_spec.bounds_of reading.now }
 {
     match reading {
         Reading::Found { number, .. }
@@ -86,7 +88,7 @@ fn bounds_of(reading: &Reading) -> Bounds
 
 /// How many sets a client has seen that had seen so many, and then met a write with this second serial.
 fn seen_again(number: u64, second: u64) -> u64
-    ensures { result ≡ seen_again_lem number second }
+    ensures { result ≡ orderly_spec.seen_again number second }
 {
     if is_dirty(second) {
         return number;
@@ -96,7 +98,7 @@ fn seen_again(number: u64, second: u64) -> u64
 
 /// Whether the list of a client is in order: each item is about no fewer sets than were seen before it.
 pub fn is_in_order(acts: &[Act], who: usize, requests: &[Bounds], readings: &[Reading]) -> bool
-    ensures { result ≡ ascending 0 (bounds_list (filter_map (ask_by_lem who) acts.now) requests.now readings.now) }
+    ensures { result ≡ ascending 0 (bounds_list (filter_map (inputs_spec.ask_by who) acts.now) requests.now readings.now) }
 {
     let mut seen = 0;
     let (mut requests, mut readings) = (requests, readings);
@@ -144,7 +146,7 @@ fn next_bounds<'a>(
 
 /// Whether a read of this name met a write, and its second serial ranks no higher than this one.
 fn is_no_higher(name: &Text, word: u64, reading: &Reading) -> bool
-    ensures { result ≡ is_no_higher_lem name.now word reading.now }
+    ensures { result ≡ lists_spec.is_no_higher name.now word reading.now }
 {
     match reading {
         Reading::Again {
@@ -157,7 +159,7 @@ fn is_no_higher(name: &Text, word: u64, reading: &Reading) -> bool
 }
 
 fn has_no_higher(readings: &[Reading], name: &Text, word: u64) -> bool
-    ensures { result ≡ list_any (is_no_higher_lem name.now word) readings.now }
+    ensures { result ≡ list_any (lists_spec.is_no_higher name.now word) readings.now }
 {
     readings
         .iter()

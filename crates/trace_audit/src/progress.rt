@@ -7,7 +7,8 @@ ghost use Rattle.init_machine.specs.declared.config.Pair.{Pair as Setting};
 ghost use Rattle.script_lang.specs.declared.script.Act.{Act as Done};
 ghost use Rattle.std.specs.Option.{option_copied};
 ghost use Rattle.trace_audit.specs.Progress.{IsOver, Refuses, Takes, TakesSet, left_of, main_left, single_input};
-ghost use Rattle.trace_audit.specs.Progress.{set_of as set_of_lem, sets_behind, sets_left};
+ghost use Rattle.trace_audit.specs.Progress.{sets_behind, sets_left};
+ghost use Rattle.trace_audit.specs.Progress as spec;
 
 use crate::same::Same;
 use init_base::{ClientId, NoMemory, Text};
@@ -139,7 +140,7 @@ fn is_input_of(act: &Act, input: &Input) -> bool
 
 /// What an act of the client with this number sets.
 fn set_of(act: &Act, who: usize) -> Option<&Pair>
-    ensures { option_copied result ≡ set_of_lem who act.now }
+    ensures { option_copied result ≡ spec.set_of who act.now }
 {
     match act {
         Act::Ask {

@@ -65,7 +65,8 @@ pub fn readings_fault(
     told: &Told,
     parts: &[ClientPart],
 ) -> Result<Option<u64>, NoMemory>
-    ensures { (history : Items Happened) → told.now.sets.pairs.items ≡ sets_of history → told.now.requests.items ≡ all_requests 0 history
+    ensures { (history : Items Happened) → told.now.sets.pairs.items ≡ sets_of history
+        → told.now.requests.items ≡ all_requests 0 history
         → IfOk result (λ fault. MatchOption fault (EachHolds script.now history 1 parts.now) (FailsAt script.now history parts.now)) }
 {
     for (index, part) in parts.iter().enumerate() {

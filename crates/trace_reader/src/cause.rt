@@ -2,7 +2,8 @@
 
 ghost use Rattle.std.specs.Prelude.{◌≡◌};
 ghost use Rattle.script_lang.specs.Statements.{status_in};
-ghost use Rattle.trace_reader.specs.Reading.{IsReading, lone as lone_lem, only};
+ghost use Rattle.trace_reader.specs.Reading.{IsReading, only};
+ghost use Rattle.trace_reader.specs.Reading as spec;
 ghost use Rattle.trace_reader.specs.Refusals.{cause_in, cause_of, how_of};
 ghost use Rattle.trace_reader.specs.Words.{tree_in};
 
@@ -82,7 +83,7 @@ fn told_cause(alloc: Global, word: CauseWord, fields: Fields<'_>) -> Result<Caus
 
 /// A cause that tells nothing but its name.
 fn lone(cause: Cause, fields: Fields<'_>) -> Result<Cause, Fault>
-    ensures { IsReading result (lone_lem cause fields.entry) }
+    ensures { IsReading result (spec.lone cause fields.entry) }
 {
     fields.end()?;
     Ok(cause)

@@ -45,7 +45,8 @@ fn number(word: &[u8], most: u64) -> Result<u64, Fault>
 /// A number with one digit more behind it. Bad exactly where it is past the most.
 fn with_digit(number: u64, digit: u8, most: u64) -> Result<u64, Fault>
     requires { digit < 10 }
-    ensures { MatchResult result (λ more. (more ≡ 10 * number + digit) × (more ≤ most)) (λ fault. IsBad fault × (most < 10 * number + digit)) }
+    ensures { MatchResult result (λ more. (more ≡ 10 * number + digit) × (more ≤ most))
+        (λ fault. IsBad fault × (most < 10 * number + digit)) }
 {
     let more = number
         .checked_mul(10)

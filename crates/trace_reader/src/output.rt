@@ -1,7 +1,8 @@
 //! Outputs: what the machine did, line by line.
 
 ghost use Rattle.std.specs.Prelude.{◌≡◌};
-ghost use Rattle.trace_reader.specs.Reading.{IsReading, lone as lone_lem};
+ghost use Rattle.trace_reader.specs.Reading.{IsReading};
+ghost use Rattle.trace_reader.specs.Reading as spec;
 ghost use Rattle.trace_reader.specs.Outputs.{action_of, command_of, kill_of, output_in, put_of, reap_of, spawn_of, unset_of, wait_child_of, wait_file_of, wait_of, wait_prop_of};
 
 use crate::cause::{cause, how};
@@ -72,7 +73,7 @@ pub fn output(alloc: Global, word: OutputWord, fields: Fields<'_>) -> Result<Out
 
 /// An output that is one word.
 fn lone(output: Output, fields: Fields<'_>) -> Result<Output, Fault>
-    ensures { IsReading result (lone_lem output fields.entry) }
+    ensures { IsReading result (spec.lone output fields.entry) }
 {
     fields.end()?;
     Ok(output)

@@ -64,7 +64,8 @@ fn lines(alloc: Global, body: &[u8]) -> Result<Report, Fault>
 pub fn take_line<'a>(alloc: Global, draft: &mut Draft, text: &'a [u8]) -> Result<&'a [u8], Fault>
     requires { 0 < length text.now }
     ensures added { MatchResult result
-        (λ behind. report_from draft.old (slice_split is_line_feed text.entry.now) ≡ report_from draft.new (slice_split is_line_feed behind.now))
+        (λ behind. report_from draft.old (slice_split is_line_feed text.entry.now)
+        ≡ report_from draft.new (slice_split is_line_feed behind.now))
         (IsUnread (report_from draft.old (slice_split is_line_feed text.entry.now))) }
     ensures shorter { IfOk result (λ behind. length behind.now < length text.entry.now) }
     ensures entries { IfOk result (λ _. length (finished draft.new).history ≤ length (finished draft.old).history + 1) }

@@ -1,7 +1,8 @@
 //! Why a property isn't set, as a trace tells it.
 
 ghost use Rattle.std.specs.Prelude.{◌≡◌};
-ghost use Rattle.trace_reader.specs.Reading.{IsReading, lone as lone_lem};
+ghost use Rattle.trace_reader.specs.Reading.{IsReading};
+ghost use Rattle.trace_reader.specs.Reading as spec;
 ghost use Rattle.trace_reader.specs.Refusals.{area_full_of, refusal_in, refusal_of};
 
 use crate::fields::Fields;
@@ -81,7 +82,7 @@ fn told_refusal(alloc: Global, word: RefusalWord, fields: Fields<'_>) -> Result<
 
 /// A refusal that tells nothing but its name.
 fn lone(refusal: SetRefusal, fields: Fields<'_>) -> Result<SetRefusal, Fault>
-    ensures { IsReading result (lone_lem refusal fields.entry) }
+    ensures { IsReading result (spec.lone refusal fields.entry) }
 {
     fields.end()?;
     Ok(refusal)

@@ -1,7 +1,7 @@
 //! What one word tells: a text, the kind of a diagnostic, a command, a refusal of the tree.
 
 ghost use Rattle.std.specs.Prelude.{◌≡◌};
-ghost use Rattle.init_base.specs.Quoted.{unquoted as unquoted_lem};
+ghost use Rattle.init_base.specs.Quoted as spec;
 ghost use Rattle.init_machine.specs.Commands.{word_of};
 ghost use Rattle.trace_reader.specs.Reading.{IsReading, only, pair_of};
 ghost use Rattle.trace_reader.specs.Words.{kind_in, large_in, texts_in, tree_in};
@@ -67,7 +67,7 @@ pub fn command_word(word: &[u8]) -> Result<Word, Fault>
 
 /// The text that a word is in q form.
 pub fn text(alloc: Global, word: &[u8]) -> Result<Text, Fault>
-    ensures { IsReading result (unquoted_lem word.now) }
+    ensures { IsReading result (spec.unquoted word.now) }
 {
     unquoted(alloc, word)?.ok_or(Fault::Bad)
 }
@@ -85,7 +85,7 @@ pub fn texts(alloc: Global, mut fields: Fields<'_>) -> Result<List<Text>, Fault>
 
 /// The text that the one field is that is left.
 pub fn only_text(alloc: Global, mut fields: Fields<'_>) -> Result<Text, Fault>
-    ensures { IsReading result (only unquoted_lem fields.entry) }
+    ensures { IsReading result (only spec.unquoted fields.entry) }
 {
     let word = fields.field()?;
     fields.end()?;
@@ -94,7 +94,7 @@ pub fn only_text(alloc: Global, mut fields: Fields<'_>) -> Result<Text, Fault>
 
 /// The two texts that the fields are that are left.
 pub fn two_texts(alloc: Global, mut fields: Fields<'_>) -> Result<(Text, Text), Fault>
-    ensures { IsReading result (pair_of unquoted_lem unquoted_lem fields.entry) }
+    ensures { IsReading result (pair_of spec.unquoted spec.unquoted fields.entry) }
 {
     let first = fields.field()?;
     let second = fields.field()?;

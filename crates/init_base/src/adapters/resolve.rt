@@ -2,7 +2,8 @@
 
 ghost use Rattle.std.specs.Prelude.{◌≡◌, ◌++◌, ◌∷◌, ◌==◌, position, true, IfOk, IfSome, OnOk, reverse};
 ghost use Rattle.std.specs.List.{list_all};
-ghost use Rattle.init_base.specs.Resolve.{AreDirectories, PassesNoLink, above, beginning, has_no_slash, is_below_root, leads_to, led, path_to as path_to_lem, parts_of as parts_of_lem, stretch, stopped, stepped, walked, file_end as file_end_lem};
+ghost use Rattle.init_base.specs.Resolve.{AreDirectories, PassesNoLink, above, beginning, has_no_slash, is_below_root, leads_to, led, stretch, stopped, stepped, walked};
+ghost use Rattle.init_base.specs.Resolve as spec;
 
 use super::links::{LinkTree, Standing};
 use super::machine::MachineRefusal;
@@ -97,7 +98,7 @@ pub(crate) fn shared(alloc: Global, names: &List<Text>) -> Result<List<Text>, No
 fn begin(alloc: Global, walk: &mut Walk, path: &[u8]) -> Result<(), NoMemory>
     requires left { list_all has_no_slash walk.old.left ≡ true }
     ensures place { OnOk result (walk.new.place ≡ beginning walk.old.place path.now) }
-    ensures parts { OnOk result (reverse walk.new.left ≡ parts_of_lem path.now ++ reverse walk.old.left) }
+    ensures parts { OnOk result (reverse walk.new.left ≡ spec.parts_of path.now ++ reverse walk.old.left) }
     ensures left { OnOk result (list_all has_no_slash walk.new.left ≡ true) }
 {
     if path.starts_with(b"/") {
@@ -109,7 +110,7 @@ fn begin(alloc: Global, walk: &mut Walk, path: &[u8]) -> Result<(), NoMemory>
 /// The parts of a path.
 #[tactic(auto, using(crate::proofs::Walks::part_more, crate::proofs::Walks::one_part))]
 pub(crate) fn parts_of(alloc: Global, path: &[u8]) -> Result<List<Text>, NoMemory>
-    ensures { IfOk result (λ parts. parts ≡ parts_of_lem path.now) }
+    ensures { IfOk result (λ parts. parts ≡ spec.parts_of path.now) }
 {
     let mut parts = List::new(alloc);
     let mut rest = path;
@@ -223,7 +224,7 @@ fn go_up(place: &mut List<Text>)
 /// A file ends a walk: it has nothing below it.
 #[tactic(auto, using(crate::proofs::Walks::file_is_no_end))]
 fn file_end(file: End, left: &List<Text>) -> End
-    ensures { result ≡ file_end_lem file (reverse left.now) }
+    ensures { result ≡ spec.file_end file (reverse left.now) }
 {
     if left.is_empty() {
         file
@@ -234,7 +235,7 @@ fn file_end(file: End, left: &List<Text>) -> End
 
 /// The path of a place: a slash before each name.
 pub(crate) fn path_to(alloc: Global, place: &List<Text>) -> Result<Text, NoMemory>
-    ensures { IfOk result (λ path. path ≡ path_to_lem place.now) }
+    ensures { IfOk result (λ path. path ≡ spec.path_to place.now) }
 {
     let mut path = Vec::new(alloc);
     for name in place.items() {

@@ -5,7 +5,8 @@ ghost use Rattle.std.specs.List.{list_all};
 ghost use Rattle.std.specs.Option.{option_copied};
 ghost use Rattle.init_base.specs.Faults.{read_failed};
 ghost use Rattle.init_base.specs.Outside.{ListsFew, ListsNames, ReadsFile, ReadsWithin};
-ghost use Rattle.init_base.specs.Tree.{file_at, behind_slash as behind_slash_lem, behind_dir as behind_dir_lem, is_dir as is_dir_lem, is_file_name as is_file_name_lem, has_name as has_name_lem, names_in, with_name};
+ghost use Rattle.init_base.specs.Tree.{file_at, names_in, with_name};
+ghost use Rattle.init_base.specs.Tree as spec;
 
 use crate::list::List;
 use crate::memory::NoMemory;
@@ -69,7 +70,7 @@ pub(crate) fn list(
 }
 
 fn is_dir(entries: &[(Text, Text)], dir: &[u8]) -> bool
-    ensures { result ≡ is_dir_lem entries.now dir.now }
+    ensures { result ≡ spec.is_dir entries.now dir.now }
 {
     entries
         .iter()
@@ -97,13 +98,13 @@ fn add_name(alloc: Global, names: &mut List<Text>, name: &[u8]) -> Result<(), No
 }
 
 fn has_name(names: &[Text], name: &[u8]) -> bool
-    ensures { result ≡ has_name_lem names.now name.now }
+    ensures { result ≡ spec.has_name names.now name.now }
 {
     names.iter().any(|other| other.is(name))
 }
 
 fn is_file_name(name: &[u8]) -> bool
-    ensures { result ≡ is_file_name_lem name.now }
+    ensures { result ≡ spec.is_file_name name.now }
 {
     !name.is_empty() && has_no_slash(name)
 }
@@ -116,7 +117,7 @@ fn has_no_slash(name: &[u8]) -> bool
 
 /// What stands in the path behind the directory's path and a slash.
 fn behind_dir<'a>(dir: &[u8], path: &'a [u8]) -> &'a [u8]
-    ensures { result.now ≡ behind_dir_lem dir.now path.entry.now }
+    ensures { result.now ≡ spec.behind_dir dir.now path.entry.now }
 {
     if !path.starts_with(dir) {
         return &[];
@@ -130,7 +131,7 @@ fn behind_dir<'a>(dir: &[u8], path: &'a [u8]) -> &'a [u8]
 }
 
 fn behind_slash(path: &[u8]) -> &[u8]
-    ensures { result.now ≡ behind_slash_lem path.entry.now }
+    ensures { result.now ≡ spec.behind_slash path.entry.now }
 {
     match path {
         [b'/', rest @ ..] => rest,

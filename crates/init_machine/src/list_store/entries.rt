@@ -52,7 +52,8 @@ pub fn need_if_absent(
 ) -> Option<u64>
     requires short { length name.now ≤ 255 }
     requires known { AreKnown known.now.keys (properties held.now.entries) }
-    ensures { result ≡ (if is_absent (lookup_in (properties held.now.entries) name.now) then Some (need_of (sizes_of (properties held.now.entries)) name.now len) else None) }
+    ensures { result ≡ (if is_absent (lookup_in (properties held.now.entries) name.now) then Some
+        (need_of (sizes_of (properties held.now.entries)) name.now len) else None) }
 {
     if held.contains_key(&Name::new(name)) {
         None

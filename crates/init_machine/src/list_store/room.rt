@@ -4,7 +4,7 @@ ghost use Rattle.std.specs.Prelude.{◌≡◌, ◌≤◌, ◌+◌, ◌^◌, ◌=
 ghost use Rattle.std.specs.Result.{result_err};
 ghost use Rattle.init_machine.specs.Kept.Room.{full_with};
 ghost use Rattle.init_machine.specs.Props.{last_number};
-ghost use Rattle.init_machine.specs.Words.{cell_words as cell_words_lem};
+ghost use Rattle.init_machine.specs.Words as spec;
 
 use crate::store::Full;
 
@@ -25,7 +25,7 @@ const LONG_HEAD: u64 = 2;
 
 /// The words of the cell of a value of so many bytes.
 pub fn cell_words(len: usize) -> u64
-    ensures words { result ≡ cell_words_lem len }
+    ensures words { result ≡ spec.cell_words len }
     ensures fits { result ≤ 2 ^ 61 + 2 }
 {
     if len <= MOST_SHORT {
@@ -37,7 +37,7 @@ pub fn cell_words(len: usize) -> u64
 
 /// Whether there are words left for any name with a value of so many bytes.
 pub fn has_room_for_any(used: u64, len: usize, capacity: u64) -> bool
-    ensures { result ≡ not (nat_lt capacity (used + (9472 + cell_words_lem len))) }
+    ensures { result ≡ not (nat_lt capacity (used + (9472 + spec.cell_words len))) }
 {
     !is_past(used, MOST_NODE_WORDS + cell_words(len), capacity)
 }

@@ -1,7 +1,7 @@
 //! What is wrong with a line of the allow text.
 
 ghost use Rattle.std.specs.Prelude.{◌≡◌, IfOk};
-ghost use Rattle.refusal_causes.specs.Allows.{allow_line_cause as allow_line_cause_lem};
+ghost use Rattle.refusal_causes.specs.Allows as spec;
 
 use super::cause::AllowCause;
 use super::words::{all_words, is_comment};
@@ -10,7 +10,7 @@ use std::alloc::Global;
 
 /// Why a line is bad.
 pub fn allow_line_cause(alloc: Global, line: &[u8]) -> Result<Option<AllowCause>, NoMemory>
-    ensures { IfOk result (λ cause. cause ≡ allow_line_cause_lem line.now) }
+    ensures { IfOk result (λ cause. cause ≡ spec.allow_line_cause line.now) }
 {
     let words = all_words(alloc, line)?;
     let Some((word, args)) = words.items().split_first() else {

@@ -3,7 +3,7 @@
 ghost use Rattle.std.specs.Prelude.{◌≡◌, ◌<◌, IfOk, IfSome, drop, length, option_map};
 ghost use Rattle.std.specs.List.{list_any, position};
 ghost use Rattle.prop_contexts.specs.Lines.{words_of};
-ghost use Rattle.refusal_causes.specs.Contexts.{context_line_cause as context_line_cause_lem, is_default_line as is_default_line_lem, is_exact as is_exact_lem, is_kind as is_kind_lem, is_plain_type as is_plain_type_lem, is_same_line as is_same_line_lem, is_unchecked_type as is_unchecked_type_lem, named_cause as named_cause_lem, plain_type_cause as plain_type_cause_lem, tail_cause as tail_cause_lem, twice_cause as twice_cause_lem, type_cause as type_cause_lem};
+ghost use Rattle.refusal_causes.specs.Contexts as spec;
 ghost use Rattle.refusal_causes.specs.Misfits.{line_number};
 
 use super::cause::ContextCause;
@@ -22,7 +22,7 @@ pub fn context_line_cause(
     before: &[Text],
     line: &[u8],
 ) -> Result<Option<ContextCause>, NoMemory>
-    ensures { IfOk result (λ cause. cause ≡ context_line_cause_lem before.now line.now) }
+    ensures { IfOk result (λ cause. cause ≡ spec.context_line_cause before.now line.now) }
 {
     let words = all_words(alloc, line)?;
     let Some((name, words)) = words.items().split_first() else {
@@ -40,7 +40,7 @@ fn named_cause(
     name: &Text,
     words: &[Text],
 ) -> Result<Option<ContextCause>, NoMemory>
-    ensures { IfOk result (λ cause. cause ≡ named_cause_lem before.now name.now words.now) }
+    ensures { IfOk result (λ cause. cause ≡ spec.named_cause before.now name.now words.now) }
 {
     let Some((_, tail)) = words.split_first() else {
         return Ok(Some(ContextCause::NoLabel {
@@ -55,7 +55,7 @@ fn named_cause(
 
 /// What is wrong behind the label: the kind, or else the type.
 fn tail_cause(words: &[Text]) -> Result<Option<ContextCause>, NoMemory>
-    ensures { IfOk result (λ cause. cause ≡ tail_cause_lem words.now) }
+    ensures { IfOk result (λ cause. cause ≡ spec.tail_cause words.now) }
 {
     let Some((word, words)) = words.split_first() else {
         return Ok(None);
@@ -69,14 +69,14 @@ fn tail_cause(words: &[Text]) -> Result<Option<ContextCause>, NoMemory>
 }
 
 fn is_kind(word: &[u8]) -> bool
-    ensures { result ≡ is_kind_lem word.now }
+    ensures { result ≡ spec.is_kind word.now }
 {
     word == EXACT || word == b"prefix".as_slice()
 }
 
 /// What is wrong with a type and its values.
 fn type_cause(words: &[Text]) -> Result<Option<ContextCause>, NoMemory>
-    ensures { IfOk result (λ cause. cause ≡ type_cause_lem words.now) }
+    ensures { IfOk result (λ cause. cause ≡ spec.type_cause words.now) }
 {
     let Some((word, values)) = words.split_first() else {
         return Ok(None);
@@ -93,7 +93,7 @@ fn type_cause(words: &[Text]) -> Result<Option<ContextCause>, NoMemory>
 
 /// What is wrong with a type other than `enum`, behind which so many words stand.
 fn plain_type_cause(word: &Text, given: usize) -> Result<Option<ContextCause>, NoMemory>
-    ensures { IfOk result (λ cause. cause ≡ plain_type_cause_lem word.now given) }
+    ensures { IfOk result (λ cause. cause ≡ spec.plain_type_cause word.now given) }
 {
     let is_plain = is_plain_type(word.bytes());
     if is_plain && given == 0 {
@@ -109,7 +109,7 @@ fn plain_type_cause(word: &Text, given: usize) -> Result<Option<ContextCause>, N
 
 /// Whether a word is a type without values.
 fn is_plain_type(word: &[u8]) -> bool
-    ensures { result ≡ is_plain_type_lem word.now }
+    ensures { result ≡ spec.is_plain_type word.now }
 {
     is_unchecked_type(word)
         || word == b"bool".as_slice()
@@ -119,14 +119,14 @@ fn is_plain_type(word: &[u8]) -> bool
 
 /// Whether a word is a type that checks nothing.
 fn is_unchecked_type(word: &[u8]) -> bool
-    ensures { result ≡ is_unchecked_type_lem word.now }
+    ensures { result ≡ spec.is_unchecked_type word.now }
 {
     word == b"string".as_slice() || word == b"double".as_slice() || word == b"size".as_slice()
 }
 
 /// Whether an earlier line has this name and kind.
 fn twice_cause(before: &[Text], name: &Text, exact: bool) -> Result<Option<ContextCause>, NoMemory>
-    ensures { IfOk result (λ cause. cause ≡ twice_cause_lem before.now name.now exact) }
+    ensures { IfOk result (λ cause. cause ≡ spec.twice_cause before.now name.now exact) }
 {
     match first_same(before, name.bytes(), exact) {
         Some(first) => Ok(Some(ContextCause::Twice {
@@ -139,14 +139,14 @@ fn twice_cause(before: &[Text], name: &Text, exact: bool) -> Result<Option<Conte
 
 /// The number of the first line of this name and kind.
 fn first_same(lines: &[Text], name: &[u8], exact: bool) -> Option<usize>
-    ensures { result ≡ option_map line_number (position (is_same_line_lem name.now exact) lines.now) }
+    ensures { result ≡ option_map line_number (position (spec.is_same_line name.now exact) lines.now) }
 {
     let at = place_of_same(lines, name, exact)?;
     Some(at + 1)
 }
 
 fn place_of_same(lines: &[Text], name: &[u8], exact: bool) -> Option<usize>
-    ensures place { result ≡ position (is_same_line_lem name.now exact) lines.now }
+    ensures place { result ≡ position (spec.is_same_line name.now exact) lines.now }
     ensures within { IfSome result (λ at. at < length lines.now) }
 {
     lines
@@ -156,7 +156,7 @@ fn place_of_same(lines: &[Text], name: &[u8], exact: bool) -> Option<usize>
 
 /// Whether a line has this name and kind; the kind of the line `*` says nothing.
 fn is_same_line(line: &[u8], name: &[u8], exact: bool) -> bool
-    ensures { result ≡ is_same_line_lem name.now exact line.now }
+    ensures { result ≡ spec.is_same_line name.now exact line.now }
 {
     match first_word(line) {
         Some((first, rest)) => first == name && (name == ANY_NAME || has_exact_kind(rest) == exact),
@@ -166,7 +166,7 @@ fn is_same_line(line: &[u8], name: &[u8], exact: bool) -> bool
 
 /// Whether the word behind a label is `exact`.
 fn has_exact_kind(words: &[u8]) -> bool
-    ensures { result ≡ is_exact_lem (drop 1 (words_of words.now)) }
+    ensures { result ≡ spec.is_exact (drop 1 (words_of words.now)) }
 {
     match first_word(words) {
         Some((_, rest)) => begins_exact(rest),
@@ -175,7 +175,7 @@ fn has_exact_kind(words: &[u8]) -> bool
 }
 
 fn begins_exact(words: &[u8]) -> bool
-    ensures { result ≡ is_exact_lem (words_of words.now) }
+    ensures { result ≡ spec.is_exact (words_of words.now) }
 {
     match first_word(words) {
         Some((word, _)) => word == EXACT,
@@ -185,7 +185,7 @@ fn begins_exact(words: &[u8]) -> bool
 
 /// Whether the first of some words is `exact`.
 fn is_exact(words: &[Text]) -> bool
-    ensures { result ≡ is_exact_lem words.now }
+    ensures { result ≡ spec.is_exact words.now }
 {
     match words.first() {
         Some(word) => word.is(EXACT),
@@ -195,13 +195,13 @@ fn is_exact(words: &[Text]) -> bool
 
 /// Whether a line is for the name `*`.
 pub fn has_default(lines: &[Text]) -> bool
-    ensures { result ≡ list_any is_default_line_lem lines.now }
+    ensures { result ≡ list_any spec.is_default_line lines.now }
 {
     lines.iter().any(|line| is_default_line(line.bytes()))
 }
 
 fn is_default_line(line: &[u8]) -> bool
-    ensures { result ≡ is_default_line_lem line.now }
+    ensures { result ≡ spec.is_default_line line.now }
 {
     match first_word(line) {
         Some((name, _)) => name == ANY_NAME,

@@ -1,7 +1,8 @@
 //! The words of a policy's line, between blanks.
 
 ghost use Rattle.std.specs.Prelude.{◌≡◌, ◌<◌, ◌∷◌, [], position, MatchOption, IfOk, length};
-ghost use Rattle.prop_contexts.specs.Lines.{is_blank as is_blank_lem, is_no_blank, is_comment as is_comment_lem, words_of};
+ghost use Rattle.prop_contexts.specs.Lines.{is_no_blank, words_of};
+ghost use Rattle.prop_contexts.specs.Lines as spec;
 
 use init_base::{List, NoMemory, Text};
 use std::alloc::Global;
@@ -40,20 +41,20 @@ fn word_start(line: &[u8]) -> Option<usize>
 
 /// The place of the first blank.
 fn word_end(word: &[u8]) -> Option<usize>
-    ensures { result ≡ position is_blank_lem word.now }
+    ensures { result ≡ position spec.is_blank word.now }
 {
     word.iter().position(|byte| is_blank(*byte))
 }
 
 fn is_blank(byte: u8) -> bool
-    ensures { result ≡ is_blank_lem byte }
+    ensures { result ≡ spec.is_blank byte }
 {
     matches!(byte, b' ' | b'\t' | b'\r')
 }
 
 /// Whether the first word of a line begins a comment.
 pub fn is_comment(word: &[u8]) -> bool
-    ensures { result ≡ is_comment_lem word.now }
+    ensures { result ≡ spec.is_comment word.now }
 {
     word.starts_with(b"#")
 }

@@ -1,7 +1,7 @@
 //! What stands behind the words of a script.
 
 ghost use Rattle.std.specs.Prelude.{◌≡◌, ◌^◌, ◌<◌, None, Some, IfOk, MatchOption};
-ghost use Rattle.refusal_causes.specs.Arguments.{act_arguments_of as act_arguments_of_lem, argument_cause as argument_cause_lem, arguments_of as arguments_of_lem, arguments_cause as arguments_cause_lem, legal_cause as legal_cause_lem, name_cause as name_cause_lem, number_cause as number_cause_lem, request_arguments_of as request_arguments_of_lem, text_cause as text_cause_lem};
+ghost use Rattle.refusal_causes.specs.Arguments as spec;
 
 use super::cause::ScriptCause;
 use init_base::{NoMemory, Text, unquoted};
@@ -46,7 +46,7 @@ const TWO_TEXTS: &[Argument] = &[Argument::Quoted, Argument::Quoted];
 
 /// What stands behind the first word of a line. None where no line begins with it.
 pub fn arguments_of(word: &[u8]) -> Option<&'static [Argument]>
-    ensures { MatchOption result (arguments_of_lem word.now ≡ None) (λ arguments. arguments_of_lem word.now ≡ Some arguments.now) }
+    ensures { MatchOption result (spec.arguments_of word.now ≡ None) (λ arguments. spec.arguments_of word.now ≡ Some arguments.now) }
 {
     if word == b"area".as_slice() {
         Some(AREA)
@@ -61,8 +61,8 @@ pub fn arguments_of(word: &[u8]) -> Option<&'static [Argument]>
 
 /// What stands behind the first word of an act of the main actor.
 fn act_arguments_of(word: &[u8]) -> Option<&'static [Argument]>
-    ensures { MatchOption result (act_arguments_of_lem word.now ≡ None)
-        (λ arguments. act_arguments_of_lem word.now ≡ Some arguments.now) }
+    ensures { MatchOption result (spec.act_arguments_of word.now ≡ None)
+        (λ arguments. spec.act_arguments_of word.now ≡ Some arguments.now) }
 {
     if word == b"step".as_slice() {
         Some(STEP)
@@ -79,8 +79,8 @@ fn act_arguments_of(word: &[u8]) -> Option<&'static [Argument]>
 
 /// What stands behind the word of a client's request. None where no request begins with it.
 pub fn request_arguments_of(word: &[u8]) -> Option<&'static [Argument]>
-    ensures { MatchOption result (request_arguments_of_lem word.now ≡ None)
-        (λ arguments. request_arguments_of_lem word.now ≡ Some arguments.now) }
+    ensures { MatchOption result (spec.request_arguments_of word.now ≡ None)
+        (λ arguments. spec.request_arguments_of word.now ≡ Some arguments.now) }
 {
     if word == b"set".as_slice() {
         Some(TWO_TEXTS)
@@ -99,7 +99,7 @@ pub fn arguments_cause(
     arguments: &[Argument],
     words: &[Text],
 ) -> Result<Option<ScriptCause>, NoMemory>
-    ensures { IfOk result (λ cause. cause ≡ arguments_cause_lem arguments.now words.now) }
+    ensures { IfOk result (λ cause. cause ≡ spec.arguments_cause arguments.now words.now) }
 {
     let Some((argument, arguments)) = arguments.split_first() else {
         return Ok(None);
@@ -119,7 +119,7 @@ fn argument_cause(
     argument: Argument,
     word: &Text,
 ) -> Result<Option<ScriptCause>, NoMemory>
-    ensures { IfOk result (λ cause. cause ≡ argument_cause_lem argument word.now) }
+    ensures { IfOk result (λ cause. cause ≡ spec.argument_cause argument word.now) }
 {
     match argument {
         Argument::Size => number_cause(word, 64, 1_048_576),
@@ -133,7 +133,7 @@ fn argument_cause(
 
 fn number_cause(word: &Text, least: u64, most: u64) -> Result<Option<ScriptCause>, NoMemory>
     requires { most < 2 ^ 54 }
-    ensures { IfOk result (λ cause. cause ≡ number_cause_lem least most word.now) }
+    ensures { IfOk result (λ cause. cause ≡ spec.number_cause least most word.now) }
 {
     if decimal(word.bytes(), least, most).is_some() {
         return Ok(None);
@@ -144,7 +144,7 @@ fn number_cause(word: &Text, least: u64, most: u64) -> Result<Option<ScriptCause
 
 /// Why a word is no q form.
 pub fn text_cause(alloc: Global, word: &[u8]) -> Result<Option<ScriptCause>, NoMemory>
-    ensures { IfOk result (λ cause. cause ≡ text_cause_lem word.now) }
+    ensures { IfOk result (λ cause. cause ≡ spec.text_cause word.now) }
 {
     if unquoted(alloc, word)?.is_some() {
         return Ok(None);
@@ -154,7 +154,7 @@ pub fn text_cause(alloc: Global, word: &[u8]) -> Result<Option<ScriptCause>, NoM
 }
 
 fn name_cause(alloc: Global, word: &Text) -> Result<Option<ScriptCause>, NoMemory>
-    ensures { IfOk result (λ cause. cause ≡ name_cause_lem word.now) }
+    ensures { IfOk result (λ cause. cause ≡ spec.name_cause word.now) }
 {
     match unquoted(alloc, word.bytes())? {
         Some(name) => legal_cause(word, &name),
@@ -167,7 +167,7 @@ fn name_cause(alloc: Global, word: &Text) -> Result<Option<ScriptCause>, NoMemor
 
 /// Why the name that a word spells isn't legal.
 fn legal_cause(word: &Text, name: &Text) -> Result<Option<ScriptCause>, NoMemory>
-    ensures { IfOk result (λ cause. cause ≡ legal_cause_lem word.now (Some name.now)) }
+    ensures { IfOk result (λ cause. cause ≡ spec.legal_cause word.now (Some name.now)) }
 {
     if is_legal(name.bytes()) {
         return Ok(None);

@@ -3,7 +3,8 @@
 ghost use Rattle.std.specs.Prelude.{◌≡◌, ◌<◌, IfOk, IfSome, codes, option_map, count_by, length};
 ghost use Rattle.std.specs.List.{list_any, position};
 ghost use Rattle.script_lang.specs.Lines.{words_of};
-ghost use Rattle.refusal_causes.specs.Misfits.{begins_declaration as begins_declaration_lem, client_cause as client_cause_lem, declaration_cause as declaration_cause_lem, declared_by, declares as declares_lem, first_of as first_of_lem, has_name as has_name_lem, is_act_line as is_act_line_lem, is_client_line as is_client_line_lem, is_declaring as is_declaring_lem, line_number, misfit_cause as misfit_cause_lem};
+ghost use Rattle.refusal_causes.specs.Misfits.{declared_by, line_number};
+ghost use Rattle.refusal_causes.specs.Misfits as spec;
 
 use super::cause::ScriptCause;
 use init_base::{NoMemory, Text};
@@ -19,7 +20,7 @@ pub fn misfit_cause(
     before: &[Text],
     words: &[Text],
 ) -> Result<Option<ScriptCause>, NoMemory>
-    ensures { IfOk result (λ cause. cause ≡ misfit_cause_lem before.now words.now) }
+    ensures { IfOk result (λ cause. cause ≡ spec.misfit_cause before.now words.now) }
 {
     let Some((word, args)) = words.split_first() else {
         return Ok(None);
@@ -35,7 +36,7 @@ pub fn misfit_cause(
 
 /// The first of some words, or the empty text.
 fn first_of(words: &[Text]) -> Result<Text, NoMemory>
-    ensures { IfOk result (λ word. word ≡ first_of_lem words.now) }
+    ensures { IfOk result (λ word. word ≡ spec.first_of words.now) }
 {
     match words.first() {
         Some(word) => word.share(),
@@ -45,7 +46,7 @@ fn first_of(words: &[Text]) -> Result<Text, NoMemory>
 
 /// Whether a line that begins with this word is a declaration.
 fn is_declaring(word: &[u8]) -> bool
-    ensures { result ≡ is_declaring_lem word.now }
+    ensures { result ≡ spec.is_declaring word.now }
 {
     word == b"area".as_slice() || word == b"plan".as_slice() || word == b"client".as_slice()
 }
@@ -55,7 +56,7 @@ fn declaration_cause(
     word: &Text,
     name: &Text,
 ) -> Result<Option<ScriptCause>, NoMemory>
-    ensures { IfOk result (λ cause. cause ≡ declaration_cause_lem before.now word.now name.now) }
+    ensures { IfOk result (λ cause. cause ≡ spec.declaration_cause before.now word.now name.now) }
 {
     if let Some(act) = first_act(before) {
         return Ok(Some(ScriptCause::Late { act }));
@@ -78,7 +79,7 @@ fn client_cause(
     before: &[Text],
     name: &[u8],
 ) -> Result<Option<ScriptCause>, NoMemory>
-    ensures { IfOk result (λ cause. cause ≡ client_cause_lem before.now name.now) }
+    ensures { IfOk result (λ cause. cause ≡ spec.client_cause before.now name.now) }
 {
     if has_client(before, name) {
         return Ok(None);
@@ -90,14 +91,14 @@ fn client_cause(
 
 /// The number of the first line that is an act.
 fn first_act(lines: &[Text]) -> Option<usize>
-    ensures { result ≡ option_map line_number (position is_act_line_lem lines.now) }
+    ensures { result ≡ option_map line_number (position spec.is_act_line lines.now) }
 {
     let at = place_of_act(lines)?;
     Some(at + 1)
 }
 
 fn place_of_act(lines: &[Text]) -> Option<usize>
-    ensures place { result ≡ position is_act_line_lem lines.now }
+    ensures place { result ≡ position spec.is_act_line lines.now }
     ensures within { IfSome result (λ at. at < length lines.now) }
 {
     lines.iter().position(|line| is_act_line(line.bytes()))
@@ -105,14 +106,14 @@ fn place_of_act(lines: &[Text]) -> Option<usize>
 
 /// The number of the first line that declares this.
 fn first_declaration(lines: &[Text], word: &[u8], name: &[u8]) -> Option<usize>
-    ensures { result ≡ option_map line_number (position (declares_lem word.now name.now) lines.now) }
+    ensures { result ≡ option_map line_number (position (spec.declares word.now name.now) lines.now) }
 {
     let at = place_of_declaration(lines, word, name)?;
     Some(at + 1)
 }
 
 fn place_of_declaration(lines: &[Text], word: &[u8], name: &[u8]) -> Option<usize>
-    ensures place { result ≡ position (declares_lem word.now name.now) lines.now }
+    ensures place { result ≡ position (spec.declares word.now name.now) lines.now }
     ensures within { IfSome result (λ at. at < length lines.now) }
 {
     lines
@@ -121,7 +122,7 @@ fn place_of_declaration(lines: &[Text], word: &[u8], name: &[u8]) -> Option<usiz
 }
 
 fn clients_in(lines: &[Text]) -> usize
-    ensures { result ≡ count_by is_client_line_lem lines.now }
+    ensures { result ≡ count_by spec.is_client_line lines.now }
 {
     lines
         .iter()
@@ -130,7 +131,7 @@ fn clients_in(lines: &[Text]) -> usize
 }
 
 fn has_client(lines: &[Text], name: &[u8]) -> bool
-    ensures { result ≡ list_any (declares_lem (codes "client") name.now) lines.now }
+    ensures { result ≡ list_any (spec.declares (codes "client") name.now) lines.now }
 {
     lines
         .iter()
@@ -139,14 +140,14 @@ fn has_client(lines: &[Text], name: &[u8]) -> bool
 
 /// Whether a line is an act.
 fn is_act_line(line: &[u8]) -> bool
-    ensures { result ≡ is_act_line_lem line.now }
+    ensures { result ≡ spec.is_act_line line.now }
 {
     !says_nothing(line) && !begins_declaration(line)
 }
 
 /// Whether a line is a declaration, by its first word.
 fn begins_declaration(line: &[u8]) -> bool
-    ensures { result ≡ begins_declaration_lem line.now }
+    ensures { result ≡ spec.begins_declaration line.now }
 {
     match first_word(line) {
         Some((word, _)) => is_declaring(word),
@@ -156,7 +157,7 @@ fn begins_declaration(line: &[u8]) -> bool
 
 /// Whether a line declares a client, by its first word.
 fn is_client_line(line: &[u8]) -> bool
-    ensures { result ≡ is_client_line_lem line.now }
+    ensures { result ≡ spec.is_client_line line.now }
 {
     match first_word(line) {
         Some((word, _)) => word == b"client".as_slice(),
@@ -166,7 +167,7 @@ fn is_client_line(line: &[u8]) -> bool
 
 /// Whether a line says something and declares this; there is one area, whatever its size.
 fn declares(line: &[u8], word: &[u8], name: &[u8]) -> bool
-    ensures { result ≡ declares_lem word.now name.now line.now }
+    ensures { result ≡ spec.declares word.now name.now line.now }
 {
     !says_nothing(line) && has_declared(line, word, name)
 }
@@ -185,7 +186,7 @@ fn has_declared(line: &[u8], word: &[u8], name: &[u8]) -> bool
 
 /// Whether this is the first of some words.
 fn has_name(words: &[u8], name: &[u8]) -> bool
-    ensures { result ≡ has_name_lem name.now (words_of words.now) }
+    ensures { result ≡ spec.has_name name.now (words_of words.now) }
 {
     match first_word(words) {
         Some((word, _)) => word == name,

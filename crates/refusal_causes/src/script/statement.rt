@@ -1,7 +1,7 @@
 //! What is out of form in a line.
 
 ghost use Rattle.std.specs.Prelude.{◌≡◌, IfOk};
-ghost use Rattle.refusal_causes.specs.Statements.{behind_cause as behind_cause_lem, plain_cause as plain_cause_lem, request_cause as request_cause_lem, statement_cause as statement_cause_lem};
+ghost use Rattle.refusal_causes.specs.Statements as spec;
 
 use super::argument::{Argument, arguments_cause, arguments_of, request_arguments_of, text_cause};
 use super::cause::ScriptCause;
@@ -10,7 +10,7 @@ use std::alloc::Global;
 
 /// Why a line with these words is out of form.
 pub fn statement_cause(alloc: Global, words: &[Text]) -> Result<Option<ScriptCause>, NoMemory>
-    ensures { IfOk result (λ cause. cause ≡ statement_cause_lem words.now) }
+    ensures { IfOk result (λ cause. cause ≡ spec.statement_cause words.now) }
 {
     let Some((word, args)) = words.split_first() else {
         return Ok(None);
@@ -25,7 +25,7 @@ pub fn statement_cause(alloc: Global, words: &[Text]) -> Result<Option<ScriptCau
 }
 
 fn plain_cause(alloc: Global, word: &Text, args: &[Text]) -> Result<Option<ScriptCause>, NoMemory>
-    ensures { IfOk result (λ cause. cause ≡ plain_cause_lem word.now args.now) }
+    ensures { IfOk result (λ cause. cause ≡ spec.plain_cause word.now args.now) }
 {
     match arguments_of(word.bytes()) {
         Some(arguments) => behind_cause(alloc, word, args, arguments),
@@ -36,7 +36,7 @@ fn plain_cause(alloc: Global, word: &Text, args: &[Text]) -> Result<Option<Scrip
 }
 
 fn request_cause(alloc: Global, words: &[Text]) -> Result<Option<ScriptCause>, NoMemory>
-    ensures { IfOk result (λ cause. cause ≡ request_cause_lem words.now) }
+    ensures { IfOk result (λ cause. cause ≡ spec.request_cause words.now) }
 {
     let Some((word, args)) = words.split_first() else {
         return Ok(Some(ScriptCause::NoRequest));
@@ -56,7 +56,7 @@ fn behind_cause(
     args: &[Text],
     arguments: &[Argument],
 ) -> Result<Option<ScriptCause>, NoMemory>
-    ensures { IfOk result (λ cause. cause ≡ behind_cause_lem word.now args.now arguments.now) }
+    ensures { IfOk result (λ cause. cause ≡ spec.behind_cause word.now args.now arguments.now) }
 {
     if arguments.len() == args.len() {
         return arguments_cause(alloc, arguments, args);

@@ -2,8 +2,9 @@
 
 ghost use Rattle.std.specs.Prelude.{◌≡◌, IfOk, None};
 ghost use Rattle.init_base.specs.Value.{short_value_fault};
-ghost use Rattle.refusal_causes.specs.Store.{misspelled as misspelled_lem, name_fault as name_fault_lem, name_in as name_in_lem, order_fault as order_fault_lem, spelled_fault, value_fault as value_fault_lem};
-ghost use Rattle.persist_file.specs.Causes.{value_in as value_in_lem};
+ghost use Rattle.refusal_causes.specs.Store.{spelled_fault};
+ghost use Rattle.refusal_causes.specs.Store as store_spec;
+ghost use Rattle.persist_file.specs.Causes as causes_spec;
 
 use super::cause::StoreFault;
 use init_base::{BadValue, NoMemory, PropValue, Text};
@@ -12,7 +13,7 @@ use std::alloc::Global;
 
 /// Why a name isn't that of a property that is saved.
 pub fn name_fault(alloc: Global, name: &[u8]) -> Result<StoreFault, NoMemory>
-    ensures { IfOk result (λ fault. fault ≡ name_fault_lem name.now) }
+    ensures { IfOk result (λ fault. fault ≡ store_spec.name_fault name.now) }
 {
     let text = Text::of(alloc, name)?;
     Ok(if is_legal(name) {
@@ -29,7 +30,7 @@ pub fn order_fault(
     number: u32,
     name: &[u8],
 ) -> Result<StoreFault, NoMemory>
-    ensures { IfOk result (λ fault. fault ≡ order_fault_lem before.now number name.now) }
+    ensures { IfOk result (λ fault. fault ≡ store_spec.order_fault before.now number name.now) }
 {
     let is_same = before == name;
     let name = Text::of(alloc, name)?;
@@ -48,7 +49,7 @@ pub fn order_fault(
 
 /// The name of a line. One that hasn't its version's words has the empty one.
 pub fn name_in(version: Version, line: &[u8]) -> &[u8]
-    ensures { result.now ≡ name_in_lem version line.entry.now }
+    ensures { result.now ≡ store_spec.name_in version line.entry.now }
 {
     match words_in(version, line) {
         Some(words) => words.name,
@@ -63,7 +64,7 @@ pub fn value_fault(
     kind: &[u8],
     word: &[u8],
 ) -> Result<StoreFault, NoMemory>
-    ensures { IfOk result (λ fault. fault ≡ value_fault_lem version kind.now word.now) }
+    ensures { IfOk result (λ fault. fault ≡ store_spec.value_fault version kind.now word.now) }
 {
     let Some(value) = value_in(alloc, version, word)? else {
         return misspelled(alloc, version, word);
@@ -78,7 +79,7 @@ pub fn value_fault(
 }
 
 fn misspelled(alloc: Global, version: Version, word: &[u8]) -> Result<StoreFault, NoMemory>
-    ensures { IfOk result (λ fault. fault ≡ misspelled_lem version word.now) }
+    ensures { IfOk result (λ fault. fault ≡ store_spec.misspelled version word.now) }
 {
     let given = Text::of(alloc, word)?;
     Ok(match version {
