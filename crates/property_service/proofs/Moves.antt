@@ -181,8 +181,8 @@ module _ {area : TableId} {core : CoreView Seated} {seats : List Bool} {reader :
       → back ≡ handed reader.view.who (recording v2 e)
   view_back made noted' same out = out ∙ (λ j. handed (same j) ((noted' ∙ ap (recording v2) made) j))
 
-  pub may_hand_out : {third : AreaView} {entry : Entry} {who : ℕ} → third ≡ recording v2 entry → who ≡ reader.view.who → IsIn third who
-  may_hand_out is same =
+  pub may_hand_out : {third : AreaView} {who : ℕ} (entry : Entry) → third ≡ recording v2 entry → who ≡ reader.view.who → IsIn third who
+  may_hand_out {who = who} entry is same =
       ap (λ (x : AreaView). out_seat x.out who) is ∙ (λ j. out_seat (out_now j) (same j)) ∙ seat_own v.out reader.view.who
 
   abbrev noted : AreaView

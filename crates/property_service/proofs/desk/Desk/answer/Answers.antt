@@ -1,4 +1,4 @@
-use Rattle.std.proofs.Common.{◌≡◌, ◌++◌, ◌∷◌, [], Some, sym, ap, ◌∙◌, subst}
+use Rattle.std.proofs.Common.{◌≡◌, ◌++◌, ◌∷◌, [], false, Some, sym, ap, ◌∙◌, subst}
 use Rattle.init_core.specs.Core.{CoreView}
 use Rattle.init_machine.specs.State.{State}
 use Rattle.init_machine.specs.declared.report.Entry.{Entry}
@@ -41,7 +41,7 @@ note-requires g c =
 pub hand_out-requires : goal.hand_out-requires
 hand_out-requires g c =
     let p = (goal.at.hand_out-requires g c).After-store_mut-writer in
-    record { client = may_hand_out (took g p) c.note.ensures.writer.1 c.take_in-who.ensures.client }
+    record { client = may_hand_out (took g p) (record { input = c.args.input; outputs = c.take_outputs-outputs.result }) c.note.ensures.writer.1 c.take_in-who.ensures.client }
 
 pub returns-clause-entry : goal.returns-clause-entry
 returns-clause-entry g c = made g (goal.at.returns-clause-entry g c).After-store_mut-writer ∙ ap (λ (t : ServiceView). next_entry t c.args.input) c.self.view_is
