@@ -1,8 +1,9 @@
 //! A program that is timed from outside: it makes so many reads or sets at an area of so many names.
 //!
 //! `area_bench read|absent|put|name|value|length|read_beside|absent_beside|read_200|read_8000 NAMES N`, of which `name` checks names
-//! alone, `value` checks them as values, `length` looks at their lengths, and the last two read long values of so many bytes. Where the kind ends with `_beside`, another thread sets the names in turn until
-//! the reads are made; else there is no other thread. `bench/area` has the same in plain Rust, and runs both.
+//! alone, `value` checks them as values, `length` looks at their lengths, and the last two read long values of so many bytes. Where the
+//! kind ends with `_beside`, another thread sets the names in turn until the reads are made; else there is no other thread. `bench/area`
+//! has the same in plain Rust, and runs both.
 #![tactic(auto)]
 
 ghost use Rattle.std.specs.Prelude.{◌≡◌, ◌≤◌, IfSome, IsTrue};

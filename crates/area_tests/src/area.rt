@@ -152,6 +152,15 @@ fn a_long_value_is_read(rt: HostRuntime) -> Result<(), Fail> {
     Ok(())
 }
 
+/// Sets 63 names to a long value.
+fn set_long(writer: &mut AreaWriter<'_>, alloc: Global, value: &[u8]) -> Result<(), Fail> {
+    for k in 10..73 {
+        let name = format!(in alloc; "ro.k{k}")?;
+        set(writer, alloc, name.as_str(), value)?;
+    }
+    Ok(())
+}
+
 /// The area is filled by long values to its last word. A node of `ro` takes 6 words, and one of `kNN` 6. With 8,191 bytes a cell takes
 /// 2 + 1,024 = 1,026 words, so each such name takes 1,032: 63 of them and the node take 65,022 of the 65,520 words behind the
 /// head. What is left, 498, is a node and a cell of 492 words, which has 490 words of value: 3,920 bytes. Then `ro.z` with 92
@@ -162,10 +171,7 @@ fn long_values_to_the_last_word(rt: HostRuntime) -> Result<(), Fail> {
     let (area, seat) = Area::new(alloc, 65_536).ok().ok_or("no area")?;
     let mut writer = AreaWriter::new(&area, seat);
     let value = vec![in alloc; b'x'; 8191]?;
-    for k in 10..73 {
-        let name = format!(in alloc; "ro.k{k}")?;
-        set(&mut writer, alloc, name.as_str(), value.as_slice())?;
-    }
+    set_long(&mut writer, alloc, value.as_slice())?;
     assert_eq!(rt; writer.used(), 65_038);
     let last = vec![in alloc; b'y'; 3920]?;
     let past = Full::Words {

@@ -98,7 +98,8 @@ impl<S: PropStore> Core<S> {
         })
     }
 
-    /// Takes one input: what the documented step does. A set is of a client that the configuration declares. Its outputs take the place of those of the input before.
+    /// Takes one input: what the documented step does. A set is of a client that the configuration declares. Its outputs take the
+    /// place of those of the input before.
     ///
     /// `Spent` comes exactly where an earlier call answered `NoMemory`, and changes nothing. After `NoMemory` the store
     /// is the same beside the map, and nothing else is said of the core.

@@ -83,7 +83,8 @@ fn perform_race<R: Threads + Wait + Sync, P: Keeper, K: Sink, G: Gate>(
     }
 }
 
-/// `race`: reads the script, the tree and the store, runs the machine with each client on a thread, and writes the report.
+/// `race`: reads the script, the tree and the store, runs the machine with each client on a thread, and writes the report. Its
+/// parameters are those of `initsim`, without the words and the trace.
 pub fn race_script<R: Threads + Wait + Sync, F: Files, S: Source, P: Keeper, K: Sink, G: Gate>(
     rt: &R,
     alloc: Global,

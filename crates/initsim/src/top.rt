@@ -146,7 +146,8 @@ fn check<F: Files, K: Sink>(alloc: Global, files: &mut F, out: &mut K) -> Status
 /// summary was. A check leaves the script and the keeper alone, and a soak all but the sink; no form but `audit` touches the trace.
 ///
 /// With `race` alone the call may wait, and the clauses hold if it returns. `rt` makes its threads, and each actor passes `gate`
-/// before and after each of its inputs and requests.
+/// before and after each of its inputs and requests. The parameters are all that the program has of the system, each by itself, so
+/// that the clauses say of each what it gave or took.
 pub fn initsim<
     R: Threads + Wait + Sync,
     F: Files,

@@ -234,8 +234,8 @@ fn add_as<V, K, R: TrieRule<V, K>, Q: Added>(
 
 /// Adds a name that is in no set, with its first value, and answers where its cell lies. Each missing node is made, its
 /// words before the link to it, from the first part on; then the cell, and last the link to it, with which the set is
-/// accepted. `mark` is the first free word, which is afterwards the one behind the cell, and `missing` what the name misses. It
-/// takes no memory, and waits for nothing.
+/// accepted. `mark` is the first free word, which is afterwards the one behind the cell, and `missing` what the name misses: the last two
+/// parameters are what the writer knows of the trie, and no word tells. It takes no memory, and waits for nothing.
 pub fn add<V, K, R: TrieRule<V, K>>(
     table: &Table<(), V, K, R, Global>,
     seat: &mut Seat<(), V>,

@@ -91,7 +91,7 @@ fn write_as<V, K, R: CellRule<V, K>, Q: Asked>(
 
 /// Sets a new value of at most 91 bytes at the short cell of a name. It makes the twelve stores of the backup, that of the
 /// dirty serial, the twelve of the new value's words, and that of the clean serial, with which the set is accepted. It waits
-/// for nothing.
+/// for nothing. The parameters are the cell, by its table, seat and place, and the set, by its name, number and value.
 pub fn write_cell<V, K, R: CellRule<V, K>>(
     table: &Table<(), V, K, R, Global>,
     seat: &mut Seat<(), V>,
