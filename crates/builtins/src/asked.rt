@@ -1,15 +1,15 @@
 //! Commands whose arguments are expanded.
 
-ghost use Rattle.std.specs.Prelude.{◌≡◌, IfOk, IsTrue};
+ghost use Rattle.std.specs.Prelude.{◌≡◌, ℕ, List as Items, Ok, Option as Maybe, IfOk, IsTrue};
 ghost use Rattle.init_machine.specs.Effect as effect_spec;
 ghost use Rattle.init_machine.specs.Expand as expand_spec;
 ghost use Rattle.init_machine.specs.Props.{value_in};
 ghost use Rattle.builtins.specs.Asked.{asked_by, is_brief_if_ok};
 
 use crate::task::task_of;
-use init_base::{List, NoMemory, Text};
+use init_base::{List, NoMemory, SharedList, Text};
 use init_machine::{Cause, Command, PropStore, Task};
-use prop_rules::{ExpandRefusal, expand};
+use prop_rules::{ExpandRefusal, expand, stands_for_itself};
 use std::alloc::Global;
 use std::marker::Model;
 
@@ -71,7 +71,7 @@ fn expand_one<S: PropStore>(
 fn expand_all<S: PropStore>(
     alloc: Global,
     store: &mut S,
-    args: &List<Text>,
+    args: &[Text],
 ) -> Result<Result<List<Text>, Cause>, NoMemory>
     ensures expanded { IfOk result (λ expanded. expanded ≡ effect_spec.expand_all (value_in (S.meaning store.old)) args.now) }
     ensures same { S.meaning store.new ≡ S.meaning store.old }
@@ -80,7 +80,7 @@ fn expand_all<S: PropStore>(
     ensures beside { S.Beside store.old store.new }
 {
     let mut expanded = List::with_capacity(alloc, args.len())?;
-    for arg in args.items() {
+    for arg in args {
         match expand_one(alloc, store, arg)? {
             Ok(text) => expanded.push(text)?,
             Err(why) => return Ok(Err(why)),
@@ -89,19 +89,41 @@ fn expand_all<S: PropStore>(
     Ok(Ok(expanded))
 }
 
-/// Another list of the same texts.
-fn copy_of(alloc: Global, texts: &List<Text>) -> Result<List<Text>, NoMemory>
-    ensures { IfOk result (λ copy. copy ≡ texts.now) }
+/// Whether each argument is its own expansion.
+fn stand_for_themselves(args: &[Text]) -> bool
+    ensures { IsTrue result → (look_up : Items ℕ → Maybe (Items ℕ)) → effect_spec.expand_all look_up args.now ≡ Ok args.now }
 {
-    let mut copy = List::with_capacity(alloc, texts.len())?;
-    for text in texts.items() {
-        copy.push(text.share()?)?;
+    for arg in args {
+        if !stands_for_itself(arg) {
+            return false;
+        }
     }
-    Ok(copy)
+    true
+}
+
+/// The arguments, expanded from the left. Those that stand for themselves are shared.
+fn expand_args<S: PropStore>(
+    alloc: Global,
+    store: &mut S,
+    args: &SharedList<Text>,
+) -> Result<Result<SharedList<Text>, Cause>, NoMemory>
+    ensures expanded { IfOk result (λ expanded. expanded ≡ effect_spec.expand_all (value_in (S.meaning store.old)) args.now) }
+    ensures same { S.meaning store.new ≡ S.meaning store.old }
+    ensures told { S.told store.new ≡ S.told store.old }
+    ensures spare { S.spare store.new ≡ S.spare store.old }
+    ensures beside { S.Beside store.old store.new }
+{
+    if stand_for_themselves(args.items()) {
+        return Ok(Ok(args.share()?));
+    }
+    match expand_all(alloc, store, args.items())? {
+        Ok(expanded) => Ok(Ok(SharedList::of(alloc, expanded)?)),
+        Err(why) => Ok(Err(why)),
+    }
 }
 
 /// The command with other arguments.
-fn with_args(command: &Command, args: List<Text>) -> Result<Command, NoMemory>
+fn with_args(command: &Command, args: SharedList<Text>) -> Result<Command, NoMemory>
     ensures { IfOk result (λ shown. shown ≡ record command.now { args = args }) }
 {
     Ok(Command {
@@ -120,14 +142,14 @@ pub fn ask<S: PropStore>(alloc: Global, store: &mut S, command: &Command) -> Res
     ensures spare { S.spare store.new ≡ S.spare store.old }
     ensures beside { S.Beside store.old store.new }
 {
-    match expand_all(alloc, store, &command.args)? {
+    match expand_args(alloc, store, &command.args)? {
         Ok(args) => {
             let task = Ok(task_of(command.word, args.items())?);
             let command = with_args(command, args)?;
             Ok(Asked { command, task })
         }
         Err(why) => {
-            let command = with_args(command, copy_of(alloc, &command.args)?)?;
+            let command = with_args(command, command.args.share()?)?;
             let task = Err(why);
             Ok(Asked { command, task })
         }

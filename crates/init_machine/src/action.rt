@@ -1,7 +1,7 @@
 //! Actions of rc files: what triggers them, and their commands (AOSP, init's README, "Actions").
 
 use crate::word::Word;
-use init_base::{List, Text};
+use init_base::{List, SharedList, Text};
 
 /// A property trigger `property:NAME=VALUE`. No value stands for `*`.
 #[derive(Debug, Drop)]
@@ -16,7 +16,7 @@ pub struct Command {
     pub file: Text,
     pub line: u32,
     pub word: Word,
-    pub args: List<Text>,
+    pub args: SharedList<Text>,
 }
 
 /// An `on` section, at the line of its header.

@@ -1,7 +1,7 @@
 //! Outputs: what the machine did, line by line of the trace.
 
 use crate::word::Word;
-use init_base::{List, Millis, NoMemory, Pid, Text};
+use init_base::{Millis, NoMemory, Pid, SharedList, Text};
 
 /// One thing that the machine did.
 #[derive(Debug, Drop)]
@@ -22,7 +22,7 @@ pub enum Output {
         file: Text,
         line: u32,
         word: Word,
-        args: List<Text>,
+        args: SharedList<Text>,
     },
     /// An accepted set, with its number from 1.
     Put {

@@ -10,7 +10,7 @@ ghost use Rattle.init_trace.specs.Report.{client_fields, end_fields, output_line
 use crate::field::{number, serial, text, texts, word, word_number, word_text, word_texts};
 use crate::quote::{put, put_byte};
 use crate::words::{kind_name, tree_name};
-use init_base::{List, NoMemory, Text};
+use init_base::{NoMemory, SharedList, Text};
 use init_machine::{Cause, ClientPart, Diagnostic, How, Input, Output, Reading, SetRefusal, Word};
 
 /// What has a line of its own in a report.
@@ -199,7 +199,7 @@ fn add_command(
     file: &Text,
     line: u32,
     command: Word,
-    args: &List<Text>,
+    args: &SharedList<Text>,
 ) -> Result<(), NoMemory>
     ensures { OnOk result (page.new.items
         ≡ page.old.items ++ spaced (output_fields (Output.Command file.now line command args.now))) }

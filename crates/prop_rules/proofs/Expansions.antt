@@ -1,9 +1,10 @@
 -- A text that is expanded piece by piece: what is left decides.
-use Rattle.std.proofs.Common.{◌≡◌, ℕ, zero, suc, ◌+◌, ◌-◌, ◌<◌, ◌≤◌, List, [], ◌∷◌, ◌++◌, length, drop, slice_index, true, false, not, ◌&&◌, ◌||◌, if◌then◌else◌, ◌==◌, position, Option, Some, None, Result, Ok, Err, refl, sym, ap, ◌∙◌, append_assoc, arith}
+use Rattle.std.proofs.Common.{◌≡◌, ℕ, zero, suc, ◌+◌, ◌-◌, ◌<◌, ◌≤◌, List, [], ◌∷◌, ◌++◌, length, drop, slice_index, true, false, not, ◌&&◌, ◌||◌, if◌then◌else◌, ◌==◌, nat_lt, position, Option, Some, None, Result, Ok, Err, refl, sym, ap, ◌∙◌, append_assoc, arith}
 use Rattle.std.specs.List.{list_all, list_any}
 use Rattle.std.proofs.Math.Seq.{drop-cons}
+use Rattle.std.proofs.lemmas.Bool.{false_from_ne_true, ltb-true}
 use Rattle.std.proofs.lemmas.List.{drop-drop}
-use Rattle.init_machine.specs.Expand.{Plain, Bad, Written, up_to, behind_brace, behind_dollar, joined, pieces_from, values_of, piece_value, first_piece}
+use Rattle.init_machine.specs.Expand.{Plain, Bad, Written, up_to, behind_brace, behind_dollar, expand, joined, pieces_from, values_of, piece_value, first_piece, within_limit}
 use Rattle.init_machine.specs.Props.{Props, value_in}
 use Rattle.init_machine.specs.declared.output.Cause.{Cause}
 use Rattle.prop_rules.specs.Answers.{IsRefusal}
@@ -115,6 +116,13 @@ plain_values look_up place (b ∷ rest) is =
       | true ↦ λ h. cc
       | false ↦ λ h. ap (joined (Ok (b ∷ []))) (plain_values look_up (place + 1) rest h)
     ] is
+
+-- a text without `$` that isn't too long is its own expansion
+pub own_expansion : (look_up : List ℕ → Option (List ℕ)) (text : List ℕ) → length text ≤ 4096 → list_all (λ b. not (b == 36)) text ≡ true → expand look_up text ≡ Ok text
+unfolding expand
+own_expansion look_up text few is =
+    ap within_limit (plain_values look_up 0 text is)
+    ∙ rw (false_from_ne_true (nat_lt 4096 (length text)) (λ more. absurd (omega (arith, ltb-true _ _ more, few)))) refl
 
 -- no byte is one exactly where none is found
 pub none_is : (byte : ℕ) (text : List ℕ) → not (list_any (λ b. b == byte) text) ≡ list_all (λ b. not (b == byte)) text

@@ -1,6 +1,6 @@
 //! Expansion of properties in a text (AOSP, init's README, "Property expansion").
 
-ghost use Rattle.std.specs.Prelude.{◌≡◌, ◌+◌, ◌<◌, ◌≤◌, length, Ok, IfOk, not, ◌==◌};
+ghost use Rattle.std.specs.Prelude.{ℕ, List as Items, Option as Maybe, IsTrue, ◌≡◌, ◌+◌, ◌<◌, ◌≤◌, length, Ok, IfOk, not, ◌==◌};
 ghost use Rattle.std.specs.List.{list_all};
 ghost use Rattle.init_base.specs.Value.{max_value_len};
 ghost use Rattle.init_machine.specs.Expand.{joined, piece_value, values_of, pieces_of, within_limit};
@@ -186,6 +186,13 @@ fn is_plain(text: &[u8]) -> bool
     ensures { result ≡ list_all (λ b. not (b == 36)) text.now }
 {
     !text.contains(&b'$')
+}
+
+/// Whether a text is its own expansion, as one without `$` is that isn't too long.
+pub fn stands_for_itself(text: &Text) -> bool
+    ensures { IsTrue result → (look_up : Items ℕ → Maybe (Items ℕ)) → spec.expand look_up text.now ≡ Ok text.now }
+{
+    text.len() <= LIMIT && is_plain(text.bytes())
 }
 
 /// The text that came out, if it isn't too long.

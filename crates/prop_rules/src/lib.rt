@@ -12,7 +12,7 @@ mod value;
 mod view;
 
 pub use build::{BuildProps, build_props};
-pub use expansion::{ExpandRefusal, expand};
+pub use expansion::{ExpandRefusal, expand, stands_for_itself};
 pub use types::check_type;
 pub use value::look_up;
 pub use view::boot_view;

@@ -8,7 +8,7 @@ ghost use Rattle.rc_parse.specs.Readings.{IsReading};
 
 use crate::fault::Fault;
 use crate::words::{arguments, first_word, shared};
-use init_base::{NoMemory, Text};
+use init_base::{NoMemory, SharedList, Text};
 use init_machine::{Command, DiagKind, Word};
 use std::alloc::Global;
 
@@ -47,7 +47,7 @@ pub fn command_with(
         file: file.share()?,
         line,
         word,
-        args: shared(alloc, args)?,
+        args: SharedList::of(alloc, shared(alloc, args)?)?,
     })
 }
 

@@ -3,7 +3,7 @@
 ghost use Rattle.std.specs.Prelude.{◌≡◌, ◌↔◌, IsTrue, MatchOption};
 ghost use Rattle.trace_audit.specs.Differences.{DifferFirst};
 
-use init_base::{List, Text};
+use init_base::{List, SharedList, Text};
 use init_machine::Diagnostic;
 use script_lang::Client;
 
@@ -33,6 +33,12 @@ impl Same for Client {
 }
 
 impl<T: Same> Same for List<T> {
+    fn same(&self, other: &Self) -> bool {
+        first_difference(self.items(), other.items()).is_none()
+    }
+}
+
+impl<T: Same> Same for SharedList<T> {
     fn same(&self, other: &Self) -> bool {
         first_difference(self.items(), other.items()).is_none()
     }

@@ -11,7 +11,7 @@ use crate::number::{large, small};
 use crate::output_word::OutputWord;
 use crate::refusal::refusal;
 use crate::word::{command_word, only_number, only_text, text, texts, two_texts};
-use init_base::{Millis, Pid};
+use init_base::{Millis, Pid, SharedList};
 use init_machine::Output;
 use script_lang::Fault;
 use std::alloc::Global;
@@ -115,7 +115,7 @@ fn command(alloc: Global, mut fields: Fields<'_>) -> Result<Output, Fault>
         file: text(alloc, file)?,
         line: small(line)?,
         word: command_word(word)?,
-        args: texts(alloc, fields)?,
+        args: SharedList::of(alloc, texts(alloc, fields)?)?,
     })
 }
 

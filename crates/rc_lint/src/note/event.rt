@@ -176,7 +176,7 @@ impl<'a> Sent<'a> {
 /// The event that a command triggers.
 fn triggered(command: &Command) -> Option<&Text> {
     match command.word {
-        Word::Trigger => command.args.at(0),
+        Word::Trigger => command.args.items().first(),
         _ => None,
     }
 }
