@@ -1,3 +1,6 @@
+pub mod ByBytes
+pub mod FirstPlaces
+pub mod Lacking
 pub mod Names
 pub mod NameBytes
 pub mod Parts

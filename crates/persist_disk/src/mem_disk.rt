@@ -1,11 +1,11 @@
 //! A disk in memory.
 
-ghost use Rattle.std.specs.Prelude.{◌≡◌, ⊤, Some, IfOk, length, take, min, reverse};
+ghost use Rattle.std.specs.Prelude.{◌≡◌, ⊤, Some, IfOk, length, min, reverse};
 ghost use Rattle.persist_disk.specs.DiskModel as spec;
 ghost use Rattle.persist_disk.specs.Record.{content_after, left_now, reaches_back, read_is_left, unrecorded, LeftSince};
 
 use crate::disk::Disk;
-use init_base::{FailPlan, Failed, IoRefusal, List, NoMemory, Text};
+use init_base::{FailPlan, Failed, IoRefusal, List, NoMemory, Text, copy_front};
 use std::alloc::Global;
 use std::marker::Model;
 
@@ -72,16 +72,6 @@ impl MemDisk {
     {
         &self.content
     }
-}
-
-/// Copies the first bytes, as many as both have.
-fn copy_front(from: &[u8], to: &mut [u8]) -> usize
-    ensures count { result ≡ min (length from.now) (length to.old) }
-    ensures bytes { take result to.new ≡ take result from.now }
-{
-    let count = from.len().min(to.len());
-    to[..count].copy_from_slice(&from[..count]);
-    count
 }
 
 /// Bytes with others written at a place. A place past the end is led up to by zeros.

@@ -9,7 +9,7 @@ use super::plan::FailPlan;
 use super::tree;
 use crate::list::List;
 use crate::outside::files::Files;
-use crate::outside::refusal::ReadRefusal;
+use crate::outside::refusal::{Found, ReadRefusal};
 use crate::text::Text;
 use std::alloc::Global;
 use std::marker::Model;
@@ -52,7 +52,7 @@ impl Files for MemFiles {
         self.plan.faults()
     }
 
-    fn list(&mut self, alloc: Global, dir: &[u8]) -> Result<Option<List<Text>>, ReadRefusal>
+    fn list(&mut self, alloc: Global, dir: &[u8]) -> Found<List<Text>>
         ensures names { ListsNames (Some self.old.content) dir.now result }
         ensures bound { ListsFew result }
         ensures tree { Some self.new.content ≡ Some self.old.content }
@@ -66,12 +66,7 @@ impl Files for MemFiles {
         tree::list(alloc, self.entries.items(), dir)
     }
 
-    fn read(
-        &mut self,
-        alloc: Global,
-        path: &[u8],
-        limit: usize,
-    ) -> Result<Option<Text>, ReadRefusal>
+    fn read(&mut self, alloc: Global, path: &[u8], limit: usize) -> Found<Text>
         ensures bytes { ReadsFile (Some self.old.content) path.now limit result }
         ensures bound { ReadsWithin limit result }
         ensures tree { Some self.new.content ≡ Some self.old.content }
@@ -118,16 +113,11 @@ impl Files for SteadyFiles {
         0
     }
 
-    fn list(&mut self, alloc: Global, dir: &[u8]) -> Result<Option<List<Text>>, ReadRefusal> {
+    fn list(&mut self, alloc: Global, dir: &[u8]) -> Found<List<Text>> {
         tree::list(alloc, self.entries.items(), dir)
     }
 
-    fn read(
-        &mut self,
-        alloc: Global,
-        path: &[u8],
-        limit: usize,
-    ) -> Result<Option<Text>, ReadRefusal> {
+    fn read(&mut self, alloc: Global, path: &[u8], limit: usize) -> Found<Text> {
         tree::read(alloc, self.entries.items(), path, limit)
     }
 }

@@ -50,7 +50,7 @@ impl Unread {
 }
 
 /// Copies the first bytes, as many as both have.
-fn copy_front(from: &[u8], to: &mut [u8]) -> usize
+pub fn copy_front(from: &[u8], to: &mut [u8]) -> usize
     ensures count { result ≡ min (length from.now) (length to.old) }
     ensures bytes { take result to.new ≡ take result from.now }
 {

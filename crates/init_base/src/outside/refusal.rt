@@ -33,6 +33,9 @@ pub enum ReadRefusal {
     NoMemory,
 }
 
+/// What is found at a path of a tree: None where it isn't there.
+pub type Found<T> = Result<Option<T>, ReadRefusal>;
+
 impl From<NoMemory> for ReadRefusal {
     ghost use Rattle.std.specs.Prelude.{◌≡◌};
     ghost use Rattle.init_base.specs.declared.outside.refusal.ReadRefusal.TheVariants.{NoMemory as read_no_memory};
