@@ -104,17 +104,13 @@ impl Disk for MemDisk {
     }
 
     fn read_at(&mut self, at: u64, buf: &mut [u8]) -> Result<usize, Failed> {
-        if self.plan.fails() {
-            return Err(Failed);
-        }
+        self.plan.call()?;
         let at = (at as usize).min(self.content.len());
         Ok(copy_front(&self.content[at..], buf))
     }
 
     fn write_at(&mut self, at: u64, bytes: &[u8]) -> Result<(), IoRefusal> {
-        if self.plan.fails() {
-            return Err(IoRefusal::Failed);
-        }
+        self.plan.call()?;
         let content = written(self.alloc, &self.content, at, bytes)?;
         let bytes = Text::of(self.alloc, bytes)?;
         self.steps.push(DiskStep::Write { at, bytes })?;
@@ -123,9 +119,7 @@ impl Disk for MemDisk {
     }
 
     fn sync(&mut self) -> Result<(), IoRefusal> {
-        if self.plan.fails() {
-            return Err(IoRefusal::Failed);
-        }
+        self.plan.call()?;
         self.steps.push(DiskStep::Sync)?;
         Ok(())
     }

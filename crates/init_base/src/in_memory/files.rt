@@ -9,7 +9,7 @@ use super::plan::FailPlan;
 use super::tree;
 use crate::list::List;
 use crate::outside::files::Files;
-use crate::outside::refusal::{Found, ReadRefusal};
+use crate::outside::refusal::Found;
 use crate::text::Text;
 use std::alloc::Global;
 use std::marker::Model;
@@ -60,9 +60,7 @@ impl Files for MemFiles {
         ensures failed { read_failed result ≡ fails_next self.old.calls }
         ensures calls { self.new.calls ≡ after_call self.old.calls }
     {
-        if self.plan.fails() {
-            return Err(ReadRefusal::Failed);
-        }
+        self.plan.call()?;
         tree::list(alloc, self.entries.items(), dir)
     }
 
@@ -74,9 +72,7 @@ impl Files for MemFiles {
         ensures failed { read_failed result ≡ fails_next self.old.calls }
         ensures calls { self.new.calls ≡ after_call self.old.calls }
     {
-        if self.plan.fails() {
-            return Err(ReadRefusal::Failed);
-        }
+        self.plan.call()?;
         tree::read(alloc, self.entries.items(), path, limit)
     }
 }

@@ -103,9 +103,7 @@ impl Source for MemSource {
         ensures failed { source_failed result ≡ fails_next self.old.calls }
         ensures calls { self.new.calls ≡ after_call self.old.calls }
     {
-        if self.plan.fails() {
-            return Err(Failed);
-        }
+        self.plan.call()?;
         Ok(self.unread.read(buf))
     }
 }
