@@ -1,4 +1,5 @@
 pub mod ByBytes
+pub mod Digits
 pub mod FirstPlaces
 pub mod Lacking
 pub mod Names
