@@ -1,18 +1,10 @@
 -- A map whose keys are bytes, by these bytes.
-use Rattle.std.proofs.Common.{◌≡◌, ℕ, Bool, true, false, cond, List, [], Option, Some, refl, sym, ap, subst, ◌∙◌}
-use Rattle.std.specs.Cmp.Lexicographic.{bytes_decides, nat_list_eq_equiv}
+use Rattle.std.proofs.Common.{◌≡◌, ℕ, true, false, cond, List, [], Option, Some, refl, ap, subst, ◌∙◌}
+use Rattle.std.specs.Cmp.Lexicographic.{nat_list_eq_equiv}
 use Rattle.std.specs.HashMap.{HashMap, get_by, UpdatesBy}
-use Rattle.std.specs.Map.{lookup, IsKeyTest, AreApart, KeepsOthers}
 use Rattle.std.specs.Option.{option_map_or}
 use Rattle.std.specs.Str.{bytes_eq}
-
-module _ {K : Type 0} (eq : K → K → Bool) (test : K → Bool) where
-  other_entries : {X : Type 0} (old new : List (K × X)) → KeepsOthers eq test old new → (other : K → Bool) → IsKeyTest eq other → AreApart test other → lookup other new ≡ lookup other old
-  unfolding KeepsOthers
-  other_entries old new h = h
-
-apart : (bs cs ks : List ℕ) → bytes_eq bs cs ≡ false → bytes_eq bs ks ≡ true → bytes_eq cs ks ≡ false
-apart bs cs ks n y = nat_list_eq_equiv.symm cs ks ∙ sym (nat_list_eq_equiv.congr bs ks cs y) ∙ n
+use Rattle.init_base.proofs.ByBytes.{apart, other_entries, same_bytes}
 
 -- what a change at some bytes leaves at others
 pub others_stay : {K X S : Type 0} (bytes : K → List ℕ) (bs : List ℕ) (m n : HashMap K X S) (w : Option X)
@@ -20,9 +12,6 @@ pub others_stay : {K X S : Type 0} (bytes : K → List ℕ) (bs : List ℕ) (m n
     → (cs : List ℕ) → bytes_eq bs cs ≡ false → get_by (λ k. bytes_eq cs (bytes k)) n ≡ get_by (λ k. bytes_eq cs (bytes k)) m
 others_stay bytes bs m n w h cs e =
     other_entries _ _ _ _ h.3 _ (λ x y. nat_list_eq_equiv.congr cs (bytes x) (bytes y)) (λ k. apart bs cs (bytes k) e)
-
-pub same_bytes : (bs cs : List ℕ) → bytes_eq bs cs ≡ true → bs ≡ cs
-same_bytes bs cs e = (bytes_decides bs cs).0 e
 
 -- a function of bytes that was changed at some
 pub by_bytes : {W : Type 0} (f g : List ℕ → W) (bs : List ℕ) (w : W) → g bs ≡ w → ((cs : List ℕ) → bytes_eq bs cs ≡ false → g cs ≡ f cs)

@@ -10,7 +10,7 @@ use Rattle.init_machine.specs.declared.event.Event.{Event}
 use Rattle.init_machine.specs.declared.event.Event.TheVariants.{Named, Change, AllProperties, Mark}
 use Rattle.action_queue.specs.Index.{place_if, are_below, is_at, ends_with, may_trigger, has_named, has_tested, is_without_event}
 use Rattle.action_queue.specs.Pending.{places_from}
-use Rattle.action_queue.proofs.ByBytes.{same_bytes}
+use Rattle.init_base.proofs.ByBytes.{same_bytes}
 use Rattle.action_queue.proofs.Events.{or_assoc, or_false}
 use Rattle.action_queue.proofs.Fronts.{front_is, both_true}
 use Rattle.action_queue.proofs.Moves.{none_behind}

@@ -2,9 +2,11 @@
 
 ghost use Rattle.std.specs.Prelude.{◌≡◌, IsTrue, true};
 ghost use Rattle.std.specs.List.{list_any, list_all};
-ghost use Rattle.init_machine.specs.Matches.{matches, has_event, has_no_event, holds_at_change, holds_for, tests};
+ghost use Rattle.std.specs.Option.{option_copied};
+ghost use Rattle.init_machine.specs.Matches.{matches, has_event, has_no_event, holds_for, tests};
 ghost use Rattle.init_machine.specs.Matches as spec;
 ghost use Rattle.action_queue.specs.Queue.{value_in, has_legal_name};
+ghost use Rattle.action_queue.specs.Tests.{holds_after};
 
 use init_base::{List, PropName, Text};
 use init_machine::{Action, Event, Pair, PropStore, PropTest, has_value};
@@ -20,13 +22,13 @@ pub fn is_triggered<S: PropStore>(store: &mut S, event: &Event, action: &Action)
     ensures beside { S.Beside store.old store.new }
 {
     match event {
-        Event::Named(name) => is_named(&action.event, name) && all_hold_now(store, &action.props),
+        Event::Named(name) => is_named(&action.event, name) && all_hold(store, None, &action.props),
         Event::Change(pair) => {
             action.event.is_none()
                 && is_tested(pair, &action.props)
-                && all_hold_at(store, pair, &action.props)
+                && all_hold(store, Some(pair), &action.props)
         }
-        Event::AllProperties => action.event.is_none() && all_hold_now(store, &action.props),
+        Event::AllProperties => action.event.is_none() && all_hold(store, None, &action.props),
         Event::Mark => false,
     }
 }
@@ -50,32 +52,17 @@ fn is_tested(pair: &Pair, props: &List<PropTest>) -> bool
         .any(|test| test.name.is(pair.name.bytes()))
 }
 
-fn all_hold_now<S: PropStore>(store: &mut S, props: &List<PropTest>) -> bool
+/// Whether all tests hold, where this property was changed, or none.
+fn all_hold<S: PropStore>(store: &mut S, changed: Option<&Pair>, props: &List<PropTest>) -> bool
     requires { IsTrue (list_all has_legal_name props.now) }
-    ensures answer { result ≡ list_all (spec.holds_now (value_in (S.meaning store.old))) props.now }
+    ensures answer { result ≡ list_all (holds_after (value_in (S.meaning store.old)) (option_copied changed.entry)) props.now }
     ensures same { S.meaning store.new ≡ S.meaning store.old }
     ensures told { S.told store.new ≡ S.told store.old }
     ensures spare { S.spare store.new ≡ S.spare store.old }
     ensures beside { S.Beside store.old store.new }
 {
     for test in props.items() {
-        if !holds_now(store, test) {
-            return false;
-        }
-    }
-    true
-}
-
-fn all_hold_at<S: PropStore>(store: &mut S, pair: &Pair, props: &List<PropTest>) -> bool
-    requires { IsTrue (list_all has_legal_name props.now) }
-    ensures answer { result ≡ list_all (holds_at_change (value_in (S.meaning store.old)) pair.now.name pair.now.value) props.now }
-    ensures same { S.meaning store.new ≡ S.meaning store.old }
-    ensures told { S.told store.new ≡ S.told store.old }
-    ensures spare { S.spare store.new ≡ S.spare store.old }
-    ensures beside { S.Beside store.old store.new }
-{
-    for test in props.items() {
-        if !holds_at(store, pair, test) {
+        if !holds(store, changed, test) {
             return false;
         }
     }
@@ -83,14 +70,17 @@ fn all_hold_at<S: PropStore>(store: &mut S, pair: &Pair, props: &List<PropTest>)
 }
 
 /// The changed property is tested by its new value, and another one by what it is now.
-fn holds_at<S: PropStore>(store: &mut S, pair: &Pair, test: &PropTest) -> bool
+fn holds<S: PropStore>(store: &mut S, changed: Option<&Pair>, test: &PropTest) -> bool
     requires { IsTrue (has_legal_name test.now) }
-    ensures answer { result ≡ holds_at_change (value_in (S.meaning store.old)) pair.now.name pair.now.value test.now }
+    ensures answer { result ≡ holds_after (value_in (S.meaning store.old)) (option_copied changed.entry) test.now }
     ensures same { S.meaning store.new ≡ S.meaning store.old }
     ensures told { S.told store.new ≡ S.told store.old }
     ensures spare { S.spare store.new ≡ S.spare store.old }
     ensures beside { S.Beside store.old store.new }
 {
+    let Some(pair) = changed else {
+        return holds_now(store, test);
+    };
     if !test.name.is(pair.name.bytes()) {
         return holds_now(store, test);
     }

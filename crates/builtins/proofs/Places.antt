@@ -1,9 +1,9 @@
 -- The first place of a list that passes a test.
-use Rattle.std.proofs.Common.{◌≡◌, ℕ, ◌+◌, ◌<◌, suc, Bool, true, false, ◌||◌, not, cond, if◌then◌else◌, ◌-◌, take, drop, List, [], ◌∷◌, length, refl, ap, sym, ◌∙◌, Some, None, arith, nat_lt}
+use Rattle.std.proofs.Common.{◌≡◌, ℕ, ◌+◌, ◌<◌, Bool, true, false, cond, if◌then◌else◌, ◌-◌, take, drop, List, length, refl, ap, sym, ◌∙◌, Some, None, arith, nat_lt}
 use Rattle.std.specs.List.{list_any, position, position_or_len, after_first}
-use Rattle.std.specs.Cmp.{both_ways}
-use Rattle.std.proofs.lemmas.Bool.{lt-ltb, ltb-true}
+use Rattle.std.proofs.lemmas.Bool.{ltb-true}
 use Rattle.std.proofs.lemmas.List.{take_rest}
+use Rattle.init_base.proofs.FirstPlaces.{any_by_place}
 
 found : (t : Bool) (a place : ℕ) → Some place ≡ cond t (Some a) None → (t ≡ true) × (place ≡ a)
 found true a place h = (refl, cc)
@@ -12,15 +12,6 @@ found false a place h = cc
 not_found : (t : Bool) (a : ℕ) → None ≡ cond t (Some a) None → t ≡ false
 not_found true a h = cc
 not_found false a h = refl
-
-any_more : (t rest : Bool) (n m : ℕ) → rest ≡ nat_lt n m → (t || rest) ≡ nat_lt (cond (not t) (1 + n) 0) (suc m)
-any_more true rest n m h = sym (lt-ltb 0 (suc m) (omega arith))
-any_more false rest n m h =
-    h ∙ both_ways (nat_lt n m) (nat_lt (1 + n) (suc m)) (λ t. lt-ltb (1 + n) (suc m) (omega (arith, ltb-true n m t))) (λ t. lt-ltb n m (omega (arith, ltb-true (1 + n) (suc m) t)))
-
-any_passes : {X : Type 0} (p : X → Bool) (xs : List X) → list_any p xs ≡ nat_lt (position_or_len p xs) (length xs)
-any_passes p [] = refl
-any_passes p (x ∷ xs) = any_more (p x) (list_any p xs) (position_or_len p xs) (length xs) (any_passes p xs)
 
 -- the place that was found is the first that passes
 pub record IsPlace {X : Type 0} (p : X → Bool) (xs : List X) (place : ℕ) : Type 0 where
@@ -32,13 +23,13 @@ pub place_found : {X : Type 0} (p : X → Bool) (xs : List X) (place : ℕ) → 
 place_found p xs place h =
     let f = found (nat_lt (position_or_len p xs) (length xs)) (position_or_len p xs) place h in
     record {
-      passes = any_passes p xs ∙ f.0;
+      passes = sym (any_by_place p xs) ∙ f.0;
       first = f.1;
       inside = omega (arith, f.1, ltb-true (position_or_len p xs) (length xs) f.0);
     }
 
 pub none_found : {X : Type 0} (p : X → Bool) (xs : List X) → None ≡ position p xs → list_any p xs ≡ false
-none_found p xs h = any_passes p xs ∙ not_found _ (position_or_len p xs) h
+none_found p xs h = sym (any_by_place p xs) ∙ not_found _ (position_or_len p xs) h
 
 -- what stands behind it, as a slice of the list
 pub behind_found : {X : Type 0} (p : X → Bool) (xs : List X) (place : ℕ) → Some place ≡ position p xs

@@ -1,3 +1,7 @@
+pub mod ByBytes
+pub mod Digits
+pub mod FirstPlaces
+pub mod Lacking
 pub mod Names
 pub mod NameBytes
 pub mod Parts

@@ -9,3 +9,4 @@ pub mod Numbers
 pub mod Prefixes
 pub mod Sets
 pub mod Texts
+pub mod ValuePut

@@ -30,11 +30,11 @@ map-same (p ∷ ps) = ap (λ qs. p ∷ qs) (map-same ps)
 pub prefixes-are : (name : List ℕ) → prefixes_of name ≡ parts name
 prefixes-are name = prefixes_from-is [] name ∙ map-same (parts name)
 
-among-longer : (b : ℕ) (ps : List (List ℕ)) → is_among (map (λ p. b ∷ p) ps) [] ≡ false
+pub among-longer : (b : ℕ) (ps : List (List ℕ)) → is_among (map (λ p. b ∷ p) ps) [] ≡ false
 among-longer b [] = refl
 among-longer b (p ∷ ps) = among-longer b ps
 
-among-same : (b : ℕ) (ps : List (List ℕ)) (z : List ℕ) → is_among (map (λ p. b ∷ p) ps) (b ∷ z) ≡ is_among ps z
+pub among-same : (b : ℕ) (ps : List (List ℕ)) (z : List ℕ) → is_among (map (λ p. b ∷ p) ps) (b ∷ z) ≡ is_among ps z
 among-same b [] z = refl
 among-same b (p ∷ ps) z = grind (arith, nat_tests, among-same b ps z)
 

@@ -2,7 +2,7 @@
 -- for the head; for each distinct dotted prefix of the names a node, which is five words and its part's bytes, eight to
 -- a word; for each name a cell. A short cell is a serial and twelve value words, for a value of up to 91 bytes. A long cell is a
 -- serial, the value's length, and its words. (46 is the dot.)
-use Rattle.std.specs.Prelude.{ℕ, ◌+◌, ◌-◌, ◌*◌, ◌/◌, Bool, false, ◌||◌, ◌==◌, nat_le, List, [], ◌∷◌, ◌++◌, length, map, sum, if◌then◌else◌}
+use Rattle.std.specs.Prelude.{ℕ, ◌+◌, ◌-◌, ◌/◌, Bool, false, ◌||◌, ◌==◌, nat_le, List, [], ◌∷◌, ◌++◌, map, sum, if◌then◌else◌}
 use Rattle.std.specs.List.{flat_map}
 use Rattle.std.specs.Str.{bytes_eq}
 

@@ -1,22 +1,11 @@
 -- A map from bytes to numbers, by these bytes.
-use Rattle.std.proofs.Common.{◌≡◌, ℕ, ◌+◌, ◌-◌, Bool, true, false, cond, List, Some, refl, sym, ap, subst, ◌∙◌, arith}
-use Rattle.std.specs.Cmp.Lexicographic.{bytes_decides, nat_list_eq_equiv}
+use Rattle.std.proofs.Common.{◌≡◌, ℕ, ◌+◌, ◌-◌, true, false, cond, List, Some, refl, sym, ap, subst, ◌∙◌, arith}
+use Rattle.std.specs.Cmp.Lexicographic.{nat_list_eq_equiv}
 use Rattle.std.specs.HashMap.{HashMap, UpdatesBy}
-use Rattle.std.specs.Map.{lookup, IsKeyTest, AreApart, KeepsOthers}
 use Rattle.std.specs.Prelude.{Vec, unwrap_or}
 use Rattle.std.specs.Str.{bytes_eq}
+use Rattle.init_base.proofs.ByBytes.{apart, other_entries, same_bytes}
 use Rattle.lint_baseline.specs.Code.{count_in}
-
-module _ {K : Type 0} (eq : K → K → Bool) (test : K → Bool) where
-  other_entries : {X : Type 0} (old new : List (K × X)) → KeepsOthers eq test old new → (other : K → Bool) → IsKeyTest eq other → AreApart test other → lookup other new ≡ lookup other old
-  unfolding KeepsOthers
-  other_entries old new h = h
-
-apart : (bs cs ks : List ℕ) → bytes_eq bs cs ≡ false → bytes_eq bs ks ≡ true → bytes_eq cs ks ≡ false
-apart bs cs ks n y = nat_list_eq_equiv.symm cs ks ∙ sym (nat_list_eq_equiv.congr bs ks cs y) ∙ n
-
-pub same_bytes : (bs cs : List ℕ) → bytes_eq bs cs ≡ true → bs ≡ cs
-same_bytes bs cs e = (bytes_decides bs cs).0 e
 
 pub same_test : (bs cs : List ℕ) → bytes_eq bs cs ≡ bytes_eq cs bs
 same_test bs cs = nat_list_eq_equiv.symm bs cs

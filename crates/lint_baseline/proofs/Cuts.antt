@@ -1,31 +1,16 @@
 -- Bytes cut at the first one of a value.
-use Rattle.std.proofs.Common.{◌≡◌, ℕ, suc, ◌+◌, ◌-◌, ◌<◌, Bool, true, false, not, cond, ◌==◌, Some, None, List, [], ◌∷◌, ◌++◌, length, take, drop, get_or, position, refl, ap, sym, ◌∙◌, eq-eqb, arith}
-use Rattle.std.specs.List.{list_all, position_or_len, prefix_len}
-use Rattle.std.proofs.Math.Seq.{take-length}
+use Rattle.std.proofs.Common.{◌≡◌, ℕ, ◌+◌, ◌-◌, ◌<◌, true, false, not, ◌==◌, Some, List, [], ◌∷◌, ◌++◌, length, take, drop, get_or, position, refl, ap, sym, ◌∙◌, eq-eqb, arith}
+use Rattle.std.specs.List.{position_or_len}
 use Rattle.std.proofs.lemmas.Bool.{false≢true, and_parts, eqb-true}
 use Rattle.std.proofs.lemmas.List.{take_rest}
 use Rattle.std.proofs.lemmas.List.Folds.{list_all-append}
-use Rattle.std.proofs.lemmas.List.Sums.{prefix_len-le-length, split_at_first, passes_at_first}
+use Rattle.std.proofs.lemmas.List.Sums.{split_at_first, passes_at_first}
+use Rattle.init_base.proofs.Lacking.{front_passes}
 use Rattle.lint_baseline.specs.Baseline.{lacks}
 
 -- a byte isn't another one that is it
 is_not : (c b : ℕ) → c ≡ b → not (b == c) ≡ true → ⊥
 is_not c b is h = false≢true (sym (ap not (eq-eqb b c (sym is))) ∙ h)
-
-front_passes : (q : ℕ → Bool) (xs : List ℕ) → list_all q (take (prefix_len q xs) xs) ≡ true
-front_passes q [] = refl
-front_passes q (b ∷ rest) = by (q b) refl (front_passes q rest)
-  where
-    by : (v : Bool) → q b ≡ v → list_all q (take (prefix_len q rest) rest) ≡ true → list_all q (take (cond v (1 + prefix_len q rest) 0) (b ∷ rest)) ≡ true
-    by true e more =
-        let one : 1 + prefix_len q rest ≡ suc (prefix_len q rest) = omega arith in
-        rw (one, e) more
-    by false e more = refl
-
-pub cut_none : (c : ℕ) (xs : List ℕ) → position (λ b. b == c) xs ≡ None → lacks c xs ≡ true
-cut_none c xs h =
-    let all : prefix_len (λ b. not (b == c)) xs ≡ length xs = grind (arith, prefix_len-le-length (λ b. not (b == c)) xs) in
-    ap (λ ys. lacks c ys) (sym (ap (λ n. take n xs) all ∙ take-length xs)) ∙ front_passes (λ b. not (b == c)) xs
 
 pub cut_some : (c : ℕ) (xs : List ℕ) (at : ℕ) → position (λ b. b == c) xs ≡ Some at
     → (xs ≡ take at xs ++ c ∷ take (length xs - (at + 1)) (drop (at + 1) xs)) × (lacks c (take at xs) ≡ true)

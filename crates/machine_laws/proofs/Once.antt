@@ -12,7 +12,8 @@ use Rattle.init_machine.specs.declared.output.Output.{Output}
 use Rattle.init_machine.specs.declared.output.Output.TheVariants as output
 use Rattle.init_machine.specs.declared.report.Entry.{Entry}
 use Rattle.machine_laws.specs.Rebooting.{outputs_of}
-use Rattle.machine_laws.proofs.Counted.{value_put, read_all}
+use Rattle.init_machine.proofs.ValuePut.{value_put}
+use Rattle.machine_laws.proofs.Counted.{read_all}
 use Rattle.machine_laws.proofs.Failures.{accepted}
 use Rattle.machine_laws.proofs.Names.{read_only_is_no_control}
 use Rattle.machine_laws.proofs.PropsAlone.{IsNoPut, OfProps, sets_of as sets_by, steps_of}

@@ -4,8 +4,7 @@ ghost use Rattle.std.specs.Prelude.{◌≡◌, ◌∷◌, [], IfOk};
 ghost use Rattle.std.specs.Cmp.{partial_equiv_from_equiv};
 ghost use Rattle.std.specs.Cmp.Lexicographic.{nat_list_eq_equiv};
 ghost use Rattle.std.specs.Str.{bytes_eq};
-ghost use Rattle.std.proofs.Common.{ap};
-ghost use Rattle.std.proofs.lemmas.Slice.Eq.{bytes_eq-Decides};
+ghost use Rattle.init_base.proofs.ByBytes.{same_input};
 
 use init_base::{NoMemory, Text};
 use std::hash::{Hash, Hasher};
@@ -53,7 +52,7 @@ impl Eq for Variable {
 impl Hash for Variable {
     ghost hash_input = { λ bytes. bytes ∷ [] };
 
-    ghost respects_eq = { λ x y same. ap (λ bytes. bytes ∷ []) ((bytes_eq-Decides x y).0 same) };
+    ghost respects_eq = { same_input };
 
     fn hash<H: Hasher>(&self, state: &mut H) {
         state.write(self.name.bytes());

@@ -1,5 +1,6 @@
 -- A store on a disk, as a keeper of its text.
-use Rattle.std.specs.Prelude.{◌≡◌, ⊤, ℕ, ◌+◌, ◌-◌, ◌^◌, ◌<◌, ◌≤◌, min, Bool, true, false, List, length, Option, Some, None, Result, Ok, Err, MatchOption, IfSome, OnSome, is_some, nat_le, if◌then◌else◌}
+use Rattle.std.specs.Prelude.{◌≡◌, ◌≢◌, ⊤, ℕ, ◌+◌, ◌-◌, ◌^◌, ◌<◌, ◌≤◌, min, Bool, true, false, List, length, Option, Some, None, Result, Ok, Err, MatchOption, IfSome, OnSome, is_some, nat_le, if◌then◌else◌}
+use Rattle.init_base.specs.Faults.{Counted}
 use Rattle.init_base.specs.Memory.{one_more}
 use Rattle.init_base.specs.declared.outside.refusal.ReadRefusal.{ReadRefusal}
 use Rattle.init_base.specs.declared.outside.refusal.ReadRefusal.TheVariants as reading
@@ -167,6 +168,15 @@ StoreLeaves MayLeave store m text = MayReopen MayLeave store.disk store.slot m t
 -- the count of faults of the disk and of the keeper that it is formatted from
 abbrev pub outside_faults : {D P : Type 0} → (D → ℕ) → (P → ℕ) → DiskStore D P → ℕ
 outside_faults disk former store = min (disk store.disk + former store.former) (2 ^ 64 - 1)
+
+-- What looking for the store leaves: it is never too large, faults are counted, and all but the disk and the open stays as it was.
+pub record OnlyLooks {T D P : Type 0} (disk : D → ℕ) (former : P → ℕ) (result : Result T OpenRefusal) (before now : DiskStore D P) : Type 0 where
+  pub limit : result ≢ Err TooLarge
+  pub cause : Counted (open_failed result) (outside_faults disk former before) (outside_faults disk former now)
+  pub own : now.own_faults ≡ own_after_open result before.own_faults
+  pub silent : now.is_silent ≡ before.is_silent
+  pub former_is : now.former ≡ before.former
+  pub slot : now.slot ≡ before.slot
 
 -- and of the store itself
 abbrev pub store_faults : {D P : Type 0} → (D → ℕ) → (P → ℕ) → DiskStore D P → ℕ

@@ -1,6 +1,6 @@
 //! A keeper of a text on a disk.
 
-ghost use Rattle.std.specs.Prelude.{◌≡◌, ◌≢◌, ◌+◌, ◌<◌, ◌≤◌, ◌↔◌, true, false, length};
+ghost use Rattle.std.specs.Prelude.{◌≡◌, ◌+◌, ◌<◌, ◌≤◌, ◌↔◌, true, false, length};
 ghost use Rattle.std.specs.Prelude.{is_ok, Err, IfOk, IfSome, OnOk, Some};
 ghost use Rattle.init_base.specs.Crash.{LeavesAlone, LeavesNoOther, LeavesOneMore};
 ghost use Rattle.init_base.specs.Faults.{Counted, read_failed, write_failed};
@@ -13,7 +13,7 @@ ghost use Rattle.persist_disk.specs.Keeping.{open_after, open_failed, opened_tex
 ghost use Rattle.persist_disk.specs.Keeping.{outside_faults, store_faults, stored_text, StoreLeaves, StoreTells};
 ghost use Rattle.persist_disk.specs.Keeping.{CanPut, FindsAs, FormatsAs, IsFormatted, IsOpenAfter, IsOpenAfterFind, IsOpenAfterLoad};
 ghost use Rattle.persist_disk.specs.Keeping.{LooksAs, OpensAs, StandsOn, TellsText};
-ghost use Rattle.persist_disk.specs.Keeping.{told_text};
+ghost use Rattle.persist_disk.specs.Keeping.{told_text, OnlyLooks};
 
 use crate::disk::Disk;
 use crate::layout::{Chosen, LENGTH, Slot};
@@ -133,16 +133,9 @@ impl<D: Disk, P: Keeper> DiskKeeper<D, P> {
     /// `BadSlot` as at [`DiskKeeper::open`]. It is never `TooLarge`.
     pub fn look(&mut self) -> Result<bool, OpenRefusal>
         ensures answer { IfSome (D.content self.old.disk) (λ image. LooksAs self.old.slot image result) }
-        ensures limit { result ≢ Err OpenRefusal.TooLarge }
         ensures reads { OnlyReads D.content D.TellsCrash D.moment D.MayLeave self.old.disk self.new.disk }
         ensures open { IfOk result (λ holds. self.new.is_open ≡ holds) }
-        ensures cause { Counted (open_failed result)
-            (outside_faults D.fault_count P.fault_count self.old)
-            (outside_faults D.fault_count P.fault_count self.new) }
-        ensures own { self.new.own_faults ≡ own_after_open result self.old.own_faults }
-        ensures silent { self.new.is_silent ≡ self.old.is_silent }
-        ensures former { self.new.former ≡ self.old.former }
-        ensures slot { self.new.slot ≡ self.old.slot }
+        ensures rest { OnlyLooks D.fault_count P.fault_count result self.old self.new }
     {
         match self.find_now() {
             Ok(Some(_)) => Ok(true),
@@ -204,18 +197,11 @@ impl<D: Disk, P: Keeper> DiskKeeper<D, P> {
     /// bytes; it stays as it is, and no open stands.
     fn find_now(&mut self) -> Result<Option<Chosen>, OpenRefusal>
         ensures answer { IfSome (D.content self.old.disk) (λ image. FindsAs self.old.slot image result) }
-        ensures limit { result ≢ Err OpenRefusal.TooLarge }
         ensures stands { IfOk result (λ found.
             IfSome found (StandsOn D.content D.TellsCrash D.moment D.MayLeave self.new.disk self.new.slot)) }
         ensures reads { OnlyReads D.content D.TellsCrash D.moment D.MayLeave self.old.disk self.new.disk }
         ensures open { IsOpenAfterFind result self.old.is_open self.new.is_open }
-        ensures cause { Counted (open_failed result)
-            (outside_faults D.fault_count P.fault_count self.old)
-            (outside_faults D.fault_count P.fault_count self.new) }
-        ensures own { self.new.own_faults ≡ own_after_open result self.old.own_faults }
-        ensures silent { self.new.is_silent ≡ self.old.is_silent }
-        ensures former { self.new.former ≡ self.old.former }
-        ensures slot { self.new.slot ≡ self.old.slot }
+        ensures rest { OnlyLooks D.fault_count P.fault_count result self.old self.new }
     {
         match find_synced(&mut self.disk, self.slot) {
             Ok(Found::Store(chosen)) => {
@@ -286,17 +272,10 @@ impl<D: Disk, P: Keeper> DiskKeeper<D, P> {
     /// The chosen slot of the store that the disk holds. Where no open stands, it is found as by `find_now`.
     fn find_standing(&mut self) -> Result<Option<Chosen>, OpenRefusal>
         ensures answer { IfSome (D.content self.old.disk) (λ image. FindsAs self.old.slot image result) }
-        ensures limit { result ≢ Err OpenRefusal.TooLarge }
         ensures stands { IfOk result (λ found.
             IfSome found (StandsOn D.content D.TellsCrash D.moment D.MayLeave self.new.disk self.new.slot)) }
         ensures reads { OnlyReads D.content D.TellsCrash D.moment D.MayLeave self.old.disk self.new.disk }
-        ensures cause { Counted (open_failed result)
-            (outside_faults D.fault_count P.fault_count self.old)
-            (outside_faults D.fault_count P.fault_count self.new) }
-        ensures own { self.new.own_faults ≡ own_after_open result self.old.own_faults }
-        ensures silent { self.new.is_silent ≡ self.old.is_silent }
-        ensures former { self.new.former ≡ self.old.former }
-        ensures slot { self.new.slot ≡ self.old.slot }
+        ensures rest { OnlyLooks D.fault_count P.fault_count result self.old self.new }
     {
         match self.chosen {
             Some(chosen) => Ok(Some(chosen)),

@@ -1,12 +1,12 @@
 //! A keeper of a text on a disk, which makes nothing until a text is stored.
 
-ghost use Rattle.std.specs.Prelude.{◌≡◌, ◌≢◌, ◌≤◌, length, Err, IfOk, IfSome, OnOk};
+ghost use Rattle.std.specs.Prelude.{◌≡◌, ◌≤◌, length, IfOk, IfSome, OnOk};
 ghost use Rattle.init_base.specs.Crash.{LeavesNoOther};
 ghost use Rattle.init_base.specs.Faults.{Counted, read_failed};
 ghost use Rattle.init_base.specs.Keeping.{LoadsHeld};
 ghost use Rattle.persist_disk.specs.DiskModel.{OnlyReads};
-ghost use Rattle.persist_disk.specs.Keeping.{late_text, open_failed, outside_faults, own_after_open, store_faults};
-ghost use Rattle.persist_disk.specs.Keeping.{LooksAs, StoreLeaves, StoreTells};
+ghost use Rattle.persist_disk.specs.Keeping.{late_text, store_faults};
+ghost use Rattle.persist_disk.specs.Keeping.{LooksAs, OnlyLooks, StoreLeaves, StoreTells};
 
 use crate::disk::Disk;
 use crate::keeper::DiskKeeper;
@@ -48,16 +48,9 @@ impl<D: Disk, P: Keeper> LateKeeper<D, P> {
     /// Whether the disk holds a store, as [`DiskKeeper::look`] says.
     pub fn look(&mut self) -> Result<bool, OpenRefusal>
         ensures answer { IfSome (D.content self.old.disk) (λ image. LooksAs self.old.slot image result) }
-        ensures limit { result ≢ Err OpenRefusal.TooLarge }
         ensures reads { OnlyReads D.content D.TellsCrash D.moment D.MayLeave self.old.disk self.new.disk }
         ensures open { IfOk result (λ holds. self.new.is_open ≡ holds) }
-        ensures cause { Counted (open_failed result)
-            (outside_faults D.fault_count P.fault_count self.old)
-            (outside_faults D.fault_count P.fault_count self.new) }
-        ensures own { self.new.own_faults ≡ own_after_open result self.old.own_faults }
-        ensures silent { self.new.is_silent ≡ self.old.is_silent }
-        ensures former { self.new.former ≡ self.old.former }
-        ensures slot { self.new.slot ≡ self.old.slot }
+        ensures rest { OnlyLooks D.fault_count P.fault_count result self.old self.new }
     {
         self.store.look()
     }

@@ -1,11 +1,11 @@
 //! A disk in memory.
 
-ghost use Rattle.std.specs.Prelude.{◌≡◌, ⊤, Some, IfOk, length, take, min, reverse};
+ghost use Rattle.std.specs.Prelude.{◌≡◌, ⊤, Some, IfOk, length, min, reverse};
 ghost use Rattle.persist_disk.specs.DiskModel as spec;
 ghost use Rattle.persist_disk.specs.Record.{content_after, left_now, reaches_back, read_is_left, unrecorded, LeftSince};
 
 use crate::disk::Disk;
-use init_base::{FailPlan, Failed, IoRefusal, List, NoMemory, Text};
+use init_base::{FailPlan, Failed, IoRefusal, List, NoMemory, Text, copy_front};
 use std::alloc::Global;
 use std::marker::Model;
 
@@ -74,16 +74,6 @@ impl MemDisk {
     }
 }
 
-/// Copies the first bytes, as many as both have.
-fn copy_front(from: &[u8], to: &mut [u8]) -> usize
-    ensures count { result ≡ min (length from.now) (length to.old) }
-    ensures bytes { take result to.new ≡ take result from.now }
-{
-    let count = from.len().min(to.len());
-    to[..count].copy_from_slice(&from[..count]);
-    count
-}
-
 /// Bytes with others written at a place. A place past the end is led up to by zeros.
 fn written(alloc: Global, old: &[u8], at: u64, bytes: &[u8]) -> Result<Vec<u8>, NoMemory>
     ensures { IfOk result (λ new. new.items ≡ spec.written old.now at bytes.now) }
@@ -114,17 +104,13 @@ impl Disk for MemDisk {
     }
 
     fn read_at(&mut self, at: u64, buf: &mut [u8]) -> Result<usize, Failed> {
-        if self.plan.fails() {
-            return Err(Failed);
-        }
+        self.plan.call()?;
         let at = (at as usize).min(self.content.len());
         Ok(copy_front(&self.content[at..], buf))
     }
 
     fn write_at(&mut self, at: u64, bytes: &[u8]) -> Result<(), IoRefusal> {
-        if self.plan.fails() {
-            return Err(IoRefusal::Failed);
-        }
+        self.plan.call()?;
         let content = written(self.alloc, &self.content, at, bytes)?;
         let bytes = Text::of(self.alloc, bytes)?;
         self.steps.push(DiskStep::Write { at, bytes })?;
@@ -133,9 +119,7 @@ impl Disk for MemDisk {
     }
 
     fn sync(&mut self) -> Result<(), IoRefusal> {
-        if self.plan.fails() {
-            return Err(IoRefusal::Failed);
-        }
+        self.plan.call()?;
         self.steps.push(DiskStep::Sync)?;
         Ok(())
     }

@@ -6,15 +6,12 @@ ghost use Rattle.init_base.specs.Faults.{Counted, write_failed};
 
 use crate::disk::{Disk, joined};
 use crate::finding::{make_whole, open_found};
-use init_base::{Failed, Fault, IoRefusal, NoMemory, Text};
+use init_base::{Failed, Fault, IoRefusal, NoMemory, Text, read_some};
 use std::alloc::Global;
 use std::fs;
 use std::fs::OpenFile;
 use std::io::{Error, ErrorKind, Read, Seek, SeekFrom, Write};
 use std::marker::Model;
-
-/// How often a read is tried again that a signal interrupted.
-const MAX_TRIES: usize = 64;
 
 /// How many bytes of a second part are written together with the first one, at most.
 const TOGETHER: usize = 4096;
@@ -290,18 +287,4 @@ fn fill<F: Read>(file: &mut F, buf: &mut [u8]) -> Result<usize, Error>
         filled += count;
     }
     Ok(filled)
-}
-
-/// Reads some bytes. A read that a signal interrupts is tried again.
-fn read_some<F: Read>(file: &mut F, buf: &mut [u8]) -> Result<usize, Error>
-    ensures { ReadsAtMost result buf.new }
-{
-    for _ in 0..MAX_TRIES {
-        match file.read(buf) {
-            Ok(count) => return Ok(count),
-            Err(error) if error.kind() == ErrorKind::Interrupted => {}
-            Err(error) => return Err(error),
-        }
-    }
-    Err(Error::from(ErrorKind::Interrupted))
 }

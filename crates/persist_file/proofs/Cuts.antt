@@ -1,11 +1,11 @@
 -- Bytes in parts at a byte.
-use Rattle.std.proofs.Common.{◌≡◌, ℕ, suc, ◌+◌, ◌-◌, ◌<◌, Bool, true, false, not, cond, ◌==◌, Some, None, List, [], ◌∷◌, ◌++◌, length, take, drop, get_or, position, refl, ap, sym, ◌∙◌, eq-eqb, arith}
-use Rattle.std.specs.List.{list_all, position_or_len, prefix_len}
-use Rattle.std.proofs.Math.Seq.{take-length}
+use Rattle.std.proofs.Common.{◌≡◌, ℕ, ◌+◌, ◌-◌, ◌<◌, Bool, true, false, not, ◌==◌, Some, None, List, [], ◌∷◌, ◌++◌, length, take, drop, get_or, position, refl, ap, ◌∙◌, eq-eqb, arith}
+use Rattle.std.specs.List.{list_all, position_or_len}
 use Rattle.std.proofs.lemmas.Bool.{false≢true, and_parts, eqb-true}
 use Rattle.std.proofs.lemmas.List.{take_rest}
 use Rattle.std.proofs.lemmas.List.Splits.{length-slice_split, slice_split_first}
-use Rattle.std.proofs.lemmas.List.Sums.{passes_at_first, prefix_len-le-length, split_at_first}
+use Rattle.std.proofs.lemmas.List.Sums.{passes_at_first, split_at_first}
+use Rattle.init_base.proofs.Lacking.{lacks_unplaced}
 use Rattle.persist_file.specs.Causes.{parts_at, three_words}
 
 -- none of the bytes is this one
@@ -32,23 +32,8 @@ parts_first c (x ∷ xs) more h =
 pub some_parts : (c : ℕ) (xs : List ℕ) → parts_at c xs ≡ [] → ⊥
 some_parts c xs h = omega (arith, ap length h, length-slice_split (λ b. b == c) xs)
 
-front_passes : (q : ℕ → Bool) (xs : List ℕ) → list_all q (take (prefix_len q xs) xs) ≡ true
-front_passes q [] = refl
-front_passes q (b ∷ rest) = by (q b) refl (front_passes q rest)
-  where
-    by : (v : Bool) → q b ≡ v → list_all q (take (prefix_len q rest) rest) ≡ true → list_all q (take (cond v (1 + prefix_len q rest) 0) (b ∷ rest)) ≡ true
-    by true e more =
-        let one : 1 + prefix_len q rest ≡ suc (prefix_len q rest) = omega arith in
-        rw (one, e) more
-    by false e more = refl
-
-lacks_it : (c : ℕ) (xs : List ℕ) → position (λ b. b == c) xs ≡ None → lacks c xs ≡ true
-lacks_it c xs h =
-    let all : prefix_len (λ b. not (b == c)) xs ≡ length xs = grind (arith, prefix_len-le-length (λ b. not (b == c)) xs) in
-    ap (λ ys. lacks c ys) (sym (ap (λ n. take n xs) all ∙ take-length xs)) ∙ front_passes (λ b. not (b == c)) xs
-
 pub none_at : (c : ℕ) (xs : List ℕ) → position (λ b. b == c) xs ≡ None → parts_at c xs ≡ xs ∷ []
-none_at c xs h = parts_none c xs (lacks_it c xs h)
+none_at c xs h = parts_none c xs (lacks_unplaced c xs h)
 
 pub some_at : (c : ℕ) (xs : List ℕ) (at : ℕ) → position (λ b. b == c) xs ≡ Some at
     → parts_at c xs ≡ take at xs ∷ parts_at c (take (length xs - (at + 1)) (drop (at + 1) xs))

@@ -1,33 +1,23 @@
 -- A view that is made pair by pair, from the last one on.
-use Rattle.std.proofs.Common.{◌≡◌, ℕ, suc, ◌+◌, ◌-◌, ◌<◌, ◌≤◌, Bool, true, false, ◌&&◌, ◌||◌, not, cond, nat_lt, if◌then◌else◌, Option, Some, None, is_some, List, [], ◌∷◌, ◌++◌, length, take, get_or, refl, sym, ap, ◌∙◌, append_assoc, arith, position}
+use Rattle.std.proofs.Common.{◌≡◌, ℕ, ◌+◌, ◌-◌, ◌<◌, ◌≤◌, Bool, true, false, ◌&&◌, ◌||◌, cond, if◌then◌else◌, Option, Some, None, is_some, List, [], ◌∷◌, ◌++◌, length, take, get_or, refl, sym, ap, ◌∙◌, append_assoc, arith, position}
 use Rattle.std.proofs.lemmas.Bool.{false≢true}
-use Rattle.std.proofs.lemmas.Grind.{common_steps}
 use Rattle.std.proofs.lemmas.List.{take_more, take_all}
 use Rattle.std.proofs.lemmas.List.Folds.{list_any-append}
 use Rattle.std.proofs.lemmas.Slice.Eq.{bytes_eq-Decides}
-use Rattle.std.specs.List.{list_any, position_or_len}
+use Rattle.std.specs.List.{list_any}
 use Rattle.std.specs.Str.{bytes_eq}
 use Rattle.init_base.specs.Name.{is_legal_name}
 use Rattle.init_base.specs.Value.{is_legal_value}
-use Rattle.init_machine.specs.Props.{Property, Props, is_absent, lookup_in, put_in, value_in, value_of, with_set}
+use Rattle.init_base.proofs.ByBytes.{same_bytes}
+use Rattle.init_base.proofs.FirstPlaces.{any_by_place}
+use Rattle.init_machine.proofs.ValuePut.{value_put}
+use Rattle.init_machine.specs.Props.{Property, Props, is_absent, lookup_in, value_in, value_of, with_set}
 use Rattle.init_machine.specs.declared.config.Pair.{Pair}
 use Rattle.text_index.specs.Texts.{with_text}
 use Rattle.prop_rules.specs.View.{found_or, last_pair, legal_value_of}
 use Rattle.prop_rules.specs.Code.Views.{Shows, with_legal}
 
 -- ---- places of names
-
-shifted : (n l : ℕ) → nat_lt (1 + n) (suc l) ≡ nat_lt n l
-shifted n l = grind (arith, common_steps)
-
-any_by_place : {A : Type 0} (p : A → Bool) (xs : List A) → nat_lt (position_or_len p xs) (length xs) ≡ list_any p xs
-any_by_place p [] = refl
-any_by_place p (x ∷ xs) = by (p x) (any_by_place p xs)
-  where
-    by : (b : Bool) → nat_lt (position_or_len p xs) (length xs) ≡ list_any p xs
-        → nat_lt (cond (not b) (1 + position_or_len p xs) 0) (suc (length xs)) ≡ (b || list_any p xs)
-    by true rest = grind (arith, common_steps)
-    by false rest = shifted (position_or_len p xs) (length xs) ∙ rest
 
 some_if : {A : Type 0} (b : Bool) (x : A) → is_some (cond b (Some x) None) ≡ b
 some_if true x = refl
@@ -38,9 +28,6 @@ place_any : (names : List (List ℕ)) (name : List ℕ) → is_some (position (b
 place_any names name = some_if _ _ ∙ any_by_place (bytes_eq name) names
 
 -- ---- names
-
-same_bytes : (a b : List ℕ) → bytes_eq a b ≡ true → a ≡ b
-same_bytes a b same = (bytes_eq-Decides a b).0 same
 
 is_itself : (a : List ℕ) → bytes_eq a a ≡ true
 is_itself a = (bytes_eq-Decides a a).1 refl
@@ -56,45 +43,6 @@ swapped a b false e =
 none_of : {A : Type 0} (o : Option A) → is_some o ≡ false → o ≡ None
 none_of None h = refl
 none_of (Some x) h = absurd (false≢true (sym h))
-
--- ---- a set
-
-alone : (named : Bool) (new : Property) → value_of (if named then Some new else None) ≡ (if named then Some new.value else None)
-alone true new = refl
-alone false new = refl
-
-replaced : (named : Bool) (new old : Property) (rest : Option Property)
-    → value_of (if named then Some new else rest) ≡ (if named then Some new.value else value_of (if named then Some old else rest))
-replaced true new old rest = refl
-replaced false new old rest = refl
-
-behind : (here named : Bool) (h new : Property) (was now : Option Property) → (here ≡ true → named ≡ true → ⊥)
-    → value_of now ≡ (if named then Some new.value else value_of was)
-    → value_of (if here then Some h else now) ≡ (if named then Some new.value else value_of (if here then Some h else was))
-behind true true h new was now never is = absurd (never refl refl)
-behind true false h new was now never is = refl
-behind false named h new was now never is = is
-
-both_named : (a b name : List ℕ) → bytes_eq a b ≡ false → bytes_eq a name ≡ true → bytes_eq b name ≡ true → ⊥
-both_named a b name other first second =
-    false≢true (sym other ∙ (bytes_eq-Decides a b).1 (same_bytes a name first ∙ sym (same_bytes b name second)))
-
--- the value that a name has when a property was put
-value_put : (held : List Property) (new : Property) (name : List ℕ)
-    → value_of (lookup_in (put_in held new) name) ≡ (if bytes_eq new.name name then Some new.value else value_of (lookup_in held name))
-value_put [] new name = alone (bytes_eq new.name name) new
-value_put (h ∷ rest) new name =
-    elim (bytes_eq h.name new.name) as
-    (λ b. bytes_eq h.name new.name ≡ b
-    → value_of (lookup_in (if b then new ∷ rest else h ∷ put_in rest new) name)
-    ≡ (if bytes_eq new.name name then Some new.value else value_of (lookup_in (h ∷ rest) name))) [
-      | true ↦ λ same.
-          let e : bytes_eq h.name name ≡ bytes_eq new.name name = ap (λ n. bytes_eq n name) (same_bytes h.name new.name same) in
-          rw e (replaced (bytes_eq new.name name) new h (lookup_in rest name))
-      | false ↦ λ other.
-          behind (bytes_eq h.name name) (bytes_eq new.name name) h new (lookup_in rest name) (lookup_in (put_in rest new) name)
-          (both_named h.name new.name name other) (value_put rest new name)
-    ] refl
 
 -- ---- the pair before those that were taken
 

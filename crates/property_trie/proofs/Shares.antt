@@ -9,16 +9,8 @@ use Rattle.init_machine.specs.Kept.Nodes.{total_beyond}
 use Rattle.init_machine.specs.Words.{is_among, prefixes_of, node_words, Sized, names_in, cell_words, need_of}
 use Rattle.init_machine.proofs.DistinctSums.{total, among-append}
 use Rattle.init_machine.proofs.Needs.{sum-total, need_beyond}
-use Rattle.init_machine.proofs.Prefixes.{parts, prefixes-are}
+use Rattle.init_machine.proofs.Prefixes.{among-longer, among-same, parts, prefixes-are}
 use Rattle.property_trie.specs.Shared.{shared, shared_with}
-
-among-longer : (b : ℕ) (ps : List (List ℕ)) → is_among (map (λ p. b ∷ p) ps) [] ≡ false
-among-longer b [] = refl
-among-longer b (p ∷ ps) = among-longer b ps
-
-among-same : (b : ℕ) (ps : List (List ℕ)) (z : List ℕ) → is_among (map (λ p. b ∷ p) ps) (b ∷ z) ≡ is_among ps z
-among-same b [] z = refl
-among-same b (p ∷ ps) z = grind (arith, nat_tests, among-same b ps z)
 
 among-other : (c b : ℕ) (ps : List (List ℕ)) (z : List ℕ) → (c == b) ≡ false → is_among (map (λ p. c ∷ p) ps) (b ∷ z) ≡ false
 among-other c b [] z e = refl

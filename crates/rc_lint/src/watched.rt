@@ -4,7 +4,7 @@ ghost use Rattle.std.specs.Prelude.{◌≡◌, ℕ, List as Items, Option as May
 
 use crate::loading::{SYSTEM_PATH, VENDOR_PATH};
 use crate::quotes::spanned_line;
-use init_base::{Files, List, NoMemory, ReadRefusal, Text};
+use init_base::{Files, Found, List, NoMemory, Text};
 use std::alloc::Global;
 use text_index::TextIndex;
 
@@ -115,16 +115,11 @@ impl<F: Files> Files for Watched<F> {
         self.files.faults()
     }
 
-    fn list(&mut self, alloc: Global, dir: &[u8]) -> Result<Option<List<Text>>, ReadRefusal> {
+    fn list(&mut self, alloc: Global, dir: &[u8]) -> Found<List<Text>> {
         self.files.list(alloc, dir)
     }
 
-    fn read(
-        &mut self,
-        alloc: Global,
-        path: &[u8],
-        limit: usize,
-    ) -> Result<Option<Text>, ReadRefusal> {
+    fn read(&mut self, alloc: Global, path: &[u8], limit: usize) -> Found<Text> {
         let found = self.files.read(alloc, path, limit)?;
         if let Some(text) = &found {
             self.seen.keep(alloc, path, text)?;

@@ -1,10 +1,9 @@
 -- The first `=` of a text.
-use Rattle.std.proofs.Common.{◌≡◌, ℕ, ◌+◌, Bool, true, false, ◌||◌, not, cond, List, [], ◌∷◌, length, take, drop, refl, ap, sym, ◌∙◌, Option, Some, None, arith, suc, nat_lt, IsTrue, ◌↔◌}
+use Rattle.std.proofs.Common.{◌≡◌, ℕ, ◌+◌, Bool, true, false, cond, List, length, take, drop, refl, ap, sym, ◌∙◌, Option, Some, None, nat_lt, IsTrue, ◌↔◌}
 use Rattle.std.specs.List.{list_any, position, position_or_len, slice_range}
 use Rattle.std.specs.Option.{IsSome, is_some}
 use Rattle.std.proofs.Math.Nat.{sub-zero}
-use Rattle.std.proofs.lemmas.Bool.{lt-ltb, ltb-true}
-use Rattle.std.specs.Cmp.{both_ways}
+use Rattle.init_base.proofs.FirstPlaces.{any_by_place}
 use Rattle.rc_parse.specs.Code.Joining.{Parts}
 use Rattle.rc_parse.specs.Triggers.{is_equals_sign}
 use Rattle.rc_parse.proofs.Firsts.{all_behind}
@@ -24,30 +23,21 @@ not_found : (t : Bool) (a : ℕ) → cond t (Some a) None ≡ None → t ≡ fal
 not_found true a h = cc
 not_found false a h = refl
 
-any_more : (t rest : Bool) (n m : ℕ) → rest ≡ nat_lt n m → (t || rest) ≡ nat_lt (cond (not t) (1 + n) 0) (suc m)
-any_more true rest n m h = sym (lt-ltb 0 (suc m) (omega arith))
-any_more false rest n m h =
-    h ∙ both_ways (nat_lt n m) (nat_lt (1 + n) (suc m)) (λ t. lt-ltb (1 + n) (suc m) (omega (arith, ltb-true n m t))) (λ t. lt-ltb n m (omega (arith, ltb-true (1 + n) (suc m) t)))
-
-any_passes : (p : ℕ → Bool) (xs : List ℕ) → list_any p xs ≡ nat_lt (position_or_len p xs) (length xs)
-any_passes p [] = refl
-any_passes p (x ∷ xs) = any_more (p x) (list_any p xs) (position_or_len p xs) (length xs) (any_passes p xs)
-
 pub parts_sliced : (text name value : List ℕ) (place len : ℕ) → Some place ≡ position is_equals_sign text
     → name ≡ slice_range text 0 place → len ≡ length text → value ≡ slice_range text (place + 1) len → Parts text name value
 parts_sliced text name value place len h name_is end value_is =
     let f = found (nat_lt (position_or_len is_equals_sign text) (length text)) (position_or_len is_equals_sign text) place (sym h) in
     record {
-      has_sign = any_passes is_equals_sign text ∙ f.0;
+      has_sign = sym (any_by_place is_equals_sign text) ∙ f.0;
       name_is = name_is ∙ ap (λ (n : ℕ). take n text) (sub-zero place ∙ sym f.1);
       value_is = value_is ∙ all_behind text (place + 1) len end ∙ ap (λ (n : ℕ). drop (n + 1) text) (sym f.1);
     }
 
 pub no_parts : (text : List ℕ) → None ≡ position is_equals_sign text → list_any is_equals_sign text ≡ false
-no_parts text h = any_passes is_equals_sign text ∙ not_found _ (position_or_len is_equals_sign text) (sym h)
+no_parts text h = sym (any_by_place is_equals_sign text) ∙ not_found _ (position_or_len is_equals_sign text) (sym h)
 
 pub sign_at : (text : List ℕ) (place : ℕ) → Some place ≡ position is_equals_sign text
     → (list_any is_equals_sign text ≡ true) × (position_or_len is_equals_sign text ≡ place)
 sign_at text place h =
     let f = found (nat_lt (position_or_len is_equals_sign text) (length text)) (position_or_len is_equals_sign text) place (sym h) in
-    (any_passes is_equals_sign text ∙ f.0, f.1)
+    (sym (any_by_place is_equals_sign text) ∙ f.0, f.1)

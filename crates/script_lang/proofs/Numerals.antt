@@ -1,13 +1,11 @@
 -- Numbers in decimal, without leading zeros.
-use Rattle.std.proofs.Common.{◌≡◌, ℕ, ◌+◌, ◌-◌, ◌*◌, ◌<◌, ◌≤◌, ◌^◌, Bool, true, false, cond, ◌&&◌, ◌==◌, nat_le, List, [], ◌∷◌, length, drop, get_or, suc, Some, None, refl, sym, ap, ◌∙◌, arith, rules, lit<, inl, inr}
-use Rattle.std.specs.Char.{is_ascii_digit, digit_value}
+use Rattle.std.proofs.Common.{◌≡◌, ℕ, ◌-◌, ◌<◌, ◌≤◌, ◌^◌, Bool, true, false, cond, ◌&&◌, ◌==◌, nat_le, List, [], ◌∷◌, length, get_or, Some, None, refl, sym, ap, ◌∙◌, arith, rules, lit<, inl, inr}
+use Rattle.std.specs.Char.{is_ascii_digit}
 use Rattle.std.specs.Cmp.Lexicographic.{same_text}
 use Rattle.std.specs.Fmt.{decimal}
 use Rattle.std.specs.List.{list_all}
 use Rattle.std.specs.Str.{bytes_eq}
-use Rattle.std.specs.Str.Parse.{digits_value, digits_value_after}
-use Rattle.std.proofs.Math.ListN.{drop_of_length-le}
-use Rattle.std.proofs.Math.Seq.{drop-cons}
+use Rattle.std.specs.Str.Parse.{digits_value}
 use Rattle.std.proofs.lemmas.Bool.{cases_lt, eqb-true, leb-true}
 use Rattle.std.proofs.lemmas.Bool.Decides.{nat_tests}
 use Rattle.std.proofs.lemmas.Fmt.{decimal_digit, first_decimal, digits_decimal, decimal-digits_value, digits_value-decimal}
@@ -15,7 +13,7 @@ use Rattle.std.proofs.lemmas.List.{nil_from_length}
 use Rattle.std.proofs.lemmas.Str.Parse.{IsDigitsTest, IsNumeralModel, numerals_by_value}
 use Rattle.init_machine.proofs.DistinctSums.{bytes_eq-refl}
 use Rattle.script_lang.specs.Statements.{is_canonical, number_in}
-use Rattle.script_lang.proofs.Tests.{and_left, and_right}
+use Rattle.script_lang.proofs.Tests.{and_right}
 
 tells : IsDigitsTest (λ ds. list_all is_ascii_digit ds ≡ true)
 tells = record {
@@ -26,13 +24,6 @@ tells = record {
 
 own : IsNumeralModel (λ ds. list_all is_ascii_digit ds ≡ true) (digits_value 10)
 own = numerals_by_value _ tells
-
-pub digit_value_is : (c : ℕ) → is_ascii_digit c ≡ true → digit_value c ≡ c - 48
-digit_value_is c digit = grind (arith, nat_tests)
-
-pub value_grows : (n : ℕ) (ds : List ℕ) → n ≤ digits_value_after 10 n ds
-value_grows n [] = omega arith
-value_grows n (c ∷ cs) = omega (arith, value_grows (n * 10 + digit_value c) cs)
 
 -- ---- canonical words
 
@@ -138,19 +129,3 @@ pub number_written : (least most : ℕ) (word : List ℕ) (n : ℕ) → number_i
 number_written least most word n e =
     let v = digits_value 10 word in
     written (nat_le least v) (nat_le v most) (bytes_eq (decimal v) word) least most v word n refl refl refl e
-
--- ---- reading digit by digit
-
-pub past_most : (most number i : ℕ) (word : List ℕ) → i < length word → list_all is_ascii_digit (drop i word) ≡ true
-    → digits_value_after 10 number (drop i word) ≡ digits_value 10 word → most < 10 * number + (get_or word i 0 - 48) → most < digits_value 10 word
-past_most most number i word low digits left past =
-    let cut : drop i word ≡ get_or word i 0 ∷ drop (suc i) word = drop-cons word i 0 low in
-    let all : list_all is_ascii_digit (get_or word i 0 ∷ drop (suc i) word) ≡ true = ap (list_all is_ascii_digit) (sym cut) ∙ digits in
-    let digit = digit_value_is (get_or word i 0) (and_left (is_ascii_digit (get_or word i 0)) (list_all is_ascii_digit (drop (suc i) word)) all) in
-    let value : digits_value_after 10 (number * 10 + digit_value (get_or word i 0)) (drop (suc i) word) ≡ digits_value 10 word =
-    ap (digits_value_after 10 number) (sym cut) ∙ left in
-    omega (arith, digit, value, value_grows (number * 10 + digit_value (get_or word i 0)) (drop (suc i) word))
-
-pub all_read : (number i : ℕ) (word : List ℕ) → length word ≤ i → digits_value_after 10 number (drop i word) ≡ digits_value 10 word
-    → digits_value 10 word ≡ number
-all_read number i word end left = sym left ∙ ap (digits_value_after 10 number) (drop_of_length-le word end)

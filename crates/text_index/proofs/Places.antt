@@ -1,5 +1,5 @@
 -- The places of texts: what they are in another list, and when a text is added.
-use Rattle.std.proofs.Common.{suc, eqb, ◌≡◌, ℕ, ◌+◌, ◌≤◌, Bool, true, false, cond, not, nat_lt, List, [], ◌∷◌, ◌++◌, map, length, Some, None, refl, sym, ap, ◌∙◌, ◌||◌, if◌then◌else◌, arith, add-zero}
+use Rattle.std.proofs.Common.{eqb, ◌≡◌, ℕ, ◌+◌, ◌≤◌, Bool, true, false, cond, not, nat_lt, List, [], ◌∷◌, ◌++◌, map, length, Some, None, refl, sym, ap, ◌∙◌, if◌then◌else◌, arith, add-zero}
 use Rattle.std.proofs.lemmas.List.{length-map}
 use Rattle.std.proofs.lemmas.List.Folds.{position_or_len_push}
 use Rattle.std.proofs.lemmas.List.Sums.{prefix_len-le-length}
@@ -9,6 +9,7 @@ use Rattle.std.specs.Prelude.{position}
 use Rattle.std.specs.List.{list_any, prefix_len, position_or_len}
 use Rattle.std.specs.Str.{bytes_eq}
 use Rattle.text_index.specs.Texts.{with_text}
+use Rattle.init_base.proofs.FirstPlaces.{any_by_place}
 
 -- as many pass from the front on
 prefix_of_map : {A B : Type 0} (f : A → B) (p : B → Bool) (xs : List A) → prefix_len p (map f xs) ≡ prefix_len (λ x. p (f x)) xs
@@ -17,19 +18,6 @@ prefix_of_map f p (x ∷ xs) = ap (λ n. cond (p (f x)) (1 + n) 0) (prefix_of_ma
 
 pub position_of_map : {A B : Type 0} (f : A → B) (p : B → Bool) (xs : List A) → position p (map f xs) ≡ position (λ x. p (f x)) xs
 position_of_map f p xs = rw (prefix_of_map f (λ x. not (p x)) xs, length-map) refl
-
-shifted : (n l : ℕ) → nat_lt (1 + n) (suc l) ≡ nat_lt n l
-shifted n l = grind (arith, common_steps)
-
--- a test passes somewhere exactly where it has a first place
-any_by_place : {A : Type 0} (p : A → Bool) (xs : List A) → nat_lt (position_or_len p xs) (length xs) ≡ list_any p xs
-any_by_place p [] = refl
-any_by_place p (x ∷ xs) = by (p x) (any_by_place p xs)
-  where
-    by : (b : Bool) → nat_lt (position_or_len p xs) (length xs) ≡ list_any p xs
-        → nat_lt (cond (not b) (1 + position_or_len p xs) 0) (suc (length xs)) ≡ (b || list_any p xs)
-    by true rest = grind (arith, common_steps)
-    by false rest = shifted (position_or_len p xs) (length xs) ∙ rest
 
 some_if : {A : Type 0} (b : Bool) (x y : A) → cond b (Some x) None ≡ Some y → b ≡ true
 some_if true x y e = refl

@@ -4,8 +4,7 @@ ghost use Rattle.std.specs.Prelude.{◌≡◌, ◌∷◌, [], IfOk};
 ghost use Rattle.std.specs.Cmp.{on_equiv, partial_equiv_from_equiv};
 ghost use Rattle.std.specs.Cmp.Lexicographic.{nat_list_eq_equiv};
 ghost use Rattle.std.specs.Str.{bytes_eq};
-ghost use Rattle.std.proofs.Common.{ap};
-ghost use Rattle.std.proofs.lemmas.Slice.Eq.{bytes_eq-Decides};
+ghost use Rattle.init_base.proofs.ByBytes.{same_input};
 
 use indexmap::Equivalent;
 use init_base::NoMemory;
@@ -69,7 +68,7 @@ impl Eq for TextKey {
 impl Hash for TextKey {
     ghost hash_input = { λ bytes. bytes ∷ [] };
 
-    ghost respects_eq = { λ x y same. ap (λ bytes. bytes ∷ []) ((bytes_eq-Decides x y).0 same) };
+    ghost respects_eq = { same_input };
 
     fn hash<H: Hasher>(&self, state: &mut H) {
         state.write(self.bytes());
@@ -99,7 +98,7 @@ impl Eq for Spelled<'_> {
 impl Hash for Spelled<'_> {
     ghost hash_input = { λ one. one.bytes.now ∷ [] };
 
-    ghost respects_eq = { λ x y same. ap (λ bytes. bytes ∷ []) ((bytes_eq-Decides x.bytes.now y.bytes.now).0 same) };
+    ghost respects_eq = { λ x y. same_input x.bytes.now y.bytes.now };
 
     fn hash<H: Hasher>(&self, state: &mut H) {
         state.write(self.bytes);
@@ -109,7 +108,7 @@ impl Hash for Spelled<'_> {
 impl Equivalent<TextKey> for Spelled<'_> {
     ghost equivalent = { λ one key. bytes_eq one.bytes.now key };
 
-    ghost respects_hash = { λ one key same. ap (λ bytes. bytes ∷ []) ((bytes_eq-Decides one.bytes.now key).0 same) };
+    ghost respects_hash = { λ one key. same_input one.bytes.now key };
 
     ghost respects_eq = { λ one x y same. nat_list_eq_equiv.congr one.bytes.now x y same };
 

@@ -6,12 +6,12 @@ ghost use Rattle.init_base.specs.Resolve.{is_below_root};
 use super::count::{count, has_read_failed};
 use super::fault::{Fault, fault_at};
 use super::machine::{MachineRefusal, is_absent, join, path_of};
-use super::machine_links::{MachineLinks, folder_path, no_way, read_place, resolve_path};
+use super::machine_links::{MachineLinks, Unread, folder_path, no_way, read_path, resolve_path};
 use super::resolve::{End, resolve};
 use crate::list::List;
 use crate::memory::NoMemory;
 use crate::outside::files::Files;
-use crate::outside::refusal::ReadRefusal;
+use crate::outside::refusal::{Found, ReadRefusal};
 use crate::text::Text;
 use std::alloc::Global;
 use std::fs;
@@ -60,12 +60,7 @@ impl<'a, R: fs::Files + AllocGlobal + Clone + Drop> StdFiles<'a, R> {
 
     /// What a call on a path answers where the machine gave nothing: None where nothing has the path. Keeps what the
     /// system said.
-    fn refused<T>(
-        &mut self,
-        alloc: Global,
-        path: &[u8],
-        refusal: MachineRefusal,
-    ) -> Result<Option<T>, ReadRefusal>
+    fn refused<T>(&mut self, alloc: Global, path: &[u8], refusal: MachineRefusal) -> Found<T>
         ensures none { IfOk result (λ found. found ≡ None) }
         ensures count { self.new ≡ self.old }
     {
@@ -92,7 +87,7 @@ impl<R: fs::Files + AllocGlobal + Clone + Drop> Files for StdFiles<'_, R> {
         self.faults
     }
 
-    fn list(&mut self, alloc: Global, dir: &[u8]) -> Result<Option<List<Text>>, ReadRefusal> {
+    fn list(&mut self, alloc: Global, dir: &[u8]) -> Found<List<Text>> {
         let tree = MachineLinks {
             rt: self.rt,
             root: &self.root,
@@ -105,42 +100,28 @@ impl<R: fs::Files + AllocGlobal + Clone + Drop> Files for StdFiles<'_, R> {
         outcome
     }
 
-    fn read(
-        &mut self,
-        alloc: Global,
-        path: &[u8],
-        limit: usize,
-    ) -> Result<Option<Text>, ReadRefusal> {
+    fn read(&mut self, alloc: Global, path: &[u8], limit: usize) -> Found<Text> {
         let tree = MachineLinks {
             rt: self.rt,
             root: &self.root,
         };
-        let outcome = match read_plain_file(&tree, alloc, path, limit) {
+        let outcome = match read_path(&tree, alloc, path, limit) {
             Ok(text) => Ok(Some(text)),
-            Err(refusal) => self.refused(alloc, path, refusal),
+            Err(unread) => self.refused(alloc, path, refusal_of(unread)),
         };
         self.faults = count(self.faults, has_read_failed(&outcome));
         outcome
     }
 }
 
-/// The bytes of the plain file to which a path leads.
-fn read_plain_file<R: fs::Files>(
-    tree: &MachineLinks<'_, R>,
-    alloc: Global,
-    path: &[u8],
-    limit: usize,
-) -> Result<Text, MachineRefusal>
-    ensures { IfOk result (λ text. length text ≤ limit) }
-{
-    let lead = resolve_path(tree, alloc, path)?;
-    match lead.end {
-        End::PlainFile => read_place(tree, alloc, &lead.place, limit),
-        End::Directory | End::Other => {
-            let error = Error::new(ErrorKind::NotFound, "not a plain file");
-            Err(MachineRefusal::System(error))
+/// Why a file wasn't read. What isn't a plain file isn't there.
+fn refusal_of(unread: Unread) -> MachineRefusal {
+    match unread {
+        Unread::Refused(refusal) => refusal,
+        Unread::NoFile(End::Directory | End::Other) => {
+            MachineRefusal::System(Error::new(ErrorKind::NotFound, "not a plain file"))
         }
-        End::Nothing | End::NotDirectory | End::TooManyLinks => Err(no_way(lead.end)),
+        Unread::NoFile(end) => no_way(end),
     }
 }
 

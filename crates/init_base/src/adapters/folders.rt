@@ -5,7 +5,7 @@ ghost use Rattle.init_base.specs.Resolve.{is_below_root};
 
 use super::machine::{MachineRefusal, join, path_of};
 use super::machine_links::{MachineLinks, folder_path, no_way};
-use super::resolve::{End, parts_of, resolve};
+use super::resolve::{End, Lead, parts_of, resolve};
 use crate::list::List;
 use crate::text::Text;
 use std::alloc::Global;
@@ -49,27 +49,18 @@ fn enter_or_make<R: fs::Files>(
     ensures { IfOk result (λ place. is_below_root place ≡ true) }
 {
     let lead = resolve(tree, alloc, folder, part)?;
-    match lead.end {
-        End::Directory => Ok(lead.place),
-        End::Nothing => {
-            make_folder(tree, alloc, folder, part, mode)?;
-            enter(tree, alloc, folder, part)
-        }
-        _ => Err(no_way(lead.end)),
+    if !matches!(lead.end, End::Nothing) {
+        return folder_of(lead);
     }
+    make_folder(tree, alloc, folder, part, mode)?;
+    folder_of(resolve(tree, alloc, folder, part)?)
 }
 
-/// Where a part of a path leads from a folder, if to another.
-fn enter<R: fs::Files>(
-    tree: &MachineLinks<'_, R>,
-    alloc: Global,
-    folder: &List<Text>,
-    part: &[u8],
-) -> Result<List<Text>, MachineRefusal>
-    requires { is_below_root folder.now ≡ true }
+/// The place of the folder to which a path leads.
+fn folder_of(lead: Lead) -> Result<List<Text>, MachineRefusal>
+    requires { is_below_root lead.place ≡ true }
     ensures { IfOk result (λ place. is_below_root place ≡ true) }
 {
-    let lead = resolve(tree, alloc, folder, part)?;
     match lead.end {
         End::Directory => Ok(lead.place),
         _ => Err(no_way(lead.end)),

@@ -6,7 +6,7 @@ use super::count::{count, has_read_failed, has_write_failed};
 use super::fault::{Fault, fault_at};
 use super::folders::{make_folders, sync_folder};
 use super::machine::{MachineRefusal, is_absent, join, path_of};
-use super::machine_links::{MachineLinks, folder_path, no_way, read_place, resolve_path};
+use super::machine_links::{MachineLinks, Unread, folder_path, no_way, read_path};
 use super::resolve::End;
 use crate::memory::NoMemory;
 use crate::outside::keeper::Keeper;
@@ -88,8 +88,9 @@ impl<'a, R: fs::Files> StdKeeper<'a, R> {
             rt: self.rt,
             root: &self.root,
         };
-        match read_if_there(&tree, alloc, self.path.bytes(), limit) {
+        match read_path(&tree, alloc, self.path.bytes(), limit).map_err(refusal_of) {
             Ok(text) => Ok(text),
+            Err(MachineRefusal::System(error)) if is_absent(&error) => Ok(Text::empty()),
             Err(MachineRefusal::System(error)) => {
                 self.keep_fault(alloc, error);
                 Err(ReadRefusal::Failed)
@@ -157,38 +158,14 @@ impl<R: fs::Files> Keeper for StdKeeper<'_, R> {
     ghost earlier = { λ _ _ _ _ _ left. left };
 }
 
-/// The bytes of a file, or none where nothing has the path.
-fn read_if_there<R: fs::Files>(
-    tree: &MachineLinks<'_, R>,
-    alloc: Global,
-    path: &[u8],
-    limit: usize,
-) -> Result<Text, MachineRefusal>
-    ensures { IfOk result (λ text. length text ≤ limit) }
-{
-    match read_existing(tree, alloc, path, limit) {
-        Err(MachineRefusal::System(error)) if is_absent(&error) => Ok(Text::empty()),
-        outcome => outcome,
-    }
-}
-
-/// The bytes of the file to which a path leads.
-fn read_existing<R: fs::Files>(
-    tree: &MachineLinks<'_, R>,
-    alloc: Global,
-    path: &[u8],
-    limit: usize,
-) -> Result<Text, MachineRefusal>
-    ensures { IfOk result (λ text. length text ≤ limit) }
-{
-    let lead = resolve_path(tree, alloc, path)?;
-    match lead.end {
-        End::PlainFile => read_place(tree, alloc, &lead.place, limit),
-        End::Other => {
-            let error = Error::new(ErrorKind::InvalidInput, "not a plain file");
-            Err(MachineRefusal::System(error))
+/// Why the file wasn't read.
+fn refusal_of(unread: Unread) -> MachineRefusal {
+    match unread {
+        Unread::Refused(refusal) => refusal,
+        Unread::NoFile(End::Other) => {
+            MachineRefusal::System(Error::new(ErrorKind::InvalidInput, "not a plain file"))
         }
-        end => Err(no_way(end)),
+        Unread::NoFile(end) => no_way(end),
     }
 }
 

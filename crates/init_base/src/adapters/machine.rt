@@ -47,7 +47,7 @@ impl From<AllocError> for MachineRefusal {
 }
 
 /// Reads some bytes. A read that a signal interrupts is tried again.
-pub(crate) fn read_some<F: Read>(file: &mut F, buf: &mut [u8]) -> Result<usize, Error>
+pub fn read_some<F: Read>(file: &mut F, buf: &mut [u8]) -> Result<usize, Error>
     ensures { ReadsAtMost result buf.new }
 {
     for _ in 0..MAX_TRIES {

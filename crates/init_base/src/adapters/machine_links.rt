@@ -91,8 +91,37 @@ pub(crate) fn resolve_path<R: fs::Files>(
     resolve(tree, alloc, &List::new(alloc), path)
 }
 
+/// Why no bytes were read at a path.
+pub(crate) enum Unread {
+    /// It leads to this, and not to a plain file.
+    NoFile(End),
+    Refused(MachineRefusal),
+}
+
+impl From<MachineRefusal> for Unread {
+    fn from(refusal: MachineRefusal) -> Self {
+        Unread::Refused(refusal)
+    }
+}
+
+/// The bytes of the plain file to which a path leads.
+pub(crate) fn read_path<R: fs::Files>(
+    tree: &MachineLinks<'_, R>,
+    alloc: Global,
+    path: &[u8],
+    limit: usize,
+) -> Result<Text, Unread>
+    ensures { IfOk result (λ text. length text ≤ limit) }
+{
+    let lead = resolve_path(tree, alloc, path)?;
+    match lead.end {
+        End::PlainFile => Ok(read_place(tree, alloc, &lead.place, limit)?),
+        end => Err(Unread::NoFile(end)),
+    }
+}
+
 /// The bytes of the plain file at a place.
-pub(crate) fn read_place<R: fs::Files>(
+fn read_place<R: fs::Files>(
     tree: &MachineLinks<'_, R>,
     alloc: Global,
     place: &List<Text>,

@@ -9,7 +9,7 @@ use super::plan::FailPlan;
 use super::tree;
 use crate::list::List;
 use crate::outside::files::Files;
-use crate::outside::refusal::ReadRefusal;
+use crate::outside::refusal::Found;
 use crate::text::Text;
 use std::alloc::Global;
 use std::marker::Model;
@@ -52,7 +52,7 @@ impl Files for MemFiles {
         self.plan.faults()
     }
 
-    fn list(&mut self, alloc: Global, dir: &[u8]) -> Result<Option<List<Text>>, ReadRefusal>
+    fn list(&mut self, alloc: Global, dir: &[u8]) -> Found<List<Text>>
         ensures names { ListsNames (Some self.old.content) dir.now result }
         ensures bound { ListsFew result }
         ensures tree { Some self.new.content ≡ Some self.old.content }
@@ -60,18 +60,11 @@ impl Files for MemFiles {
         ensures failed { read_failed result ≡ fails_next self.old.calls }
         ensures calls { self.new.calls ≡ after_call self.old.calls }
     {
-        if self.plan.fails() {
-            return Err(ReadRefusal::Failed);
-        }
+        self.plan.call()?;
         tree::list(alloc, self.entries.items(), dir)
     }
 
-    fn read(
-        &mut self,
-        alloc: Global,
-        path: &[u8],
-        limit: usize,
-    ) -> Result<Option<Text>, ReadRefusal>
+    fn read(&mut self, alloc: Global, path: &[u8], limit: usize) -> Found<Text>
         ensures bytes { ReadsFile (Some self.old.content) path.now limit result }
         ensures bound { ReadsWithin limit result }
         ensures tree { Some self.new.content ≡ Some self.old.content }
@@ -79,9 +72,7 @@ impl Files for MemFiles {
         ensures failed { read_failed result ≡ fails_next self.old.calls }
         ensures calls { self.new.calls ≡ after_call self.old.calls }
     {
-        if self.plan.fails() {
-            return Err(ReadRefusal::Failed);
-        }
+        self.plan.call()?;
         tree::read(alloc, self.entries.items(), path, limit)
     }
 }
@@ -118,16 +109,11 @@ impl Files for SteadyFiles {
         0
     }
 
-    fn list(&mut self, alloc: Global, dir: &[u8]) -> Result<Option<List<Text>>, ReadRefusal> {
+    fn list(&mut self, alloc: Global, dir: &[u8]) -> Found<List<Text>> {
         tree::list(alloc, self.entries.items(), dir)
     }
 
-    fn read(
-        &mut self,
-        alloc: Global,
-        path: &[u8],
-        limit: usize,
-    ) -> Result<Option<Text>, ReadRefusal> {
+    fn read(&mut self, alloc: Global, path: &[u8], limit: usize) -> Found<Text> {
         tree::read(alloc, self.entries.items(), path, limit)
     }
 }

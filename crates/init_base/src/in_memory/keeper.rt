@@ -79,16 +79,12 @@ impl Keeper for MemKeeper {
     }
 
     fn load(&mut self, _alloc: Global, limit: usize) -> Result<Text, ReadRefusal> {
-        if self.plan.fails() {
-            return Err(ReadRefusal::Failed);
-        }
+        self.plan.call()?;
         load(&self.held, limit)
     }
 
     fn replace(&mut self, alloc: Global, content: &[u8]) -> Result<(), IoRefusal> {
-        if self.plan.fails() {
-            return Err(IoRefusal::Failed);
-        }
+        self.plan.call()?;
         Ok(replace(alloc, &mut self.held, content)?)
     }
 

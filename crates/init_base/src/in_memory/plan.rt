@@ -1,10 +1,11 @@
 //! Which calls of an object in memory fail.
 
-ghost use Rattle.std.specs.Prelude.{◌≡◌, ◌==◌};
+ghost use Rattle.std.specs.Prelude.{◌≡◌, ◌==◌, is_err};
 ghost use Rattle.std.specs.List.{list_any};
 ghost use Rattle.init_base.specs.Memory.{after_call, fails_next};
 
 use crate::list::List;
+use crate::outside::refusal::Failed;
 use std::marker::Model;
 
 /// The numbers of the calls of an object that fail, from 1, and the counts of its calls and faults.
@@ -49,17 +50,17 @@ impl FailPlan {
         self.faults
     }
 
-    /// Counts one call more, and says whether it fails. A fault is counted too.
-    pub fn fails(&mut self) -> bool
-        ensures answer { result ≡ fails_next self.old }
+    /// Counts one call more, and fails where that call does. A fault is counted too.
+    pub fn call(&mut self) -> Result<(), Failed>
+        ensures answer { is_err result ≡ fails_next self.old }
         ensures calls { self.new ≡ after_call self.old }
     {
         self.made = self.made.saturating_add(1);
-        let failed = has_number(self.fail.items(), self.made);
-        if failed {
+        if has_number(self.fail.items(), self.made) {
             self.faults = self.faults.saturating_add(1);
+            return Err(Failed);
         }
-        failed
+        Ok(())
     }
 }
 

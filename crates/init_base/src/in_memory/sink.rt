@@ -74,9 +74,7 @@ impl Sink for MemSink {
         ensures failed { write_failed result ≡ fails_next self.old.calls }
         ensures calls { self.new.calls ≡ after_call self.old.calls }
     {
-        if self.plan.fails() {
-            return Err(IoRefusal::Failed);
-        }
+        self.plan.call()?;
         Ok(take_piece(&mut self.taken, piece)?)
     }
 }

@@ -50,7 +50,7 @@ impl Unread {
 }
 
 /// Copies the first bytes, as many as both have.
-fn copy_front(from: &[u8], to: &mut [u8]) -> usize
+pub fn copy_front(from: &[u8], to: &mut [u8]) -> usize
     ensures count { result ≡ min (length from.now) (length to.old) }
     ensures bytes { take result to.new ≡ take result from.now }
 {
@@ -103,9 +103,7 @@ impl Source for MemSource {
         ensures failed { source_failed result ≡ fails_next self.old.calls }
         ensures calls { self.new.calls ≡ after_call self.old.calls }
     {
-        if self.plan.fails() {
-            return Err(Failed);
-        }
+        self.plan.call()?;
         Ok(self.unread.read(buf))
     }
 }

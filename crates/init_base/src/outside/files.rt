@@ -4,7 +4,7 @@ ghost use Rattle.std.specs.Prelude.{◌≡◌, ℕ, List, Option};
 ghost use Rattle.init_base.specs.Faults.{Counted, read_failed};
 ghost use Rattle.init_base.specs.Outside.{ListsFew, ListsNames, ReadsFile, ReadsWithin};
 
-use super::refusal::ReadRefusal;
+use super::refusal::Found;
 use crate::list::List;
 use crate::text::Text;
 use std::alloc::Global;
@@ -22,7 +22,7 @@ pub trait Files {
 
     /// The names of the plain files directly in `dir`, in any order. None exactly where `dir` isn't a directory,
     /// `TooLarge` exactly past 1,024 names.
-    fn list(&mut self, alloc: Global, dir: &[u8]) -> Result<Option<List<Text>>, ReadRefusal>
+    fn list(&mut self, alloc: Global, dir: &[u8]) -> Found<List<Text>>
         ensures names { ListsNames (tree self.old) dir.now result }
         ensures bound { ListsFew result }
         ensures tree { tree self.new ≡ tree self.old }
@@ -30,12 +30,7 @@ pub trait Files {
 
     /// The bytes of the plain file with this path. None exactly where there is none, `TooLarge` exactly where it has
     /// more than `limit` bytes.
-    fn read(
-        &mut self,
-        alloc: Global,
-        path: &[u8],
-        limit: usize,
-    ) -> Result<Option<Text>, ReadRefusal>
+    fn read(&mut self, alloc: Global, path: &[u8], limit: usize) -> Found<Text>
         ensures bytes { ReadsFile (tree self.old) path.now limit result }
         ensures bound { ReadsWithin limit result }
         ensures tree { tree self.new ≡ tree self.old }

@@ -25,6 +25,17 @@ impl From<NoMemory> for IoRefusal {
     }
 }
 
+impl From<Failed> for IoRefusal {
+    ghost use Rattle.std.specs.Prelude.{◌≡◌};
+    ghost use Rattle.init_base.specs.declared.outside.refusal.IoRefusal.TheVariants.{Failed as io_failed};
+
+    ghost from_gives = { λ _ refusal. refusal ≡ io_failed };
+
+    fn from(_: Failed) -> Self {
+        IoRefusal::Failed
+    }
+}
+
 /// Why a text of the outside was not read.
 #[derive(Clone, Copy, Debug, PartialEq, Eq)]
 pub enum ReadRefusal {
@@ -32,6 +43,9 @@ pub enum ReadRefusal {
     TooLarge,
     NoMemory,
 }
+
+/// What is found at a path of a tree: None where it isn't there.
+pub type Found<T> = Result<Option<T>, ReadRefusal>;
 
 impl From<NoMemory> for ReadRefusal {
     ghost use Rattle.std.specs.Prelude.{◌≡◌};

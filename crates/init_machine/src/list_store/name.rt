@@ -4,8 +4,7 @@ ghost use Rattle.std.specs.Prelude.{◌≡◌, ◌≤◌, ◌∷◌, [], length}
 ghost use Rattle.std.specs.Cmp.{partial_equiv_from_equiv};
 ghost use Rattle.std.specs.Cmp.Lexicographic.{nat_list_eq_equiv};
 ghost use Rattle.std.specs.Str.{bytes_eq};
-ghost use Rattle.std.proofs.Common.{ap};
-ghost use Rattle.std.proofs.lemmas.Slice.Eq.{bytes_eq-Decides};
+ghost use Rattle.init_base.proofs.ByBytes.{same_input};
 
 use std::hash::{Hash, Hasher};
 use std::marker::Model;
@@ -64,7 +63,7 @@ impl Eq for Name {
 impl Hash for Name {
     ghost hash_input = { λ bytes. bytes ∷ [] };
 
-    ghost respects_eq = { λ x y same. ap (λ bytes. bytes ∷ []) ((bytes_eq-Decides x y).0 same) };
+    ghost respects_eq = { same_input };
 
     fn hash<H: Hasher>(&self, state: &mut H) {
         state.write(self.bytes());

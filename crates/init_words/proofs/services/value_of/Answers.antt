@@ -2,7 +2,7 @@ use Rattle.std.proofs.Common.{◌≡◌, ◌<◌, ◌≤◌, nat_le, false, true
 use Rattle.std.specs.Prelude.{if◌then◌else◌}
 use Rattle.std.specs.Str.Parse.{digits_value}
 use Rattle.std.proofs.lemmas.Bool.Decides.{nat_tests}
-use Rattle.init_words.proofs.Numbers.{past_most}
+use Rattle.init_base.proofs.Digits.{past_most}
 use Rattle.init_words.proofs.services.value_of.Goals as goal
 
 pub returns-then-number-gt-MOST : goal.returns-then-number-gt-MOST

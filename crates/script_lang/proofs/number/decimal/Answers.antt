@@ -1,6 +1,7 @@
 use Rattle.std.proofs.Common.{◌≡◌, ap, sym, ◌∙◌, arith, Some}
 use Rattle.std.specs.Str.Parse.{digits_value}
-use Rattle.script_lang.proofs.Numerals.{number_bad, number_big, number_good, past_most, all_read}
+use Rattle.init_base.proofs.Digits.{past_most, all_read}
+use Rattle.script_lang.proofs.Numerals.{number_bad, number_big, number_good}
 use Rattle.script_lang.proofs.number.decimal.Goals as goal
 
 pub returns-then-not-is_canonical : goal.returns-then-not-is_canonical

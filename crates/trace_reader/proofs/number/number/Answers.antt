@@ -2,7 +2,8 @@ use Rattle.std.proofs.Common.{◌≡◌, ap, ◌∙◌, arith, Some, None}
 use Rattle.std.proofs.lemmas.Result.{err_from_is_err_and}
 use Rattle.std.specs.Str.Parse.{digits_value}
 use Rattle.script_lang.specs.Statements.{number_in}
-use Rattle.script_lang.proofs.Numerals.{number_bad, number_big, number_good, past_most, all_read}
+use Rattle.init_base.proofs.Digits.{past_most, all_read}
+use Rattle.script_lang.proofs.Numerals.{number_bad, number_big, number_good}
 use Rattle.trace_reader.proofs.Choices.{unread}
 use Rattle.trace_reader.proofs.number.number.Goals as goal
 

@@ -1,6 +1,5 @@
--- Numbers of services, digit by digit.
-use Rattle.std.proofs.Common.{◌≡◌, ℕ, ◌+◌, ◌-◌, ◌*◌, ◌<◌, ◌≤◌, Bool, true, false, ◌&&◌, nat_le, List, [], ◌∷◌, length, drop, get_or, suc, Some, None, sym, ap, ◌∙◌, arith}
-use Rattle.std.specs.Prelude.{if◌then◌else◌}
+-- Numbers in decimal, digit by digit.
+use Rattle.std.proofs.Common.{◌≡◌, ℕ, ◌+◌, ◌-◌, ◌*◌, ◌<◌, ◌≤◌, true, List, [], ◌∷◌, length, drop, get_or, suc, sym, ap, ◌∙◌, arith}
 use Rattle.std.specs.Char.{is_ascii_digit, digit_value}
 use Rattle.std.specs.List.{list_all}
 use Rattle.std.specs.Str.Parse.{digits_value, digits_value_after}
@@ -9,10 +8,10 @@ use Rattle.std.proofs.Math.Seq.{drop-cons}
 use Rattle.std.proofs.lemmas.Bool.{and_parts}
 use Rattle.std.proofs.lemmas.Bool.Decides.{nat_tests}
 
-digit_value_is : (c : ℕ) → is_ascii_digit c ≡ true → digit_value c ≡ c - 48
+pub digit_value_is : (c : ℕ) → is_ascii_digit c ≡ true → digit_value c ≡ c - 48
 digit_value_is c digit = grind (arith, nat_tests)
 
-value_grows : (n : ℕ) (ds : List ℕ) → n ≤ digits_value_after 10 n ds
+pub value_grows : (n : ℕ) (ds : List ℕ) → n ≤ digits_value_after 10 n ds
 value_grows n [] = omega arith
 value_grows n (c ∷ cs) = omega (arith, value_grows (n * 10 + digit_value c) cs)
 

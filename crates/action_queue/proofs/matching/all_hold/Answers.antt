@@ -1,21 +1,22 @@
 use Rattle.std.proofs.Common.{◌∙◌}
-use Rattle.init_machine.specs.Matches.{holds_at_change}
+use Rattle.std.specs.Option.{option_copied}
 use Rattle.action_queue.specs.Queue.{value_in, has_legal_name}
+use Rattle.action_queue.specs.Tests.{holds_after}
 use Rattle.action_queue.proofs.Fronts.{front_passes, passes_front}
-use Rattle.action_queue.proofs.matching.all_hold_at.Goals as goal
+use Rattle.action_queue.proofs.matching.all_hold.Goals as goal
 
-pub holds_at-requires : goal.holds_at-requires
-holds_at-requires g c =
+pub holds-requires : goal.holds-requires
+holds-requires g c =
     (front_passes has_legal_name c.items-test-items.result.now c.args.props.now c.loop-test.test-index c.test-item.result
     c.items-test-items.ensures c.loop-test-test.true c.test-item.is c.loop-test.invariant.legal).0
 
 pub loop-test-preserved : goal.loop-test-preserved
 loop-test-preserved g c =
     let i = c.loop-test.invariant in
-    let held = c.if-not-holds_at.ensures in
+    let held = c.if-not-holds.ensures in
     record {
       answer =
-          passes_front (λ m. holds_at_change (value_in m) c.args.pair.now.name c.args.pair.now.value) (g.S.PropStore.meaning c.args.store.now) (g.S.PropStore.meaning c.loop-test.store)
+          passes_front (λ m. holds_after (value_in m) (option_copied c.args.changed)) (g.S.PropStore.meaning c.args.store.now) (g.S.PropStore.meaning c.loop-test.store)
           c.items-test-items.result.now c.args.props.now c.loop-test.test-index c.test-item.result _
           c.items-test-items.ensures c.loop-test-test.true c.test-item.is i.same held.answer i.answer;
       legal =
