@@ -28,6 +28,8 @@ impl CellRule<AreaView, u64> for WordArea {
 
     ghost with_cell = { with_area_cell };
 
+    ghost part = { record { cell_with = λ v c. refl; with_same = λ v. refl; with_with = λ v c d. refl } };
+
     ghost began = { λ v. v.began };
 
     ghost list = { λ v. v.list };
@@ -36,33 +38,25 @@ impl CellRule<AreaView, u64> for WordArea {
 
     ghost noted = { noted_area };
 
+    ghost told = { record {
+      cell_noted = λ v r. refl;
+      list_noted = λ v r. (refl, refl);
+      words_noted = λ v r. refl;
+      linked_noted = λ v r name place linked. linked;
+    } };
+
     ghost Linked = { LinkedArea };
 
     ghost Settled = { SettledArea };
 
+    ghost beside = { record {
+      list_with = λ v c. (refl, refl);
+      words_beside = λ v c. refl;
+      linked_with = λ v c name place linked. linked;
+      settled_with = λ v name value place done settled. settled;
+    } };
+
     fn no_call(&self) {}
-
-    ghost cell_with = { λ v c. refl };
-
-    ghost with_same = { λ v. refl };
-
-    ghost with_with = { λ v c d. refl };
-
-    ghost list_with = { λ v c. (refl, refl) };
-
-    ghost cell_noted = { λ v r. refl };
-
-    ghost list_noted = { λ v r. (refl, refl) };
-
-    ghost words_beside = { λ v c. refl };
-
-    ghost words_noted = { λ v r. refl };
-
-    ghost linked_with = { λ v c name place linked. linked };
-
-    ghost linked_noted = { λ v r name place linked. linked };
-
-    ghost settled_with = { λ v name value place done settled. settled };
 
     ghost writer_there = { area_writer };
 

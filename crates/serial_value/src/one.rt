@@ -51,6 +51,8 @@ impl CellRule<OneView, Text> for OneCell {
 
     ghost with_cell = { with_one_cell };
 
+    ghost part = { record { cell_with = λ v c. refl; with_same = λ v. refl; with_with = λ v c d. refl } };
+
     ghost began = { λ v. v.began };
 
     ghost list = { λ v. v.list };
@@ -59,33 +61,25 @@ impl CellRule<OneView, Text> for OneCell {
 
     ghost noted = { noted_one };
 
+    ghost told = { record {
+      cell_noted = λ v r. refl;
+      list_noted = λ v r. (refl, refl);
+      words_noted = λ v r. refl;
+      linked_noted = λ v r name place linked. linked;
+    } };
+
     ghost Linked = { LinkedOne };
 
     ghost Settled = { λ v. Unit {0} };
 
+    ghost beside = { record {
+      list_with = λ v c. (refl, refl);
+      words_beside = λ v c. refl;
+      linked_with = λ v c name place linked. linked;
+      settled_with = λ v name value place done settled. settled;
+    } };
+
     fn no_call(&self) {}
-
-    ghost cell_with = { λ v c. refl };
-
-    ghost with_same = { λ v. refl };
-
-    ghost with_with = { λ v c d. refl };
-
-    ghost list_with = { λ v c. (refl, refl) };
-
-    ghost cell_noted = { λ v r. refl };
-
-    ghost list_noted = { λ v r. (refl, refl) };
-
-    ghost words_beside = { λ v c. refl };
-
-    ghost words_noted = { λ v r. refl };
-
-    ghost linked_with = { λ v c name place linked. linked };
-
-    ghost linked_noted = { λ v r name place linked. linked };
-
-    ghost settled_with = { λ v name value place done settled. settled };
 
     ghost writer_there = { one_writer };
 
