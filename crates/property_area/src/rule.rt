@@ -24,6 +24,8 @@ impl CellRule<AreaView, u64> for WordArea {
     ghost use Rattle.property_area.specs.Kept.CellLoads.{area_first, area_copied, area_last};
     ghost use Rattle.property_area.specs.Kept.Lists.{area_writer, area_lists};
 
+    fn no_call(&self) {}
+
     ghost cell = { λ v. v.cell };
 
     ghost with_cell = { with_area_cell };
@@ -38,10 +40,11 @@ impl CellRule<AreaView, u64> for WordArea {
 
     ghost noted = { noted_area };
 
+    ghost kept = { record { words_beside = λ v c. refl; words_noted = λ v r. refl } };
+
     ghost told = { record {
       cell_noted = λ v r. refl;
       list_noted = λ v r. (refl, refl);
-      words_noted = λ v r. refl;
       linked_noted = λ v r name place linked. linked;
     } };
 
@@ -51,12 +54,9 @@ impl CellRule<AreaView, u64> for WordArea {
 
     ghost beside = { record {
       list_with = λ v c. (refl, refl);
-      words_beside = λ v c. refl;
       linked_with = λ v c name place linked. linked;
       settled_with = λ v name value place done settled. settled;
     } };
-
-    fn no_call(&self) {}
 
     ghost writer_there = { area_writer };
 

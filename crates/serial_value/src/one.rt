@@ -47,6 +47,8 @@ impl CellRule<OneView, Text> for OneCell {
     ghost use Rattle.serial_value.specs.Kept.OneLast.{one_last};
     ghost use Rattle.serial_value.specs.Kept.OneLists.{one_writer, one_lists};
 
+    fn no_call(&self) {}
+
     ghost cell = { λ v. v.cell };
 
     ghost with_cell = { with_one_cell };
@@ -61,10 +63,11 @@ impl CellRule<OneView, Text> for OneCell {
 
     ghost noted = { noted_one };
 
+    ghost kept = { record { words_beside = λ v c. refl; words_noted = λ v r. refl } };
+
     ghost told = { record {
       cell_noted = λ v r. refl;
       list_noted = λ v r. (refl, refl);
-      words_noted = λ v r. refl;
       linked_noted = λ v r name place linked. linked;
     } };
 
@@ -74,12 +77,9 @@ impl CellRule<OneView, Text> for OneCell {
 
     ghost beside = { record {
       list_with = λ v c. (refl, refl);
-      words_beside = λ v c. refl;
       linked_with = λ v c name place linked. linked;
       settled_with = λ v name value place done settled. settled;
     } };
-
-    fn no_call(&self) {}
 
     ghost writer_there = { one_writer };
 

@@ -1,18 +1,17 @@
 //! What a rule over a table owes so that cells may stand in it: one law for each kind of step.
 
-ghost use Rattle.std.specs.Prelude.{◌≡◌, ◌≢◌, ◌<◌, ◌≤◌, ◌+◌, ◌^◌, ◌++◌, ◌∷◌, [], ℕ, List, length, None};
+ghost use Rattle.std.specs.Prelude.{◌≡◌, ◌<◌, ◌≤◌, ◌+◌, ◌^◌, [], ℕ, List, length, None};
 ghost use mathlib.Core.Option.{some};
 ghost use lib.ListN.{get_elem?};
 ghost use Rattle.atomic_table.specs.Table.{State, Allows, Me};
 ghost use Rattle.init_machine.specs.Serial.{top_byte, clean_serial as clean_serial_of, dirty_serial as dirty_serial_of};
 ghost use Rattle.init_machine.specs.Sets.{Set};
 ghost use Rattle.init_machine.specs.declared.client.ClientItem.{ClientItem};
-ghost use Rattle.init_machine.specs.declared.client.ClientItem.TheVariants.{Told};
 ghost use Rattle.init_machine.specs.declared.report.Reading.{Reading};
 ghost use Rattle.serial_value.specs.declared.view.CellView.{CellView};
 ghost use Rattle.serial_value.specs.declared.view.CellView.TheVariants.{Writer};
 ghost use Rattle.serial_value.specs.Words.{body_word, IsShortValue};
-ghost use Rattle.serial_value.specs.Parts.{IsPart, IsNoted, StandsBeside};
+ghost use Rattle.serial_value.specs.Parts.{AreWordsKept, IsNoted, IsPart, StandsBeside};
 ghost use Rattle.serial_value.specs.Cell.{sets_of, making_of, HasShortCell, IsWriter, ReaderStands};
 ghost use Rattle.serial_value.specs.Cell.{updating, accepted, IsUpdating, IsPresentSerial, IsPresentWord};
 ghost use Rattle.serial_value.specs.Cell.{Begins, LiesAt, Copies, IsCopied, Ends};
@@ -71,9 +70,11 @@ pub trait CellRule<V, K>: TableRule<(), V, K> {
 
     ghost part: { IsPart cell with_cell };
 
-    ghost beside: { StandsBeside cell with_cell began list words Linked Settled };
+    ghost kept: { AreWordsKept with_cell noted words };
 
-    ghost told: { IsNoted cell noted began list words Linked };
+    ghost beside: { StandsBeside cell with_cell began list Linked Settled };
+
+    ghost told: { IsNoted cell noted began list Linked };
 
     /// Some seat is the writer's.
     ghost writer_there: { (key : K) (s : State Unit V) → Self.holds key s →
