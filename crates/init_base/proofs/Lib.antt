@@ -5,5 +5,6 @@ pub mod Lacking
 pub mod Names
 pub mod NameBytes
 pub mod Parts
+pub mod LineEnds
 pub mod QForms
 pub mod Walks
