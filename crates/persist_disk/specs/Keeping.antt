@@ -1,5 +1,6 @@
 -- A store on a disk, as a keeper of its text.
-use Rattle.std.specs.Prelude.{◌≡◌, ◌≢◌, ⊤, ℕ, ◌+◌, ◌-◌, ◌^◌, ◌<◌, ◌≤◌, min, Bool, true, false, List, length, Option, Some, None, Result, Ok, Err, MatchOption, IfSome, OnSome, is_some, nat_le, if◌then◌else◌}
+use Rattle.std.specs.Prelude.{◌≡◌, ◌≢◌, ◌↔◌, ⊤, ℕ, ◌+◌, ◌-◌, ◌^◌, ◌<◌, ◌≤◌, min, Bool, true, false, List, length, Option, Some, None, Result, Ok, Err, MatchOption, IfSome, OnOk, OnSome, is_some, nat_le, if◌then◌else◌}
+use Rattle.init_base.specs.Crash.{LeavesNoOther}
 use Rattle.init_base.specs.Faults.{Counted}
 use Rattle.init_base.specs.Memory.{one_more}
 use Rattle.init_base.specs.declared.outside.refusal.ReadRefusal.{ReadRefusal}
@@ -177,6 +178,22 @@ pub record OnlyLooks {T D P : Type 0} (disk : D → ℕ) (former : P → ℕ) (r
   pub silent : now.is_silent ≡ before.is_silent
   pub former_is : now.former ≡ before.former
   pub slot : now.slot ≡ before.slot
+
+-- What opening leaves where no open stands: faults are counted, and the disk's word on crashes, the text that is told and the size
+-- of a slot stay as they were.
+pub record OnlyOpens {T D P : Type 0} (content : D → Option (List ℕ)) (TellsCrash : D → Type 0) (disk : D → ℕ) (former : P → ℕ) (result : Result T OpenRefusal) (before now : DiskStore D P) : Type 0 where
+  pub cause : Counted (open_failed result) (outside_faults disk former before) (outside_faults disk former now)
+  pub tells : TellsCrash before.disk ↔ TellsCrash now.disk
+  pub own : now.own_faults ≡ own_after_open result before.own_faults
+  pub held : told_text now.is_silent before.slot (content now.disk) ≡ stored_text content before
+  pub slot : now.slot ≡ before.slot
+
+-- What a load leaves of a store that tells what a crash leaves: its moment never falls, a crash leaves no other text, and after Ok
+-- it still tells.
+pub record StillTells {T D P : Type 0} (content : D → Option (List ℕ)) (TellsCrash : D → Type 0) (moment : D → ℕ) (MayLeave : D → ℕ → List ℕ → Type 0) (result : Result T ReadRefusal) (before now : DiskStore D P) : Type 0 where
+  pub later : StoreTells TellsCrash content before → moment before.disk ≤ moment now.disk
+  pub leaves : StoreTells TellsCrash content before → LeavesNoOther (moment before.disk) (StoreLeaves MayLeave before) (StoreLeaves MayLeave now)
+  pub tells : StoreTells TellsCrash content before → OnOk result (StoreTells TellsCrash content now)
 
 -- and of the store itself
 abbrev pub store_faults : {D P : Type 0} → (D → ℕ) → (P → ℕ) → DiskStore D P → ℕ

@@ -13,7 +13,7 @@ ghost use Rattle.persist_disk.specs.Keeping.{open_after, open_failed, opened_tex
 ghost use Rattle.persist_disk.specs.Keeping.{outside_faults, store_faults, stored_text, StoreLeaves, StoreTells};
 ghost use Rattle.persist_disk.specs.Keeping.{CanPut, FindsAs, FormatsAs, IsFormatted, IsOpenAfter, IsOpenAfterFind, IsOpenAfterLoad};
 ghost use Rattle.persist_disk.specs.Keeping.{LooksAs, OpensAs, StandsOn, TellsText};
-ghost use Rattle.persist_disk.specs.Keeping.{told_text, OnlyLooks};
+ghost use Rattle.persist_disk.specs.Keeping.{OnlyLooks, OnlyOpens, StillTells};
 
 use crate::disk::Disk;
 use crate::layout::{Chosen, LENGTH, Slot};
@@ -176,15 +176,9 @@ impl<D: Disk, P: Keeper> DiskKeeper<D, P> {
         ensures kept { IsFormatted (D.content self.old.disk)
             → OnlyReads D.content D.TellsCrash D.moment D.MayLeave self.old.disk self.new.disk }
         ensures open { IsOpenAfter result self.old.is_open self.new.is_open }
-        ensures cause { Counted (open_failed result)
-            (outside_faults D.fault_count P.fault_count self.old)
-            (outside_faults D.fault_count P.fault_count self.new) }
         ensures formats { IfSome (D.content self.old.disk) (λ image. length image < 16
             → FormatsAs self.old.slot (D.content self.old.disk) (D.content self.new.disk) (P.held self.old.former) result) }
-        ensures tells { D.TellsCrash self.old.disk ↔ D.TellsCrash self.new.disk }
-        ensures own { self.new.own_faults ≡ own_after_open result self.old.own_faults }
-        ensures held { told_text self.new.is_silent self.old.slot (D.content self.new.disk) ≡ stored_text D.content self.old }
-        ensures slot { self.new.slot ≡ self.old.slot }
+        ensures rest { OnlyOpens D.content D.TellsCrash D.fault_count P.fault_count result self.old self.new }
     {
         match self.find_now() {
             Ok(Some(chosen)) => Ok(chosen),
@@ -253,15 +247,9 @@ impl<D: Disk, P: Keeper> DiskKeeper<D, P> {
             → OnlyReads D.content D.TellsCrash D.moment D.MayLeave self.old.disk self.new.disk }
         ensures open { self.new.is_open ≡ is_ok result }
         ensures stood { self.old.is_open ≡ true → is_ok result ≡ true }
-        ensures cause { Counted (open_failed result)
-            (outside_faults D.fault_count P.fault_count self.old)
-            (outside_faults D.fault_count P.fault_count self.new) }
         ensures formats { IfSome (D.content self.old.disk) (λ image. length image < 16
             → FormatsAs self.old.slot (D.content self.old.disk) (D.content self.new.disk) (P.held self.old.former) result) }
-        ensures tells { D.TellsCrash self.old.disk ↔ D.TellsCrash self.new.disk }
-        ensures own { self.new.own_faults ≡ own_after_open result self.old.own_faults }
-        ensures held { told_text self.new.is_silent self.old.slot (D.content self.new.disk) ≡ stored_text D.content self.old }
-        ensures slot { self.new.slot ≡ self.old.slot }
+        ensures rest { OnlyOpens D.content D.TellsCrash D.fault_count P.fault_count result self.old self.new }
     {
         match self.chosen {
             Some(chosen) => Ok(chosen),
@@ -381,10 +369,7 @@ impl<D: Disk, P: Keeper> Keeper for DiskKeeper<D, P> {
         ensures cause { Counted (read_failed result)
             (store_faults D.fault_count P.fault_count self.old)
             (store_faults D.fault_count P.fault_count self.new) }
-        ensures moment { StoreTells D.TellsCrash D.content self.old → D.moment self.old.disk ≤ D.moment self.new.disk }
-        ensures leaves { StoreTells D.TellsCrash D.content self.old
-            → LeavesNoOther (D.moment self.old.disk) (StoreLeaves D.MayLeave self.old) (StoreLeaves D.MayLeave self.new) }
-        ensures tells { StoreTells D.TellsCrash D.content self.old → OnOk result (StoreTells D.TellsCrash D.content self.new) }
+        ensures tells { StillTells D.content D.TellsCrash D.moment D.MayLeave result self.old self.new }
         ensures open { IsOpenAfterLoad result self.old.is_open self.new.is_open }
         ensures own { IfSome (D.content self.old.disk) (λ image. IsStore self.old.slot image
             → self.new.own_faults ≡ self.old.own_faults) }

@@ -1,12 +1,11 @@
 //! A keeper of a text on a disk, which makes nothing until a text is stored.
 
-ghost use Rattle.std.specs.Prelude.{◌≡◌, ◌≤◌, length, IfOk, IfSome, OnOk};
-ghost use Rattle.init_base.specs.Crash.{LeavesNoOther};
+ghost use Rattle.std.specs.Prelude.{◌≡◌, ◌≤◌, length, IfOk, IfSome};
 ghost use Rattle.init_base.specs.Faults.{Counted, read_failed};
 ghost use Rattle.init_base.specs.Keeping.{LoadsHeld};
 ghost use Rattle.persist_disk.specs.DiskModel.{OnlyReads};
 ghost use Rattle.persist_disk.specs.Keeping.{late_text, store_faults};
-ghost use Rattle.persist_disk.specs.Keeping.{LooksAs, OnlyLooks, StoreLeaves, StoreTells};
+ghost use Rattle.persist_disk.specs.Keeping.{LooksAs, OnlyLooks, StillTells, StoreLeaves, StoreTells};
 
 use crate::disk::Disk;
 use crate::keeper::DiskKeeper;
@@ -78,10 +77,7 @@ impl<D: Disk, P: Keeper> Keeper for LateKeeper<D, P> {
         ensures cause { Counted (read_failed result)
             (store_faults D.fault_count P.fault_count self.old)
             (store_faults D.fault_count P.fault_count self.new) }
-        ensures moment { StoreTells D.TellsCrash D.content self.old → D.moment self.old.disk ≤ D.moment self.new.disk }
-        ensures leaves { StoreTells D.TellsCrash D.content self.old
-            → LeavesNoOther (D.moment self.old.disk) (StoreLeaves D.MayLeave self.old) (StoreLeaves D.MayLeave self.new) }
-        ensures tells { StoreTells D.TellsCrash D.content self.old → OnOk result (StoreTells D.TellsCrash D.content self.new) }
+        ensures tells { StillTells D.content D.TellsCrash D.moment D.MayLeave result self.old self.new }
         ensures reads { OnlyReads D.content D.TellsCrash D.moment D.MayLeave self.old.disk self.new.disk }
     {
         self.store.peek(alloc, limit)

@@ -11,7 +11,7 @@ returns-clause-held g c =
     let slot_is : c.self.inside.slot ≡ mid.slot = ap (λ (k : DiskStore g.row.D.Denot g.row.P.Denot). k.slot) c.self.view_is in
     held_put (told_text c.args.self.now.is_silent c.args.self.now.slot (g.D.Disk.content c.args.self.now.disk)) (g.D.Disk.content mid.disk) (g.D.Disk.content c.put_text.new.self.disk) c.put_text.new.self.is_silent mid.slot c.put_text.new.self.slot c.in-Ok.chosen c.put_text.result c.args.content.now
     c.in-Ok.ensures.stands.store c.put_text.ensures.bytes (omega (arith, slot_is, c.if-content-self.false, c.self.invariant.low)) (omega (arith, slot_is, c.self.invariant.high)) c.put_text.ensures.silent c.put_text.ensures.slot
-    (told_none mid.is_silent c.args.self.now.slot (g.D.Disk.content mid.disk) _ c.stand.ensures.held)
+    (told_none mid.is_silent c.args.self.now.slot (g.D.Disk.content mid.disk) _ c.stand.ensures.rest.held)
 
 pub returns-clause-first : goal.returns-clause-first
 returns-clause-first g c =
@@ -27,7 +27,7 @@ returns-clause-leaves g c = λ tells.
     let no_other = either_text (g.D.Disk.content mid.disk) (g.D.Disk.moment c.args.self.now.disk) (g.D.Disk.moment mid.disk) mid.slot c.in-Ok.chosen (g.D.Disk.MayLeave c.args.self.now.disk) (g.D.Disk.MayLeave mid.disk) (g.D.Disk.MayLeave c.put_text.new.self.disk) c.args.content.now
     (reads.later tells.0) (reads.leaves tells.0) (g.met.D.Disk.earlier mid.disk) (g.met.D.Disk.given mid.disk (reads.tells.0 tells.0)) c.in-Ok.ensures.stands.store (c.put_text.ensures.leaves (reads.tells.0 tells.0)) in
     subst (λ (n : ℕ). LeavesOneMore (g.D.Disk.moment c.args.self.now.disk) (MayReopen g.D.Disk.MayLeave c.args.self.now.disk c.args.self.now.slot) (MayReopen g.D.Disk.MayLeave c.put_text.new.self.disk n) c.args.content.now) (sym c.put_text.ensures.slot)
-    (subst (λ (n : ℕ). LeavesOneMore (g.D.Disk.moment c.args.self.now.disk) (MayReopen g.D.Disk.MayLeave c.args.self.now.disk n) (MayReopen g.D.Disk.MayLeave c.put_text.new.self.disk mid.slot) c.args.content.now) c.stand.ensures.slot
+    (subst (λ (n : ℕ). LeavesOneMore (g.D.Disk.moment c.args.self.now.disk) (MayReopen g.D.Disk.MayLeave c.args.self.now.disk n) (MayReopen g.D.Disk.MayLeave c.put_text.new.self.disk mid.slot) c.args.content.now) c.stand.ensures.rest.slot
     (λ m text le left. no_other m text left.0 le left.1 left.2))
 
 pub returns-clause-safe : goal.returns-clause-safe
