@@ -24,9 +24,13 @@ impl CellRule<AreaView, u64> for WordArea {
     ghost use Rattle.property_area.specs.Kept.CellLoads.{area_first, area_copied, area_last};
     ghost use Rattle.property_area.specs.Kept.Lists.{area_writer, area_lists};
 
+    fn no_call(&self) {}
+
     ghost cell = { λ v. v.cell };
 
     ghost with_cell = { with_area_cell };
+
+    ghost part = { record { cell_with = λ v c. refl; with_same = λ v. refl; with_with = λ v c d. refl } };
 
     ghost began = { λ v. v.began };
 
@@ -36,33 +40,23 @@ impl CellRule<AreaView, u64> for WordArea {
 
     ghost noted = { noted_area };
 
+    ghost kept = { record { words_beside = λ v c. refl; words_noted = λ v r. refl } };
+
+    ghost told = { record {
+      cell_noted = λ v r. refl;
+      list_noted = λ v r. (refl, refl);
+      linked_noted = λ v r name place linked. linked;
+    } };
+
     ghost Linked = { LinkedArea };
 
     ghost Settled = { SettledArea };
 
-    fn no_call(&self) {}
-
-    ghost cell_with = { λ v c. refl };
-
-    ghost with_same = { λ v. refl };
-
-    ghost with_with = { λ v c d. refl };
-
-    ghost list_with = { λ v c. (refl, refl) };
-
-    ghost cell_noted = { λ v r. refl };
-
-    ghost list_noted = { λ v r. (refl, refl) };
-
-    ghost words_beside = { λ v c. refl };
-
-    ghost words_noted = { λ v r. refl };
-
-    ghost linked_with = { λ v c name place linked. linked };
-
-    ghost linked_noted = { λ v r name place linked. linked };
-
-    ghost settled_with = { λ v name value place done settled. settled };
+    ghost beside = { record {
+      list_with = λ v c. (refl, refl);
+      linked_with = λ v c name place linked. linked;
+      settled_with = λ v name value place done settled. settled;
+    } };
 
     ghost writer_there = { area_writer };
 

@@ -1,5 +1,6 @@
 pub mod Words
 pub mod Cell
+pub mod Parts
 pub mod Steps
 pub mod World
 pub mod History

@@ -47,9 +47,13 @@ impl CellRule<OneView, Text> for OneCell {
     ghost use Rattle.serial_value.specs.Kept.OneLast.{one_last};
     ghost use Rattle.serial_value.specs.Kept.OneLists.{one_writer, one_lists};
 
+    fn no_call(&self) {}
+
     ghost cell = { λ v. v.cell };
 
     ghost with_cell = { with_one_cell };
+
+    ghost part = { record { cell_with = λ v c. refl; with_same = λ v. refl; with_with = λ v c d. refl } };
 
     ghost began = { λ v. v.began };
 
@@ -59,33 +63,23 @@ impl CellRule<OneView, Text> for OneCell {
 
     ghost noted = { noted_one };
 
+    ghost kept = { record { words_beside = λ v c. refl; words_noted = λ v r. refl } };
+
+    ghost told = { record {
+      cell_noted = λ v r. refl;
+      list_noted = λ v r. (refl, refl);
+      linked_noted = λ v r name place linked. linked;
+    } };
+
     ghost Linked = { LinkedOne };
 
     ghost Settled = { λ v. Unit {0} };
 
-    fn no_call(&self) {}
-
-    ghost cell_with = { λ v c. refl };
-
-    ghost with_same = { λ v. refl };
-
-    ghost with_with = { λ v c d. refl };
-
-    ghost list_with = { λ v c. (refl, refl) };
-
-    ghost cell_noted = { λ v r. refl };
-
-    ghost list_noted = { λ v r. (refl, refl) };
-
-    ghost words_beside = { λ v c. refl };
-
-    ghost words_noted = { λ v r. refl };
-
-    ghost linked_with = { λ v c name place linked. linked };
-
-    ghost linked_noted = { λ v r name place linked. linked };
-
-    ghost settled_with = { λ v name value place done settled. settled };
+    ghost beside = { record {
+      list_with = λ v c. (refl, refl);
+      linked_with = λ v c name place linked. linked;
+      settled_with = λ v name value place done settled. settled;
+    } };
 
     ghost writer_there = { one_writer };
 

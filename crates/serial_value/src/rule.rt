@@ -1,17 +1,17 @@
 //! What a rule over a table owes so that cells may stand in it: one law for each kind of step.
 
-ghost use Rattle.std.specs.Prelude.{◌≡◌, ◌≢◌, ◌<◌, ◌≤◌, ◌+◌, ◌^◌, ◌++◌, ◌∷◌, [], ℕ, List, length, None};
+ghost use Rattle.std.specs.Prelude.{◌≡◌, ◌<◌, ◌≤◌, ◌+◌, ◌^◌, [], ℕ, List, length, None};
 ghost use mathlib.Core.Option.{some};
 ghost use lib.ListN.{get_elem?};
 ghost use Rattle.atomic_table.specs.Table.{State, Allows, Me};
 ghost use Rattle.init_machine.specs.Serial.{top_byte, clean_serial as clean_serial_of, dirty_serial as dirty_serial_of};
 ghost use Rattle.init_machine.specs.Sets.{Set};
 ghost use Rattle.init_machine.specs.declared.client.ClientItem.{ClientItem};
-ghost use Rattle.init_machine.specs.declared.client.ClientItem.TheVariants.{Told};
 ghost use Rattle.init_machine.specs.declared.report.Reading.{Reading};
 ghost use Rattle.serial_value.specs.declared.view.CellView.{CellView};
 ghost use Rattle.serial_value.specs.declared.view.CellView.TheVariants.{Writer};
 ghost use Rattle.serial_value.specs.Words.{body_word, IsShortValue};
+ghost use Rattle.serial_value.specs.Parts.{AreWordsKept, IsNoted, IsPart, StandsBeside};
 ghost use Rattle.serial_value.specs.Cell.{sets_of, making_of, HasShortCell, IsWriter, ReaderStands};
 ghost use Rattle.serial_value.specs.Cell.{updating, accepted, IsUpdating, IsPresentSerial, IsPresentWord};
 ghost use Rattle.serial_value.specs.Cell.{Begins, LiesAt, Copies, IsCopied, Ends};
@@ -68,31 +68,13 @@ pub trait CellRule<V, K>: TableRule<(), V, K> {
     /// It is never called: laws stand below a function.
     fn no_call(&self);
 
-    ghost cell_with: { (v : V) (c : CellView) → cell (with_cell v c) ≡ c };
+    ghost part: { IsPart cell with_cell };
 
-    ghost with_same: { (v : V) → with_cell v (cell v) ≡ v };
+    ghost kept: { AreWordsKept with_cell noted words };
 
-    ghost with_with: { (v : V) (c d : CellView) → with_cell (with_cell v c) d ≡ with_cell v d };
+    ghost beside: { StandsBeside cell with_cell began list Linked Settled };
 
-    ghost list_with: { (v : V) (c : CellView) → (list (with_cell v c) ≡ list v) × (began (with_cell v c) ≡ began v) };
-
-    ghost cell_noted: { (v : V) (r : Reading) → cell (noted v r) ≡ cell v };
-
-    ghost list_noted: { (v : V) (r : Reading) → (list (noted v r) ≡ list v ++ Told r ∷ []) × (began (noted v r) ≡ began v) };
-
-    ghost words_beside: { (v : V) (c : CellView) → words (with_cell v c) ≡ words v };
-
-    ghost words_noted: { (v : V) (r : Reading) → words (noted v r) ≡ words v };
-
-    ghost linked_with: { (v : V) (c : CellView) (name : List ℕ) (place : ℕ) →
-        Linked v name place → Linked (with_cell v c) name place };
-
-    ghost linked_noted: { (v : V) (r : Reading) (name : List ℕ) (place : ℕ) →
-        Linked v name place → Linked (noted v r) name place };
-
-    /// An update that is under way doesn't unsettle the writer.
-    ghost settled_with: { (v : V) (name value : List ℕ) (place done : ℕ) →
-        Settled v → Settled (with_cell v (updating (sets_of (cell v)) name value place done)) };
+    ghost told: { IsNoted cell noted began list Linked };
 
     /// Some seat is the writer's.
     ghost writer_there: { (key : K) (s : State Unit V) → Self.holds key s →

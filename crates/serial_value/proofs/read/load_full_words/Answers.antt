@@ -27,6 +27,6 @@ loop-k-preserved g c =
       table = c.copied_word-word.ensures.seat.0 ∙ inv.table;
       id = c.copied_word-word.ensures.seat.1 ∙ inv.id;
       wide = c.put_word.auto.out ∙ inv.wide;
-      view = moves_on R.cell R.with_cell L.cell_with L.with_with c.args.seat.now.me c.loop-k.seat.me c.copied_word-word.new.seat.me inv.view c.copied_word-word.ensures.view;
+      view = moves_on R.cell R.with_cell L.part.cell_with L.part.with_with c.args.seat.now.me c.loop-k.seat.me c.copied_word-word.new.seat.me inv.view c.copied_word-word.ensures.view;
       words = subst (λ (n : ℕ). ReadsLong (R.cell v) g.Q.Asked.name g.Q.Asked.place c.args.len (k + 1) n c.put_word.new.out (R.cell after)) (omega arith) next;
     }

@@ -21,6 +21,6 @@ loop-k-preserved g c =
       table = c.copied_word.ensures.seat.0 ∙ inv.table;
       id = c.copied_word.ensures.seat.1 ∙ inv.id;
       wide = length-set c.loop-k.words c.loop-k.k c.copied_word.result ∙ inv.wide;
-      view = moves_on R.cell R.with_cell g.met.R.CellRule.cell_with g.met.R.CellRule.with_with c.args.seat.now.me c.loop-k.seat.me c.copied_word.new.seat.me inv.view c.copied_word.ensures.view;
+      view = moves_on R.cell R.with_cell g.met.R.CellRule.part.cell_with g.met.R.CellRule.part.with_with c.args.seat.now.me c.loop-k.seat.me c.copied_word.new.seat.me inv.view c.copied_word.ensures.view;
       words = gathers_one (R.words now) (R.cell v) (R.cell now) (R.cell after) g.Q.Asked.name c.loop-k.words c.loop-k.k c.copied_word.result (omega arith) inv.words c.copied_word.ensures.told;
     }

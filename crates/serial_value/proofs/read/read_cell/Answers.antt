@@ -7,5 +7,5 @@ returns-clause-idle g c =
     let R = g.R.CellRule in
     let L = g.met.R.CellRule in
     let v = c.args.seat.now.me.0 in
-    idle_after R.cell R.with_cell R.noted L.cell_with L.cell_noted v c.read_as.new.seat.me.0 (R.cell v) c.args.name.bytes.now c.read_as.result c.args.out.now c.read_as.new.out refl c.requires.idle
+    idle_after R.cell R.with_cell R.noted L.part.cell_with L.told.cell_noted v c.read_as.new.seat.me.0 (R.cell v) c.args.name.bytes.now c.read_as.result c.args.out.now c.read_as.new.out refl c.requires.idle
     c.read_as.ensures.answer

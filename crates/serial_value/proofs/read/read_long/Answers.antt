@@ -69,7 +69,7 @@ returns-clause-answer g c =
     let m0 = c.args.seat.now.me in
     let m1 = c.copied_word-len.new.seat.me in
     let m2 = c.load_value.new.seat.me in
-    let moved = moves_on R.cell R.with_cell L.cell_with L.with_with m0 m1 m2 c.copied_word-len.ensures.view c.load_value.ensures.view in
+    let moved = moves_on R.cell R.with_cell L.part.cell_with L.part.with_with m0 m1 m2 c.copied_word-len.ensures.view c.load_value.ensures.view in
     let begun = long_begins (R.words m0.0) (R.cell m0.0) (R.cell m1.0) g.Q.Asked.name g.Q.Asked.place c.args.first c.copied_word-len.result c.args.out.now
     c.requires.begun c.requires.long c.requires.idle c.copied_word-len.ensures.told in
     let fits = begun.1.fits in
@@ -78,6 +78,6 @@ returns-clause-answer g c =
     long_answers R.with_cell R.noted (R.words m0.0) m0.0 m2.0 (R.cell m0.0) (R.cell m1.0) (R.cell m2.0) g.Q.Asked.name g.Q.Asked.place
     c.args.first c.copied_word-len.result c.last_serial-last.result _ c.args.out.now c.load_value.new.out c.last_serial-last.new.seat.me.0
     (omega arith) c.requires.long (ap (λ x. x.1) c.parts-number.ensures) c.requires.idle
-    (same_with R.cell R.with_cell L.cell_with L.with_with m0 m2 moved)
-    (λ same. ap (λ m. m.0) (unmoved R.cell R.with_cell L.cell_with L.with_with L.with_same m0 m2 moved same))
+    (same_with R.cell R.with_cell L.part.cell_with L.part.with_with m0 m2 moved)
+    (λ same. ap (λ m. m.0) (unmoved R.cell R.with_cell L.part.cell_with L.part.with_with L.part.with_same m0 m2 moved same))
     c.requires.begun c.copied_word-len.ensures.told c.load_value.ensures.words c.last_serial-last.ensures.told

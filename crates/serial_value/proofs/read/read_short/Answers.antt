@@ -23,6 +23,6 @@ returns-clause-answer g c =
     read_answers R.with_cell R.noted (R.words m0.0) m0.0 m1.0 (R.cell m0.0) (R.cell m1.0) g.Q.Asked.name g.Q.Asked.place
     c.args.first c.last_serial-last.result c.load_words.new.words c.close.result c.args.out.now c.close.new.out c.last_serial-last.new.seat.me.0
     c.load_words.ensures.wide (omega arith) c.requires.short
-    (same_with R.cell R.with_cell L.cell_with L.with_with m0 m1 moved)
-    (λ same. ap (λ m. m.0) (unmoved R.cell R.with_cell L.cell_with L.with_with L.with_same m0 m1 moved same))
+    (same_with R.cell R.with_cell L.part.cell_with L.part.with_with m0 m1 moved)
+    (λ same. ap (λ m. m.0) (unmoved R.cell R.with_cell L.part.cell_with L.part.with_with L.part.with_same m0 m1 moved same))
     c.requires.begun c.load_words.ensures.words c.last_serial-last.ensures.told c.close.ensures

@@ -10,5 +10,5 @@ returns-clause-short g c =
     let v = c.args.seat.now.me.0 in
     let name = c.args.name.bytes.now in
     let value = c.args.value.bytes.now in
-    let cell = ap (λ m. R.cell m.0) c.write_as.ensures.view ∙ g.met.R.CellRule.cell_with v (accepted (R.cell v) name value) in
+    let cell = ap (λ m. R.cell m.0) c.write_as.ensures.view ∙ g.met.R.CellRule.part.cell_with v (accepted (R.cell v) name value) in
     subst (λ (x : CellView). HasShortCell (sets_of x) name) (sym cell) (short_end (sets_of (R.cell v)) name value c.requires.short.1)
