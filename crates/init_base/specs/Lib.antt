@@ -1,6 +1,7 @@
 pub mod Crash
 pub mod Faults
 pub mod Keeping
+pub mod Lines
 pub mod Memory
 pub mod Name
 pub mod Outside

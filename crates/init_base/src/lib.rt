@@ -7,6 +7,7 @@
 mod adapters;
 mod fifo;
 mod in_memory;
+mod lines;
 mod list;
 mod memory;
 mod name;
@@ -29,6 +30,7 @@ pub use in_memory::keeper::{MemKeeper, SteadyKeeper};
 pub use in_memory::plan::FailPlan;
 pub use in_memory::sink::{MemSink, SteadySink};
 pub use in_memory::source::{MemSource, SteadySource};
+pub use lines::first_line;
 pub use list::List;
 pub use memory::NoMemory;
 pub use name::PropName;

@@ -10,7 +10,7 @@ use Rattle.prop_contexts.specs.Allowed.{AreAllowed, IsAllowRefusal, IsPairRefusa
 use Rattle.prop_contexts.specs.Allows.{allow_of, allow_lines}
 use Rattle.prop_contexts.specs.Contexts.{read_in}
 use Rattle.prop_contexts.specs.Grammar.{allows_fit, is_formed}
-use Rattle.prop_contexts.specs.Lines.{lines_of}
+use Rattle.init_base.specs.Lines.{lines_of}
 use Rattle.prop_contexts.specs.declared.line.Reading.{Reading}
 use Rattle.prop_contexts.specs.declared.line.Reading.TheVariants.{Skipped, Bad, Read}
 use Rattle.prop_contexts.specs.declared.refusal.PolicyRefusal.{PolicyRefusal}

@@ -7,7 +7,7 @@ use Rattle.prop_contexts.specs.Allowed.{IsAllowRefusal}
 use Rattle.prop_contexts.specs.Contexts.{default_contexts}
 use Rattle.prop_contexts.specs.Given.{AreGiven, first_of}
 use Rattle.prop_contexts.specs.Grammar.{IsRefused}
-use Rattle.prop_contexts.specs.Lines.{lines_of}
+use Rattle.init_base.specs.Lines.{lines_of}
 use Rattle.prop_contexts.specs.NameLines.{context_in}
 use Rattle.prop_contexts.specs.declared.contexts.Contexts.{Contexts}
 use Rattle.prop_contexts.specs.declared.refusal.PolicyRefusal.{PolicyRefusal}

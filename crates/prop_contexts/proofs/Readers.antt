@@ -6,7 +6,7 @@ use Rattle.std.proofs.lemmas.Grind.{flat_map-append}
 use Rattle.std.proofs.lemmas.List.Folds.{list_all-append, list_any-append}
 use Rattle.init_machine.specs.Policy.{ContextLine, PolicyLines, is_line_for}
 use Rattle.init_machine.specs.declared.policy.Context.{Context}
-use Rattle.prop_contexts.specs.Lines.{lines_of}
+use Rattle.init_base.specs.Lines.{lines_of}
 use Rattle.prop_contexts.specs.Contexts.{ScopedLine, read_in, reading_of, default_in, exact_in, prefix_in, scoped_lines, default_contexts, exact_lines, prefix_lines}
 use Rattle.prop_contexts.specs.Allows.{allow_of, allow_lines}
 use Rattle.prop_contexts.specs.Grammar.{contexts_fit, allows_fit, is_formed, names_differ, IsPolicy, IsRefused, IsFirstUnfit, IsBadContext, IsTwice, HasNoDefault, AreContexts}

@@ -2,7 +2,7 @@
 use Rattle.std.proofs.Common.{◌≡◌, ℕ, suc, zero, ◌+◌, ◌<◌, ◌≤◌, List, [], ◌∷◌, ◌++◌, length, take, drop, ap, sym, ◌∙◌, subst, IsTrue, add-one, arith}
 use Rattle.std.proofs.Math.Seq.{take-length}
 use Rattle.std.proofs.lemmas.List.{length-drop, length-take, take-append-drop}
-use Rattle.prop_contexts.specs.Lines.{lines_of}
+use Rattle.init_base.specs.Lines.{lines_of}
 use Rattle.prop_contexts.specs.Contexts.{reading_of}
 use Rattle.prop_contexts.specs.Grammar.{contexts_fit}
 use Rattle.prop_contexts.specs.Given.{Given, given, given_by, Takes, IsLineRefusal, IsTextRefusal, AreGiven}

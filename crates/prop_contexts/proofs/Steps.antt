@@ -12,7 +12,7 @@ use Rattle.prop_contexts.specs.Contexts.{ScopedLine, read_in, reading_of, defaul
 use Rattle.prop_contexts.specs.NameLines.{has_name}
 use Rattle.prop_contexts.specs.Given.{Given, given_by, first_of, has_for, has_line, with_for, Takes, IsLineRefusal, IsTextRefusal}
 use Rattle.prop_contexts.specs.Grammar.{contexts_fit, is_formed, names_differ}
-use Rattle.prop_contexts.specs.Lines.{lines_of}
+use Rattle.init_base.specs.Lines.{lines_of}
 use Rattle.prop_contexts.specs.declared.refusal.PolicyRefusal.{PolicyRefusal}
 use Rattle.prop_contexts.specs.declared.refusal.PolicyRefusal.TheVariants as refusal
 use Rattle.prop_contexts.specs.declared.line.Reading.{Reading}

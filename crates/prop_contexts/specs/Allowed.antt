@@ -3,7 +3,7 @@ use Rattle.std.specs.Prelude.{◌≡◌, ℕ, ⊤, true, false, IsTrue, List, []
 use Rattle.init_machine.specs.declared.policy.AllowLine.{AllowLine}
 use Rattle.prop_contexts.specs.Allows.{allow_lines}
 use Rattle.prop_contexts.specs.Grammar.{allows_fit, IsFirstUnfit}
-use Rattle.prop_contexts.specs.Lines.{lines_of}
+use Rattle.init_base.specs.Lines.{lines_of}
 use Rattle.prop_contexts.specs.declared.line.Reading.{Reading}
 use Rattle.prop_contexts.specs.declared.line.Reading.TheVariants.{Skipped, Bad, Read}
 use Rattle.prop_contexts.specs.declared.refusal.PolicyRefusal.{PolicyRefusal}

@@ -5,7 +5,7 @@ use Rattle.init_machine.specs.declared.policy.Context.{Context}
 use Rattle.prop_contexts.specs.NameLines.{has_name}
 use Rattle.prop_contexts.specs.Contexts.{ScopedLine, default_contexts, exact_lines, prefix_lines}
 use Rattle.prop_contexts.specs.Grammar.{contexts_fit, IsBadContext, IsTwice}
-use Rattle.prop_contexts.specs.Lines.{lines_of}
+use Rattle.init_base.specs.Lines.{lines_of}
 use Rattle.prop_contexts.specs.declared.line.Reading.{Reading}
 use Rattle.prop_contexts.specs.declared.line.Reading.TheVariants.{Skipped, Bad, Read}
 use Rattle.prop_contexts.specs.declared.refusal.PolicyRefusal.{PolicyRefusal}

@@ -2,7 +2,7 @@
 use Rattle.std.specs.Prelude.{◌≡◌, ℕ, ◌+◌, ⊤, Bool, true, false, IsTrue, not, ◌&&◌, nat_le, List, [], ◌∷◌, ◌++◌, length}
 use Rattle.std.specs.List.{list_all, list_any}
 use Rattle.init_machine.specs.Policy.{ContextLine, PolicyLines, is_line_for}
-use Rattle.prop_contexts.specs.Lines.{lines_of}
+use Rattle.init_base.specs.Lines.{lines_of}
 use Rattle.prop_contexts.specs.Contexts.{reading_of, default_contexts, exact_lines, prefix_lines}
 use Rattle.prop_contexts.specs.Allows.{allow_of, allow_lines}
 use Rattle.prop_contexts.specs.declared.line.Reading.{Reading}

@@ -1,20 +1,12 @@
--- The lines of a policy's texts, and the words of a line. Space (32), tab (9) and CR (13) are blanks.
-use Rattle.std.specs.Prelude.{ℕ, Bool, true, false, not, ◌||◌, ◌==◌, nat_eq, if◌then◌else◌, List, [], ◌∷◌, filter, codes}
-use Rattle.std.specs.List.{onto_first, slice_split, starts_with}
-
-abbrev pub is_line_feed : ℕ → Bool
-is_line_feed b = b == 10
+-- The words of a line of a policy's texts. Space (32), tab (9) and CR (13) are blanks.
+use Rattle.std.specs.Prelude.{ℕ, Bool, true, false, not, ◌||◌, ◌==◌, nat_eq, List, [], ◌∷◌, filter, codes}
+use Rattle.std.specs.List.{slice_split, starts_with}
 
 abbrev pub is_blank : ℕ → Bool
 is_blank b = b == 32 || b == 9 || b == 13
 
 abbrev pub is_no_blank : ℕ → Bool
 is_no_blank b = not (is_blank b)
-
--- each line ends with LF, which the last one may lack
-abbrev pub lines_of : List ℕ → List (List ℕ)
-lines_of [] = []
-lines_of (b ∷ rest) = if is_line_feed b then [] ∷ lines_of rest else onto_first b (lines_of rest)
 
 abbrev pub is_word : List ℕ → Bool
 is_word [] = false

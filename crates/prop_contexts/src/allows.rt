@@ -5,9 +5,9 @@ ghost use Rattle.prop_contexts.specs.Allows.{allow_of};
 ghost use Rattle.prop_contexts.specs.Allowed.{AreAllowed, IsAllowRefusal, IsPairRefusal, TakesPair};
 
 use crate::allow_line::read_line;
-use crate::line::{Reading, first_line};
+use crate::line::Reading;
 use crate::refusal::PolicyRefusal;
-use init_base::List;
+use init_base::{List, first_line};
 use init_machine::AllowLine;
 use std::alloc::Global;
 

@@ -7,10 +7,10 @@ ghost use Rattle.prop_contexts.specs.declared.line.Reading.TheVariants.{Read};
 ghost use Rattle.prop_contexts.specs.Named.{scoped};
 
 use crate::context_line::{NamedLine, Scope, read_line};
-use crate::line::{Reading, first_line};
+use crate::line::Reading;
 use crate::names::Names;
 use crate::refusal::PolicyRefusal;
-use init_base::NoMemory;
+use init_base::{NoMemory, first_line};
 use init_machine::Context;
 use std::alloc::Global;
 

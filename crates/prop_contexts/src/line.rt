@@ -1,7 +1,7 @@
-//! The lines of a text, and their words. The rules are in `specs/Lines.antt`.
+//! The words of a line. The rules are in `specs/Lines.antt`.
 
 ghost use Rattle.std.specs.Prelude.{◌≡◌, ◌<◌, ◌∷◌, [], position, MatchOption, IfOk, length};
-ghost use Rattle.prop_contexts.specs.Lines.{is_line_feed, is_no_blank, lines_of, words_of};
+ghost use Rattle.prop_contexts.specs.Lines.{is_no_blank, words_of};
 ghost use Rattle.prop_contexts.specs.Lines as spec;
 
 use init_base::{List, NoMemory, Text};
@@ -15,25 +15,6 @@ pub enum Reading<T> {
     /// It is of no form.
     Bad,
     Read(T),
-}
-
-/// The first line, and what stands behind its end.
-pub fn first_line(bytes: &[u8]) -> (&[u8], &[u8])
-    requires { 0 < length bytes.now }
-    ensures line { lines_of bytes.entry.now ≡ result.0.now ∷ lines_of result.1.now }
-    ensures shorter { length result.1.now < length bytes.entry.now }
-{
-    match line_end(bytes) {
-        Some(end) => (&bytes[..end], &bytes[end + 1..]),
-        None => (bytes, &[]),
-    }
-}
-
-/// The place of the first LF.
-fn line_end(bytes: &[u8]) -> Option<usize>
-    ensures { result ≡ position is_line_feed bytes.now }
-{
-    bytes.iter().position(|byte| *byte == b'\n')
 }
 
 /// The first word of a line, and what stands behind it. None exactly where there is no word.

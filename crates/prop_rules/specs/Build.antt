@@ -1,7 +1,8 @@
 -- What the bytes of a build file say (AOSP, `build.prop`; that a bad line has a diagnostic is this project's profile).
 -- Space (32), tab (9) and CR (13) are blanks, 61 is `=` and 35 `#`.
 use Rattle.std.specs.Prelude.{◌≡◌, ℕ, ◌+◌, Bool, ◌||◌, ◌==◌, nat_eq, if◌then◌else◌, List, [], ◌∷◌, ◌++◌, codes, take, drop, position, Option, Some, None}
-use Rattle.std.specs.List.{flat_map, list_all, onto_first, starts_with}
+use Rattle.std.specs.List.{flat_map, list_all, starts_with}
+use Rattle.init_base.specs.Lines.{lines_of}
 use Rattle.init_machine.specs.Pairs.{pair}
 use Rattle.init_machine.specs.declared.config.Pair.{Pair}
 use Rattle.init_machine.specs.declared.diagnostic.DiagKind.TheVariants.{BadProp}
@@ -10,16 +11,8 @@ use Rattle.prop_rules.specs.declared.build.BuildLine.{BuildLine}
 use Rattle.prop_rules.specs.declared.build.BuildLine.TheVariants.{Skipped, Bad, Sets}
 use Rattle.prop_rules.specs.declared.build.BuildProps.{BuildProps}
 
-abbrev pub is_line_feed : ℕ → Bool
-is_line_feed b = b == 10
-
 abbrev pub is_blank : ℕ → Bool
 is_blank b = b == 32 || b == 9 || b == 13
-
--- each line ends with LF, which the last one may lack
-abbrev pub lines_of : List ℕ → List (List ℕ)
-lines_of [] = []
-lines_of (b ∷ rest) = if is_line_feed b then [] ∷ lines_of rest else onto_first b (lines_of rest)
 
 abbrev pub without_first_blanks : List ℕ → List ℕ
 without_first_blanks [] = []

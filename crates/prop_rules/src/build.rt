@@ -1,10 +1,10 @@
 //! The pairs of build files (AOSP, `build.prop`). The rules are in `specs/Build.antt`.
 
-ghost use Rattle.std.specs.Prelude.{◌≡◌, ◌<◌, ◌≤◌, ◌+◌, ◌++◌, ◌∷◌, ◌==◌, position, IfOk, OnOk, length};
-ghost use Rattle.prop_rules.specs.Build.{faults_in, is_line_feed, IsBuildFile, lines_of, pairs_in, parted_at, with_name};
+ghost use Rattle.std.specs.Prelude.{◌≡◌, ◌≤◌, ◌+◌, ◌++◌, ◌==◌, position, IfOk, OnOk, length};
+ghost use Rattle.prop_rules.specs.Build.{faults_in, IsBuildFile, pairs_in, parted_at, with_name};
 ghost use Rattle.prop_rules.specs.Build as spec;
 
-use init_base::{List, NoMemory, Text};
+use init_base::{List, NoMemory, Text, first_line};
 use init_machine::{DiagKind, Diagnostic, Pair};
 use std::alloc::Global;
 
@@ -109,25 +109,6 @@ fn equals_place(line: &[u8]) -> Option<usize>
     ensures { result ≡ position (λ b. b == 61) line.now }
 {
     line.iter().position(|byte| *byte == b'=')
-}
-
-/// The first line, and what stands behind its end.
-fn first_line(bytes: &[u8]) -> (&[u8], &[u8])
-    requires { 0 < length bytes.now }
-    ensures line { lines_of bytes.entry.now ≡ result.0.now ∷ lines_of result.1.now }
-    ensures shorter { length result.1.now < length bytes.entry.now }
-{
-    match line_end(bytes) {
-        Some(end) => (&bytes[..end], &bytes[end + 1..]),
-        None => (bytes, &[]),
-    }
-}
-
-/// The place of the first LF.
-fn line_end(bytes: &[u8]) -> Option<usize>
-    ensures { result ≡ position is_line_feed bytes.now }
-{
-    bytes.iter().position(|byte| *byte == b'\n')
 }
 
 fn trimmed(text: &[u8]) -> &[u8]

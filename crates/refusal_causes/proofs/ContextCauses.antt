@@ -7,7 +7,8 @@ use Rattle.std.proofs.lemmas.Option.{slice_get_past}
 use Rattle.prop_contexts.specs.Contexts.{ScopedLine, default_contexts, kind_of, line_with, reading_of, reading_of_words, type_of}
 use Rattle.prop_contexts.specs.Given.{given_by, has_line, with_line, Takes}
 use Rattle.prop_contexts.specs.Grammar.{contexts_fit, HasNoDefault, IsFirstUnfit}
-use Rattle.prop_contexts.specs.Lines.{is_comment, is_line_feed, lines_of, words_of}
+use Rattle.init_base.specs.Lines.{is_line_feed, lines_of}
+use Rattle.prop_contexts.specs.Lines.{is_comment, words_of}
 use Rattle.prop_contexts.specs.declared.line.Reading.{Reading}
 use Rattle.prop_contexts.specs.declared.line.Reading.TheVariants.{Skipped, Bad, Read}
 use Rattle.prop_contexts.proofs.Steps.{fits_of, takes}

@@ -1,5 +1,6 @@
 use Rattle.std.proofs.Common.{◌≡◌, ◌+◌, ◌++◌, ◌≤◌, length}
-use Rattle.prop_rules.specs.Build.{build_faults, build_pairs, lines_of}
+use Rattle.init_base.specs.Lines.{lines_of}
+use Rattle.prop_rules.specs.Build.{build_faults, build_pairs}
 use Rattle.prop_rules.proofs.build.build_props.Given as goal
 
 abbrev pub invariant-loop-rest : goal.invariant-loop-rest

@@ -1,6 +1,6 @@
 use Rattle.std.proofs.Common.{rules}
-use Rattle.prop_rules.proofs.Lines.{line_ends, line_open}
-use Rattle.prop_rules.proofs.build.first_line.Goals as goal
+use Rattle.init_base.proofs.LineEnds.{line_ends, line_open}
+use Rattle.init_base.proofs.lines.first_line.Goals as goal
 
 pub returns-in-Some-clause-line : goal.returns-in-Some-clause-line
 returns-in-Some-clause-line c = line_ends _ _ (search rules)
