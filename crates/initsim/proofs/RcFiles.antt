@@ -9,6 +9,7 @@ use Rattle.init_machine.specs.declared.limit.Limit.TheVariants as limits
 use Rattle.prop_rules.specs.View.{view}
 use Rattle.prop_rules.specs.declared.build.BuildProps.{BuildProps}
 use Rattle.rc_import.specs.Answers.{IsAnswer}
+use Rattle.rc_import.specs.BuildFiles.{behind_build_files}
 use Rattle.rc_import.specs.Limits.{SoFar, diagnostics_of, loaded as rc_files_of, loaded_from, loaded_of, nothing, onward, with_all, with_bytes, with_met}
 use Rattle.rc_import.specs.Order.{Met, Listing, File, Fault, order, root_file}
 use Rattle.rc_import.specs.World.{IsWorld, World}
@@ -143,17 +144,17 @@ refused_kind refusal.NoMemory = tt
 
 -- ---- what is loaded
 
-pub load_read : (world : World) (props : BuildProps) (rc : Loaded) (pairs : List Pair) (diagnostics all : List Diagnostic)
-    → AreBuildFiles world.tree props → pairs ≡ props.pairs → diagnostics ≡ props.diagnostics → all ≡ diagnostics ++ rc.diagnostics
-    → IsAnswer (Ok rc) (rc_files_of world) → IsLoadOf world (record rc.config { pairs = pairs }) all
-load_read world props rc pairs diagnostics all files same_pairs same_diagnostics both answer = record {
+pub load_read : (world : World) (props : BuildProps) (rc all : Loaded)
+    → AreBuildFiles world.tree props → all ≡ behind_build_files props rc → IsAnswer (Ok rc) (rc_files_of world)
+    → IsLoadOf world all.config all.diagnostics
+load_read world props rc all files is answer = record {
   short = files.short;
   loaded = rc;
   rc_files = answer;
-  actions = refl;
-  services = refl;
-  pairs = same_pairs ∙ files.pairs_are;
-  diagnostics_are = both ∙ ap (λ d. d ++ rc.diagnostics) (same_diagnostics ∙ files.diagnostics_are);
+  actions = ap (λ (l : Loaded). l.config.actions) is;
+  services = ap (λ (l : Loaded). l.config.services) is;
+  pairs = ap (λ (l : Loaded). l.config.pairs) is ∙ files.pairs_are;
+  diagnostics_are = ap (λ (l : Loaded). l.diagnostics) is ∙ ap (λ d. d ++ rc.diagnostics) files.diagnostics_are;
 }
 
 -- ---- the diagnostics alone

@@ -11,7 +11,7 @@ ghost use Rattle.rc_import.specs.World.{World};
 use crate::stop::Stop;
 use crate::texts::read_build_files;
 use init_base::{Files, List};
-use init_machine::{Config, Diagnostic};
+use init_machine::Diagnostic;
 use prop_rules::{BuildProps, boot_view};
 use rc_import::Loaded;
 use std::alloc::Global;
@@ -23,20 +23,10 @@ pub fn load<F: Files>(alloc: Global, files: &mut F) -> Result<Loaded, Stop>
     ensures well_formed { IfOk result (λ loaded. IsWellFormed loaded.config) }
     ensures cause { Counted (has_read_fault result) (F.fault_count files.old) (F.fault_count files.new) }
 {
-    let BuildProps {
-        pairs,
-        mut diagnostics,
-    } = read_build_files(alloc, files)?;
-    let mut view = boot_view(alloc, &pairs)?;
+    let build_files = read_build_files(alloc, files)?;
+    let mut view = boot_view(alloc, &build_files.pairs)?;
     let loaded = rc_import::load(alloc, files, &mut view)?;
-    diagnostics.append(loaded.diagnostics)?;
-    Ok(Loaded {
-        config: Config {
-            pairs,
-            ..loaded.config
-        },
-        diagnostics,
-    })
+    Ok(loaded.behind(build_files)?)
 }
 
 /// Reads the same files for what is wrong in them, and keeps nothing else of the rc files but names.

@@ -1,7 +1,11 @@
 //! What is loaded, or why nothing is.
 
+ghost use Rattle.std.specs.Prelude.{◌≡◌, IfOk};
+ghost use Rattle.rc_import.specs.BuildFiles.{behind_build_files};
+
 use init_base::{List, NoMemory, Text};
 use init_machine::{Config, Diagnostic};
+use prop_rules::BuildProps;
 
 /// The actions and services that stay of all files, and the diagnostics of the files and their imports in order. The other
 /// lists of the configuration are empty.
@@ -9,6 +13,26 @@ use init_machine::{Config, Diagnostic};
 pub struct Loaded {
     pub config: Config,
     pub diagnostics: List<Diagnostic>,
+}
+
+impl Loaded {
+    /// The same behind the build files, which were read before: with their pairs, and their diagnostics first.
+    pub fn behind(self, build_files: BuildProps) -> Result<Loaded, NoMemory>
+        ensures { IfOk result (λ loaded. loaded ≡ behind_build_files build_files self) }
+    {
+        let BuildProps {
+            pairs,
+            mut diagnostics,
+        } = build_files;
+        diagnostics.append(self.diagnostics)?;
+        Ok(Loaded {
+            config: Config {
+                pairs,
+                ..self.config
+            },
+            diagnostics,
+        })
+    }
 }
 
 /// A limit on what is read of a tree.

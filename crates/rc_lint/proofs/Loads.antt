@@ -1,5 +1,5 @@
 -- Reading the build files and the rc files.
-use Rattle.std.proofs.Common.{◌≡◌, ℕ, ◌<◌, ◌≤◌, List, ◌++◌, length, Option, Result, Ok, Err, subst, ap, inl, inr, ◌∙◌, arith}
+use Rattle.std.proofs.Common.{◌≡◌, ℕ, ◌<◌, ◌≤◌, List, ◌++◌, length, Option, Result, Ok, Err, subst, sym, ap, inl, inr, ◌∙◌, arith}
 use Rattle.std.specs.Prelude.{if◌then◌else◌, nat_lt}
 use Rattle.std.proofs.lemmas.Bool.Decides.{nat_tests}
 use Rattle.init_machine.specs.declared.config.Pair.{Pair}
@@ -8,6 +8,7 @@ use Rattle.prop_rules.specs.Build.{IsBuildFile}
 use Rattle.prop_rules.specs.View.{view}
 use Rattle.prop_rules.specs.declared.build.BuildProps.{BuildProps}
 use Rattle.rc_import.specs.Answers.{IsAnswer}
+use Rattle.rc_import.specs.BuildFiles.{behind_build_files}
 use Rattle.rc_import.specs.Limits.{loaded as rc_files_of, onward}
 use Rattle.rc_import.specs.World.{IsWorld, World}
 use Rattle.rc_import.specs.declared.loaded.Loaded.{Loaded}
@@ -94,16 +95,11 @@ rc_files_refused world props (why.TooLarge path limit number) files answer = rc_
 rc_files_refused world props (why.TooMany path number) files answer = rc_files_decide world props files ∙ ap (behind_rc_files world) answer
 rc_files_refused world props why.NoMemory files answer = tt
 
-pub rc_files_loaded : (world : World) (props : BuildProps) (rc : Loaded) (pairs : List Pair) (diagnostics all : List Diagnostic)
-    → AreBuildFiles world.tree props → pairs ≡ props.pairs → diagnostics ≡ props.diagnostics → all ≡ diagnostics ++ rc.diagnostics
-    → IsAnswer (Ok rc) (rc_files_of world)
-    → loaded world ≡ Ok (record { config = record rc.config { pairs = pairs }; diagnostics = all })
+pub rc_files_loaded : (world : World) (props : BuildProps) (rc all : Loaded)
+    → AreBuildFiles world.tree props → all ≡ behind_build_files props rc → IsAnswer (Ok rc) (rc_files_of world) → loaded world ≡ Ok all
 unfolding behind_rc_files
-rc_files_loaded world props rc pairs diagnostics all files same_pairs same_diagnostics both answer =
-    let p = files.pairs_are in
-    let d = files.diagnostics_are in
-    let these : pairs_of world.tree ≡ pairs = cc in
-    let those : faults_of world.tree ++ rc.diagnostics ≡ all = cc in
+rc_files_loaded world props rc all files is answer =
     rc_files_decide world props files ∙ ap (behind_rc_files world) answer
-    ∙ ap (λ (ps : List Pair). Ok (record { config = record rc.config { pairs = ps }; diagnostics = faults_of world.tree ++ rc.diagnostics })) these
-    ∙ ap (λ (ds : List Diagnostic). Ok (record { config = record rc.config { pairs = pairs }; diagnostics = ds })) those
+    ∙ ap (λ (ps : List Pair). Ok (record { config = record rc.config { pairs = ps }; diagnostics = faults_of world.tree ++ rc.diagnostics })) (sym files.pairs_are)
+    ∙ ap (λ (ds : List Diagnostic). Ok (behind_build_files (record { pairs = props.pairs; diagnostics = ds }) rc)) (sym files.diagnostics_are)
+    ∙ ap (λ (l : Loaded). Ok l) (sym is)

@@ -9,7 +9,6 @@ ghost use Rattle.rc_lint.specs.Loads as spec;
 ghost use Rattle.rc_lint.specs.Code.Steps.{GivesBuildFile, GivesBuildFiles, GivesText};
 
 use init_base::{Files, ReadRefusal, Text};
-use init_machine::Config;
 use prop_rules::{BuildProps, boot_view, build_props};
 use rc_import::{LoadLimit, LoadRefusal, Loaded};
 use std::alloc::Global;
@@ -81,18 +80,8 @@ pub fn load<F: Files>(alloc: Global, files: &mut F) -> Result<Loaded, LoadRefusa
     ensures tree { F.tree files.new ≡ F.tree files.old }
     ensures cause { Counted (is_read_fault result) (F.fault_count files.old) (F.fault_count files.new) }
 {
-    let BuildProps {
-        pairs,
-        mut diagnostics,
-    } = read_build_files(alloc, files)?;
-    let mut view = boot_view(alloc, &pairs)?;
+    let build_files = read_build_files(alloc, files)?;
+    let mut view = boot_view(alloc, &build_files.pairs)?;
     let loaded = rc_import::load(alloc, files, &mut view)?;
-    diagnostics.append(loaded.diagnostics)?;
-    Ok(Loaded {
-        config: Config {
-            pairs,
-            ..loaded.config
-        },
-        diagnostics,
-    })
+    Ok(loaded.behind(build_files)?)
 }

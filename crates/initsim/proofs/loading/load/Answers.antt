@@ -9,16 +9,16 @@ use Rattle.initsim.proofs.loading.load.Goals as goal
 
 pub returns-in_err-loaded-clause-load : goal.returns-in_err-loaded-clause-load
 returns-in_err-loaded-clause-load g c = λ world is.
-    let files = told _ _ world.tree is.tree_is c.in_ok-pairs.ensures.props in
+    let files = told _ _ world.tree is.tree_is c.in_ok-build_files.ensures.props in
     err_is (GivesLoad world) _ _ c.from_residual-in_err-loaded.ensures
     (load_refused world c.in_err-loaded.field-0.0 files.short
     (c.in_err-loaded.ensures.loaded world
-    (world_viewed _ _ _ _ world c.in_ok-pairs.ensures.tree c.in_ok-view.ensures files.pairs_are is)))
+    (world_viewed _ _ _ _ world c.in_ok-build_files.ensures.tree c.in_ok-view.ensures files.pairs_are is)))
 
-pub returns-in_err-append-clause-load : goal.returns-in_err-append-clause-load
-returns-in_err-append-clause-load g c = λ world is. err_is (GivesLoad world) _ NoMemory c.from_residual-in_err-append.ensures tt
+pub returns-in_err-behind-clause-load : goal.returns-in_err-behind-clause-load
+returns-in_err-behind-clause-load g c = λ world is. err_is (GivesLoad world) _ NoMemory c.from_residual-in_err-behind.ensures tt
 
-pub returns-in_err-append-clause-cause : goal.returns-in_err-append-clause-cause
-returns-in_err-append-clause-cause g c =
+pub returns-in_err-behind-clause-cause : goal.returns-in_err-behind-clause-cause
+returns-in_err-behind-clause-cause g c =
     err_is (λ r. Counted (has_read_fault r) (g.F.Files.fault_count c.args.files.now) (g.F.Files.fault_count c.load.new.files)) _ NoMemory
-    c.from_residual-in_err-append.ensures (c.in_ok-loaded.ensures.cause ∙ c.in_ok-pairs.ensures.cause)
+    c.from_residual-in_err-behind.ensures (c.in_ok-loaded.ensures.cause ∙ c.in_ok-build_files.ensures.cause)

@@ -6,11 +6,11 @@ use Rattle.rc_lint.specs.Loads.{loaded}
 use Rattle.rc_import.proofs.Outcomes.{err_is}
 use Rattle.rc_lint.proofs.loading.load.Goals as goal
 
-pub returns-in_err-append-clause-load : goal.returns-in_err-append-clause-load
-returns-in_err-append-clause-load g c = λ world is.
-    err_is (λ r. IsAnswer r (loaded world)) _ NoMemory c.from_residual-in_err-append.ensures tt
+pub returns-in_err-behind-clause-load : goal.returns-in_err-behind-clause-load
+returns-in_err-behind-clause-load g c = λ world is.
+    err_is (λ r. IsAnswer r (loaded world)) _ NoMemory c.from_residual-in_err-behind.ensures tt
 
-pub returns-in_err-append-clause-cause : goal.returns-in_err-append-clause-cause
-returns-in_err-append-clause-cause g c =
+pub returns-in_err-behind-clause-cause : goal.returns-in_err-behind-clause-cause
+returns-in_err-behind-clause-cause g c =
     err_is (λ r. Counted (is_read_fault r) (g.F.Files.fault_count c.args.files.now) (g.F.Files.fault_count c.load.new.files)) _ NoMemory
-    c.from_residual-in_err-append.ensures (c.in_ok-loaded.ensures.cause ∙ c.in_ok-pairs.ensures.cause)
+    c.from_residual-in_err-behind.ensures (c.in_ok-loaded.ensures.cause ∙ c.in_ok-build_files.ensures.cause)
