@@ -19,5 +19,6 @@ mod refusal;
 
 pub use init_machine::{AllowLine, Context, PolicyView};
 pub use laws::{documented_contexts, each_text_has_one_reading};
+pub use line::{all_words, first_word, is_comment};
 pub use policy::Policy;
 pub use refusal::PolicyRefusal;

@@ -11,7 +11,6 @@ ghost use Rattle.refusal_causes.specs.Contexts.{IsUnrefused};
 mod allow;
 pub mod cause;
 mod context;
-mod words;
 
 use crate::lines::lines;
 use allow::allow_line_cause;

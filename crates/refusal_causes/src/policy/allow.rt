@@ -4,8 +4,8 @@ ghost use Rattle.std.specs.Prelude.{◌≡◌, IfOk};
 ghost use Rattle.refusal_causes.specs.Allows as spec;
 
 use super::cause::AllowCause;
-use super::words::{all_words, is_comment};
 use init_base::NoMemory;
+use prop_contexts::{all_words, is_comment};
 use std::alloc::Global;
 
 /// Why a line is bad.

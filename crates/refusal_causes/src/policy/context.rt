@@ -7,8 +7,8 @@ ghost use Rattle.refusal_causes.specs.Contexts as spec;
 ghost use Rattle.refusal_causes.specs.Misfits.{line_number};
 
 use super::cause::ContextCause;
-use super::words::{all_words, first_word, is_comment};
 use init_base::{NoMemory, Text};
+use prop_contexts::{all_words, first_word, is_comment};
 use std::alloc::Global;
 
 /// The name of the line for all names that no other line is for.
