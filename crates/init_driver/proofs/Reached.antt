@@ -24,6 +24,8 @@ use Rattle.machine_laws.proofs.Legal.{history_is_legal, inputs_of_history, same_
 use Rattle.machine_laws.proofs.Stored.{stores_while_saving}
 use Rattle.machine_laws.proofs.Printable.{saved_pairs_are_typed, saved_pairs_ascend, saved_pairs_print}
 use Rattle.persist_file.specs.Store.{are_saved, are_typed, is_saved, names_ascend}
+use Rattle.property_area.specs.Area.{begins}
+use Rattle.property_area.specs.declared.view.AreaView.{AreaView}
 use Rattle.script_lang.specs.Inputs.{act_inputs, InOrder}
 use Rattle.script_lang.specs.declared.script.Act.{Act}
 use Rattle.script_lang.specs.declared.script.Client.{Client}
@@ -182,6 +184,10 @@ due_same config policy s diagnostics script = λ i.
     due_with (report_same config policy s diagnostics script i) (λ n. given_same config policy s (take n (InOrder script)) i) (given_same config policy s (InOrder script) i)
 
 -- what is due from the first state
+-- what an area in which nothing was set has as many words as gives
+pub begins_with : {X : Type 0} (f : ℕ → X) (x : X) (view : AreaView) (words : ℕ) → view ≡ begins words → x ≡ f view.words → x ≡ f words
+begins_with f x view words is same = same ∙ ap (λ (v : AreaView). f v.words) is
+
 pub due_opened : (config config' : Config) (policy policy' : PolicyLines) (words : ℕ) (s : State) (diagnostics : List Diagnostic) (script : Script)
     → config' ≡ without_saved config → policy' ≡ policy → s ≡ first_state (opening_of config policy words)
     → due_from config' policy' s diagnostics script ≡ due_of (opening_of config policy words) diagnostics script

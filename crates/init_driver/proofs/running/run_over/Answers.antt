@@ -1,12 +1,11 @@
-use Rattle.std.proofs.Common.{◌∙◌, subst, ap}
+use Rattle.std.proofs.Common.{subst}
 use Rattle.std.proofs.lemmas.Result.{err_from_is_err_and}
 use Rattle.init_core.specs.Core.{opening_of}
 use Rattle.init_machine.specs.State.{first_state}
-use Rattle.property_area.specs.declared.view.AreaView.{AreaView}
 use Rattle.init_driver.specs.Keeper.{seen_by}
 use Rattle.init_driver.specs.Run.{Leaves}
 use Rattle.init_driver.proofs.Done.{recorded_first}
-use Rattle.init_driver.proofs.Reached.{due_opened, reached_first}
+use Rattle.init_driver.proofs.Reached.{begins_with, due_opened, reached_first}
 use Rattle.init_driver.proofs.Texts.{nothing_left}
 use Rattle.init_driver.proofs.running.run_over.Goals as goal
 
@@ -28,16 +27,15 @@ returns-clause-leaves g c =
     let ok = c.in_ok-core.ensures in
     let core = c.in_ok-core.core in
     let seen = seen_by g.P.Keeper.held g.P.Keeper.TellsCrash g.P.Keeper.moment g.P.Keeper.MayLeave in
-    let words = ap (λ (v : AreaView). v.words) c.requires.seat.1 in
     subst (Leaves c.drive_whole.result (g.K.Sink.taken c.args.out.now) (g.K.Sink.taken c.drive_whole.new.out) (seen c.args.keeper.now) (seen c.drive_whole.new.keeper))
     (due_opened setup.config core.config setup.policy core.policy c.args.script.now.words core.state setup.diagnostics c.args.script.now ok.config ok.policy
-    (ok.state ∙ ap (λ w. first_state (opening_of setup.config setup.policy w)) words)) c.drive_whole.ensures.leaves
+    (begins_with (λ w. first_state (opening_of setup.config setup.policy w)) _ _ _ c.requires.seat.1 ok.state)) c.drive_whole.ensures.leaves
 
 pub returns-clause-seat : goal.returns-clause-seat
 returns-clause-seat g c =
     let setup = c.args.setup in
     let ok = c.in_ok-core.ensures in
     let core = c.in_ok-core.core in
-    let words = ap (λ (v : AreaView). v.words) c.requires.seat.1 in
     recorded_first c.drive_whole.result setup.config core.config setup.policy core.policy c.args.script.now.words core.state setup.diagnostics c.args.script.now core.desk.opening ok.config ok.policy
-    (ok.state ∙ ap (λ w. first_state (opening_of setup.config setup.policy w)) words) (ok.opening ∙ ap (λ w. opening_of setup.config setup.policy w) words) c.drive_whole.ensures.seat
+    (begins_with (λ w. first_state (opening_of setup.config setup.policy w)) _ _ _ c.requires.seat.1 ok.state)
+    (begins_with (opening_of setup.config setup.policy) _ _ _ c.requires.seat.1 ok.opening) c.drive_whole.ensures.seat
