@@ -101,6 +101,11 @@ cons_is : {B : Type 0} (found : Option B) (rest : List B) → cons_option found 
 cons_is None rest = refl
 cons_is (Some x) rest = refl
 
+-- the item of a loop over the acts
+pub act_here : (items acts : List Act) (k : ℕ) (act : Act) → items ≡ acts → k < length items → act ≡ get_or items k act
+    → (k < length acts) × (act ≡ get_or acts k act)
+act_here items acts k act same within at = subst (λ (left : List Act). (k < length left) × (act ≡ get_or left k act)) same (within, at)
+
 pub amid_begins : (script : Script) (a : Acted) → IsAmid script a a script.acts
 amid_begins script a = record { done = []; all = refl; answers = answers_nothing a }
 

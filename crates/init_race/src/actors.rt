@@ -1,21 +1,22 @@
 //! The actors of a script: the main actor and the clients, each with its reader.
 
-ghost use Rattle.std.specs.Prelude.{◌≡◌, ◌≤◌, ◌∷◌, ◌⊎◌, ℕ, [], IfSome, length, not, replicate};
+ghost use Rattle.std.specs.Prelude.{◌≡◌, ◌≤◌, ◌∷◌, ◌⊎◌, ℕ, [], true, IfOk, IfSome, length, not, replicate};
 ghost use Rattle.std.specs.List.{filter_map, flat_map};
 ghost use Rattle.init_base.specs.Name.{LegalName};
 ghost use Rattle.init_driver.specs.Run.{AsksAreMet};
+ghost use Rattle.init_machine.specs.declared.client.ClientItem.TheVariants.{Told};
 ghost use Rattle.init_machine.specs.declared.input.Input.TheVariants as Input;
 ghost use Rattle.init_race.specs.Asks.{asks-prop};
-ghost use Rattle.init_race.specs.Acting.{AnswersAll, AsksInputs, IsThrough, begun};
+ghost use Rattle.init_race.specs.Acting.{AnswersAll, AsksInputs, GoesOn, IsThrough, begun};
 ghost use Rattle.property_service.specs.Back.{has_entry};
 ghost use Rattle.property_service.specs.Service.{DeclaredIn, IsNoSet};
 ghost use Rattle.script_lang.specs.Inputs.{ask_by, main_inputs, part_of};
 ghost use Rattle.script_lang.specs.Laws.{IsAskAmong, ReadsLegal};
 ghost use Rattle.script_lang.specs.declared.script.Ask.TheVariants as ask;
+ghost use Rattle.trace_audit.specs.Audited.{is_answer};
 
 use crate::gate::{Gate, Point};
-use crate::reading::read;
-use init_base::{List, Text};
+use init_base::{List, NoMemory, Text};
 use init_machine::{Input, Pair, Reading, SetRefusal};
 use property_area::{Area, Reader};
 use property_service::{Accepted, AreaName, Shared};
@@ -215,9 +216,20 @@ impl<'s, 'a, N: AreaName, R: Wait, G: Gate> Stage<'s, 'a, N, R, G> {
             mut reader,
             mut readings,
         } = acted;
-        let reading = read(self.alloc, self.area, &mut reader, name).ok()?;
+        let reading = self.told(&mut reader, name).ok()?;
         readings.push(reading).ok()?;
         Some(Acted { reader, readings })
+    }
+
+    /// One attempt to read a property with a client's reader. The answer is what the client was told.
+    fn told(&self, reader: &mut Reader, name: &Text) -> Result<Reading, NoMemory>
+        requires area { reader.old.table ≡ N.area }
+        requires legal { LegalName name.now }
+        ensures told { IfOk result (λ reading. GoesOn reader.old reader.new (Told reading ∷ [])) }
+        ensures answers { IfOk result (λ reading. is_answer (ask.Read name.now) reading ≡ true) }
+        ensures table { reader.new.table ≡ reader.old.table }
+    {
+        init_driver::read(self.alloc, self.area, reader, name)
     }
 
     fn sync(&self, acted: Acted) -> Option<Acted>

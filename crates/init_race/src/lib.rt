@@ -7,7 +7,6 @@
 mod actors;
 mod gate;
 mod racing;
-mod reading;
 mod seating;
 mod threads;
 
