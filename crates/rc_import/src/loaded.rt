@@ -18,7 +18,7 @@ pub struct Loaded {
 impl Loaded {
     /// The same behind the build files, which were read before: with their pairs, and their diagnostics first.
     pub fn behind(self, build_files: BuildProps) -> Result<Loaded, NoMemory>
-        ensures { IfOk result (λ loaded. loaded ≡ behind_build_files build_files self.entry) }
+        ensures { IfOk result (λ loaded. loaded ≡ behind_build_files build_files self) }
     {
         let BuildProps {
             pairs,
