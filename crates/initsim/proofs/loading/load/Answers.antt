@@ -3,7 +3,7 @@ use Rattle.init_base.specs.Faults.{Counted}
 use Rattle.initsim.specs.Stops.{GivesLoad, has_read_fault}
 use Rattle.initsim.specs.declared.stop.Stop.TheVariants.{NoMemory}
 use Rattle.rc_import.proofs.BuildFiles.{world_viewed}
-use Rattle.initsim.proofs.RcFiles.{load_refused}
+use Rattle.initsim.proofs.RcFiles.{load_read, load_refused}
 use Rattle.rc_import.proofs.Outcomes.{err_is, told}
 use Rattle.initsim.proofs.loading.load.Goals as goal
 
@@ -22,3 +22,10 @@ pub returns-in_err-behind-clause-cause : goal.returns-in_err-behind-clause-cause
 returns-in_err-behind-clause-cause g c =
     err_is (λ r. Counted (has_read_fault r) (g.F.Files.fault_count c.args.files.now) (g.F.Files.fault_count c.load.new.files)) _ NoMemory
     c.from_residual-in_err-behind.ensures (c.in_ok-loaded.ensures.cause ∙ c.in_ok-build_files.ensures.cause)
+
+pub returns-clause-load : goal.returns-clause-load
+returns-clause-load g c = λ world is.
+    let files = told _ _ world.tree is.tree_is c.in_ok-build_files.ensures.props in
+    load_read world c.in_ok-build_files.build_files c.in_ok-loaded.loaded c.in_ok-behind.field-0 files c.in_ok-behind.ensures
+    (c.in_ok-loaded.ensures.loaded world
+    (world_viewed _ _ _ _ world c.in_ok-build_files.ensures.tree c.in_ok-view.ensures files.pairs_are is))
