@@ -2,7 +2,7 @@
 import re
 
 from product.device import read_plain
-from product.texts import BAD_GIVEN, MOST_VALUE_BYTES, Stop, bytes_of, counted, is_legal_name, is_utf8, text_of
+from product.texts import BAD_GIVEN, MOST_VALUE_BYTES, Stop, bytes_of, counted, is_legal_name, is_utf8, line_fault, text_of
 
 
 # The types that the store spells; string, double and size are any.
@@ -73,6 +73,8 @@ def read_dump(path):
 def take_boot(path, found, report):
     """The properties of the dump that a bootloader gives."""
     pairs = {name: value for name, value in found.items() if name.startswith("ro.boot.") and not fault_of(name, value)}
+    for name in [it for it in pairs if line_fault(pairs[it])]:
+        report.left(f"{path}: {name}: its value {line_fault(pairs.pop(name))}")
     if pairs:
         report.took(f"{path}: {counted(len(pairs), 'property', 'properties')} of the bootloader (ro.boot.)")
     return pairs

@@ -62,6 +62,13 @@ def most_value_bytes(name):
     return MOST_READ_ONLY_VALUE_BYTES if name.startswith("ro.") else MOST_VALUE_BYTES
 
 
+def line_fault(value):
+    """Why no line of a build file can have the value, if none can. Blanks at its ends would be dropped."""
+    if "\n" in value or "\r" in value:
+        return "has a line feed or a carriage return"
+    return None if value == value.strip(" \t") else "has blanks at its ends"
+
+
 def is_utf8(text):
     try:
         text.encode("utf-8")

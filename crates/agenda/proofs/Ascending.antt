@@ -73,3 +73,9 @@ pub ascends_from_sorted : (xs : List ℕ) → IsStrictlySortedBy nat_cmp xs → 
 unfolding IsStrictlySortedBy
 ascends_from_sorted [] sorted = tt
 ascends_from_sorted (x ∷ xs) sorted = (above_from_less x xs sorted.0, ascends_from_sorted xs sorted.1)
+
+-- no numbers ascend
+pub none_ascend : (xs : List ℕ) → xs ≡ [] → IsStrictlySortedBy nat_cmp xs
+unfolding IsStrictlySortedBy
+none_ascend [] none = tt
+none_ascend (x ∷ xs) none = absurd (cc none)

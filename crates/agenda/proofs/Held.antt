@@ -1,9 +1,10 @@
 -- What an ordered set of moments holds, and which of its first ones are due.
-use Rattle.std.proofs.Common.{◌≡◌, ℕ, Bool, true, false, cond, not, ◌&&◌, ◌||◌, eqb, nat_le, List, [], ◌∷◌, map, refl, sym, ap, ◌∙◌, arith}
+use Rattle.std.proofs.Common.{◌≡◌, ℕ, Bool, true, false, cond, not, ◌&&◌, ◌||◌, eqb, nat_le, nat_lt, suc, All, List, [], ◌∷◌, map, refl, sym, ap, ◌∙◌, arith}
 use Rattle.std.proofs.lemmas.Grind.{common_steps}
 use Rattle.std.proofs.lemmas.List.Sums.{take_while-cons}
 use Rattle.std.specs.List.{list_any, take_while, AllByRecursion}
 use Rattle.std.specs.List.Sorted.{IsStrictlySortedBy}
+use Rattle.std.specs.BTreeMap.Range.{IsLeBy}
 use Rattle.std.specs.Ordering.{nat_cmp, ordering_then, is_eq}
 use Rattle.std.specs.declared.cmp.Ordering.{Ordering}
 use Rattle.std.specs.declared.cmp.Ordering.TheVariants.{Less, Equal, Greater}
@@ -112,3 +113,12 @@ due_first now n (a ∷ moments) ordered =
 -- the members of a set that was made of numbers are the numbers
 pub members_same : (n : ℕ) (set numbers : List ℕ) → list_any (λ k. is_eq (nat_cmp n k)) set ≡ list_any (λ k. is_eq (nat_cmp n k)) numbers → list_any (eqb n) set ≡ list_any (eqb n) numbers
 members_same n set numbers e = sym (λ i. list_any (λ k. tie_number n k i) set) ∙ e ∙ (λ i. list_any (λ k. tie_number n k i) numbers)
+
+not_due : (now : ℕ) (a b : ℕ × ℕ) → nat_lt now a.0 ≡ true → IsLeBy moment_cmp a b → nat_le b.0 now ≡ false
+not_due now a b late least = grind (arith, common_steps)
+
+-- where the first moment isn't due, none is
+pub none_due : (now n : ℕ) (first : ℕ × ℕ) (moments : List (ℕ × ℕ)) → nat_lt now first.0 ≡ true → All (IsLeBy moment_cmp first) moments → is_due now n moments ≡ false
+none_due now n first [] late all = refl
+none_due now n first (a ∷ moments) late all =
+    λ i. (not_due now first a late (all 0 a (omega arith)) i && eqb n a.1) || none_due now n first moments late (λ k d below. all (suc k) d (omega (arith, below))) i

@@ -1,7 +1,7 @@
 //! Numbers in the order of times: which of them are due at a time is found in time of how many are due.
 #![tactic(auto)]
 
-ghost use Rattle.std.specs.Prelude.{◌≡◌, ◌==◌, ◌&&◌, ◌||◌, [], ℕ, map, nat_eq, nat_le, not, IfOk, OnOk, OnErr};
+ghost use Rattle.std.specs.Prelude.{◌≡◌, ◌==◌, ◌&&◌, ◌||◌, [], ℕ, map, false, nat_eq, nat_le, not, IfOk, IsTrue, OnOk, OnErr};
 ghost use Rattle.std.specs.List.{list_any, take_while};
 ghost use Rattle.std.specs.BTreeSet.{IsFromIterResult, IsOrdered};
 ghost use Rattle.std.specs.List.Sorted.{IsStrictlySortedBy};
@@ -58,9 +58,22 @@ impl Agenda {
         ensures numbers { IfOk result (λ numbers. (n : ℕ) → list_any (nat_eq n) numbers ≡ is_due now n self.now) }
         ensures ascending { IfOk result (IsStrictlySortedBy nat_cmp) }
     {
+        if is_free(&self.moments, now) {
+            return Ok(List::new(alloc));
+        }
         let first = due_first(alloc, &self.moments, now)?;
         let numbers = in_order(alloc, first)?;
         Ok(numbers)
+    }
+}
+
+/// Whether no number stands at a time up to this one.
+fn is_free(moments: &BTreeSet<(u64, usize)>, now: u64) -> bool
+    ensures { IsTrue result → (n : ℕ) → is_due now n moments.now.keys ≡ false }
+{
+    match moments.first() {
+        Some(moment) => moment.0 > now,
+        None => true,
     }
 }
 

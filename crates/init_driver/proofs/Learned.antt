@@ -1,9 +1,10 @@
--- What a client learned by a request, between counts of the sets.
+-- What a client learned by a request, behind a count of the sets.
 use Rattle.std.proofs.Common.{◌≡◌, ℕ, ◌≤◌, List, [], ◌∷◌, ◌++◌, length, Option, Some, None, Result, Ok, Err, append-nil, append_assoc, refl, sym, ap, ◌∙◌, subst, arith}
 use Rattle.std.specs.Result.{IfOk}
 use Rattle.init_base.specs.Value.{max_value_len}
 use Rattle.init_machine.specs.History.{Legal, sets_of}
-use Rattle.init_machine.specs.Orderly.{ListStands, readings_in}
+use Rattle.init_machine.specs.Orderly.{ListStands, readings_in, seen_through}
+use Rattle.init_machine.specs.Sets.{Set}
 use Rattle.init_machine.specs.State.{Opening, State, value_now}
 use Rattle.init_machine.specs.declared.client.ClientItem.{ClientItem}
 use Rattle.init_machine.specs.declared.client.ClientItem.TheVariants.{Asked, Told}
@@ -15,13 +16,14 @@ use Rattle.property_area.specs.Seats.{IsSameReader, Seated}
 use Rattle.property_area.specs.declared.reader.ReadAnswer.{ReadAnswer}
 use Rattle.property_area.specs.declared.reader.ReadAnswer.TheVariants as answer
 use Rattle.property_area.specs.declared.view.AreaView.{AreaView}
+use Rattle.property_service.specs.Back.{ComesAgain}
 use Rattle.property_service.specs.Service.{Agrees, ServiceView, state_after}
 use Rattle.script_lang.specs.declared.script.Ask.TheVariants as ask
 use Rattle.init_driver.specs.Learning.{Counts, HasSameHistory, Learns}
 use Rattle.init_driver.specs.Readings.{read_as, read_now}
-use Rattle.init_driver.specs.Seat.{told_around}
+use Rattle.init_driver.specs.Seat.{told_with}
 use Rattle.init_driver.specs.Told.{FitsIn, TellsRead, reading_of}
-use Rattle.init_driver.proofs.NowRead.{BeforeCount, before_count, count_now, now_caught, now_read}
+use Rattle.init_driver.proofs.NowRead.{IsWithin, count_now, last_within, now_caught, now_read}
 
 -- ---- a reading of an answer
 
@@ -38,15 +40,12 @@ readings_more [] told = refl
 readings_more (Told first ∷ list) told = ap (λ rs. first ∷ rs) (readings_more list told)
 readings_more (Asked request ∷ list) told = readings_more list told
 
-three_told : (list one two all : List ClientItem) (n m : ℕ) (told : Reading) → one ≡ list ++ Told (reading.Synced n) ∷ [] → two ≡ one ++ Told told ∷ []
-    → all ≡ two ++ Told (reading.Synced m) ∷ [] → readings_in all ≡ readings_in list ++ (reading.Synced n ∷ told ∷ reading.Synced m ∷ [])
-three_told list one two all n m told first second third =
+two_told : (list one all : List ClientItem) (n : ℕ) (told : Reading) → one ≡ list ++ Told (reading.Synced n) ∷ [] → all ≡ one ++ Told told ∷ []
+    → readings_in all ≡ readings_in list ++ (reading.Synced n ∷ told ∷ [])
+two_told list one all n told first second =
     let a = reading.Synced n in
-    let b = reading.Synced m in
     let front : readings_in one ≡ readings_in list ++ a ∷ [] = ap readings_in first ∙ readings_more list a in
-    let middle : readings_in two ≡ (readings_in list ++ a ∷ []) ++ told ∷ [] = ap readings_in second ∙ readings_more one told ∙ ap (λ rs. rs ++ told ∷ []) front in
-    ap readings_in third ∙ readings_more two b ∙ ap (λ rs. rs ++ b ∷ []) middle
-    ∙ append_assoc (readings_in list ++ a ∷ []) (told ∷ []) (b ∷ []) ∙ append_assoc (readings_in list) (a ∷ []) (told ∷ b ∷ [])
+    ap readings_in second ∙ readings_more one told ∙ ap (λ rs. rs ++ told ∷ []) front ∙ append_assoc (readings_in list) (a ∷ []) (told ∷ [])
 
 pub tells_list : (v after : AreaView) (name : List ℕ) (told : Reading) → TellsRead v name told after → after.list ≡ v.list ++ Told told ∷ []
 tells_list v after name (reading.Found other number value) h = ap (λ (x : AreaView). x.list) h.2
@@ -55,14 +54,14 @@ tells_list v after name (reading.Again other number first second) h = ap (λ (x 
 tells_list v after name (reading.Synced number) h = absurd h
 tells_list v after name (reading.Caught number) h = absurd h
 
-around_read : (name : List ℕ) (count : ℕ) (value : Option (List ℕ)) → told_around (read_as name count value) ≡ reading.Synced count ∷ read_as name count value ∷ reading.Synced count ∷ []
-around_read name count None = refl
-around_read name count (Some value) = refl
+with_read : (name : List ℕ) (count : ℕ) (value : Option (List ℕ)) → told_with (read_as name count value) ≡ reading.Synced count ∷ read_as name count value ∷ []
+with_read name count None = refl
+with_read name count (Some value) = refl
 
--- ---- a look-up between two counts
+-- ---- a look-up behind a count, of a reader that comes back
 
-module _ (s t u : ServiceView) (reader one two back : Seated) (n m : ℕ) (first : Counts s reader one n) (early : HasSameHistory s t) (kept : IsSameReader one two)
-    (last : Counts t two back m) (late : HasSameHistory t u) (agrees : Agrees u) where
+module _ (s t u : ServiceView) (reader one two back : Seated) (n : ℕ) (first : Counts s reader one n) (early : HasSameHistory s t) (kept : IsSameReader one two)
+    (last : ComesAgain (sets_of t.history) two back) (late : HasSameHistory t u) (agrees : Agrees u) where
   abbrev now : State
   now = state_after s
 
@@ -72,49 +71,47 @@ module _ (s t u : ServiceView) (reader one two back : Seated) (n m : ℕ) (first
   seen : seen_by one.view.cell ≡ length (sets_of s.history)
   seen = first.comes.number ∙ first.count_is
 
-  last_is : m ≡ length (sets_of s.history)
-  last_is = last.count_is ∙ ap (λ (h : List Entry). length (sets_of h)) early.history
-
-  before : (told : Reading) → two.view.list ≡ one.view.list ++ Told told ∷ [] → BeforeCount (sets_of s.history) told (length (sets_of s.history))
-  before told list =
-      let ends : back.view.list ≡ (one.view.list ++ Told told ∷ []) ++ Told (reading.Synced m) ∷ [] =
-      last.comes.list ∙ ap (λ (l : List ClientItem). l ++ Told (reading.Synced m) ∷ []) list in
-      let stands : ListStands (sets_of s.history) None back.view.began ((one.view.list ++ Told told ∷ []) ++ Told (reading.Synced m) ∷ []) =
-      subst (λ (x : List Entry × List ClientItem). ListStands (sets_of x.0) None back.view.began x.1) (λ j. (early.history j, ends j)) last.stands in
-      subst (λ k. BeforeCount (sets_of s.history) told k) last_is (before_count (sets_of s.history) back.view.began one.view.list told m stands)
+  within : (told : Reading) → two.view.list ≡ one.view.list ++ Told told ∷ [] → IsWithin (sets_of s.history) told
+  within told list =
+      let sets = sets_of s.history in
+      let began = two.view.began in
+      let same : sets_of t.history ≡ sets = ap sets_of early.history in
+      last_within sets began one.view.list told
+      (subst (λ (x : List Set × List ClientItem). ListStands x.0 None began x.1) (λ j. (same j, list j)) last.stands)
+      (subst (λ (x : List Set × List ClientItem). seen_through (length began) x.1 ≤ length x.0) (λ j. (same j, list j)) last.within)
 
   pub learned_read : (name : List ℕ) (told : Reading) → TellsRead one.view name told two.view → Learns s reader back (ask.Read name) (Some told)
   learned_read name told tells =
       let list = tells_list one.view two.view name told tells in
-      let is : told ≡ read_now now name = now_read s.opening s.history legal one.view two.view name told seen tells (before told list) in
+      let is : told ≡ read_now now name = now_read s.opening s.history legal one.view two.view name told seen tells (within told list) in
       let front : n ≡ now.props.count = count_now s.opening s.history legal n first.count_is in
-      let end : m ≡ now.props.count = count_now s.opening s.history legal m last_is in
       record {
-        table = last.comes.table ∙ kept.0 ∙ first.comes.table;
-        who = last.comes.who ∙ kept.2 ∙ first.comes.who;
-        opening = last.comes.opening ∙ kept.4 ∙ first.comes.opening;
+        table = last.table ∙ kept.0 ∙ first.comes.table;
+        who = last.who ∙ kept.2 ∙ first.comes.who;
+        opening = last.opening ∙ kept.4 ∙ first.comes.opening;
         told_is = ap Some is;
         heard =
-            three_told reader.view.list one.view.list two.view.list back.view.list n m told first.comes.list list last.comes.list
+            ap readings_in last.list
+            ∙ two_told reader.view.list one.view.list two.view.list n told first.comes.list list
             ∙ ap (λ rs. readings_in reader.view.list ++ rs)
-            ((λ j. reading.Synced (front j) ∷ is j ∷ reading.Synced (end j) ∷ [])
-            ∙ sym (around_read name now.props.count (value_now now name)) ∙ ap told_around (sym is) ∙ sym (append-nil (told_around told)));
+            ((λ j. reading.Synced (front j) ∷ is j ∷ [])
+            ∙ sym (with_read name now.props.count (value_now now name)) ∙ ap told_with (sym is) ∙ sym (append-nil (told_with told)));
       }
 
   pub learned_serial : (number : ℕ) → Catches one.view number two.view → Learns s reader back ask.Catch (Some (reading.Caught number))
   learned_serial number catches =
       let list : two.view.list ≡ one.view.list ++ Told (reading.Caught number) ∷ [] = ap (λ (x : AreaView). x.list) catches.1 in
-      let is : number ≡ now.props.count = now_caught s.opening s.history legal one.view number seen catches.0 (before (reading.Caught number) list) in
+      let is : number ≡ now.props.count = now_caught s.opening s.history legal one.view number seen catches.0 (within (reading.Caught number) list) in
       let front : n ≡ number = count_now s.opening s.history legal n first.count_is ∙ sym is in
-      let end : m ≡ number = count_now s.opening s.history legal m last_is ∙ sym is in
       record {
-        table = last.comes.table ∙ kept.0 ∙ first.comes.table;
-        who = last.comes.who ∙ kept.2 ∙ first.comes.who;
-        opening = last.comes.opening ∙ kept.4 ∙ first.comes.opening;
+        table = last.table ∙ kept.0 ∙ first.comes.table;
+        who = last.who ∙ kept.2 ∙ first.comes.who;
+        opening = last.opening ∙ kept.4 ∙ first.comes.opening;
         told_is = ap (λ k. Some (reading.Caught k)) is;
         heard =
-            three_told reader.view.list one.view.list two.view.list back.view.list n m (reading.Caught number) first.comes.list list last.comes.list
-            ∙ ap (λ rs. readings_in reader.view.list ++ rs) (λ j. reading.Synced (front j) ∷ reading.Caught number ∷ reading.Synced (end j) ∷ []);
+            ap readings_in last.list
+            ∙ two_told reader.view.list one.view.list two.view.list n (reading.Caught number) first.comes.list list
+            ∙ ap (λ rs. readings_in reader.view.list ++ rs) (λ j. reading.Synced (front j) ∷ reading.Caught number ∷ []);
       }
 
 -- ---- a count alone

@@ -33,7 +33,7 @@ use Rattle.script_lang.specs.declared.script.Ask.{Ask}
 use Rattle.init_driver.specs.Learning.{Learns}
 use Rattle.init_driver.specs.Machine.{AllSeated, EachSeated, IsSeated, entry_of, told_to}
 use Rattle.init_driver.specs.Readings.{readings_in as readings_told}
-use Rattle.init_driver.specs.Seat.{readings_at, told_around}
+use Rattle.init_driver.specs.Seat.{readings_at, told_with}
 use Rattle.init_driver.proofs.Courses.{after_more}
 use Rattle.init_driver.proofs.Places.{returned_is, returned_many, seated_at, seated_put, told_returned, told_still}
 
@@ -112,8 +112,8 @@ module _ (area : TableId) (s : ServiceView) (rs : List (Option Seated)) (k : ℕ
   told_taken e back comes = told_still rs k reader back within at (ap readings_in comes.list ∙ asked_more reader.view.list _)
 
   pub told_learned : (ask : Ask) (told : Option Reading) (back : Seated) → Learns s reader back ask told
-      → (q : ℕ) → told_to (set (set rs k None) k (Some back)) q ≡ told_to rs q ++ (if k == q then flat_map told_around (readings_told told) else [])
-  told_learned ask told back learns = told_returned rs k reader back within at (flat_map told_around (readings_told told)) learns.heard
+      → (q : ℕ) → told_to (set (set rs k None) k (Some back)) q ≡ told_to rs q ++ (if k == q then flat_map told_with (readings_told told) else [])
+  told_learned ask told back learns = told_returned rs k reader back within at (flat_map told_with (readings_told told)) learns.heard
 
 -- ---- the end
 

@@ -1,11 +1,11 @@
--- What a reader is told between two counts of the sets that are the same is what is so now.
+-- What a reader is told that had seen all sets, and no more sets are there, is what is so now.
 use Rattle.std.proofs.Common.{◌≡◌, ℕ, ◌≤◌, true, false, List, [], ◌∷◌, ◌++◌, length, Option, Some, None, refl, sym, ap, ◌∙◌, subst, ⊎_elim, arith}
 use Rattle.std.proofs.lemmas.Bool.{cases_Bool}
 use mathlib.Core.Option.{some}
 use lib.ListN.{get_elem?}
 use Rattle.init_machine.specs.Facts.{MetWrite, Stands}
 use Rattle.init_machine.specs.History.{Legal, after, inputs_of, sets_of}
-use Rattle.init_machine.specs.Orderly.{InOrder, ListStands, count_after, count_before, seen_after, seen_through}
+use Rattle.init_machine.specs.Orderly.{ListStands, seen_after, seen_through}
 use Rattle.init_machine.specs.Serial.{is_dirty}
 use Rattle.init_machine.specs.Sets.{Set, value_at}
 use Rattle.init_machine.specs.State.{Opening, State, value_now}
@@ -40,35 +40,22 @@ met_none sets number name first second seen h = ⊎_elim
     absurd (omega arith))
     (cases_Bool (is_dirty second))
 
--- ---- a reading that stands before a count
+-- ---- the last reading of a list
 
-at_one : (list rest : List ClientItem) (item : ClientItem) → get_elem? (list ++ item ∷ rest) (length list) ≡ some item
-at_one [] rest item = refl
-at_one (first ∷ list) rest item = at_one list rest item
+at_end_is : (list : List ClientItem) (item : ClientItem) → get_elem? (list ++ item ∷ []) (length list) ≡ some item
+at_end_is [] item = refl
+at_end_is (first ∷ list) item = at_end_is list item
 
-one_end : (list : List ClientItem) (item last : ClientItem) → (list ++ item ∷ []) ++ last ∷ [] ≡ list ++ item ∷ last ∷ []
-one_end [] item last = refl
-one_end (first ∷ list) item last = ap (λ (l : List ClientItem). first ∷ l) (one_end list item last)
-
-seen_before : (seen : ℕ) (list : List ClientItem) (item : ClientItem) → InOrder seen (list ++ item ∷ []) → seen_through seen list ≤ count_before item
-seen_before seen [] item order = order.0
-seen_before seen (first ∷ list) item order = seen_before (count_after first) list item order.2
-
--- a reading before a count stands, and is about no more sets than the count
-pub record BeforeCount (sets : List Set) (reading : Reading) (count : ℕ) : Type 0 where
+-- a reading stands, and is about no more sets than there are
+pub record IsWithin (sets : List Set) (reading : Reading) : Type 0 where
   pub stands : Stands sets None reading
-  pub seen : seen_after reading ≤ count
+  pub seen : seen_after reading ≤ length sets
 
-pub before_count : (sets began : List Set) (list : List ClientItem) (told : Reading) (count : ℕ)
-    → ListStands sets None began ((list ++ Told told ∷ []) ++ Told (reading.Synced count) ∷ []) → BeforeCount sets told count
-before_count sets began list told count h = record {
-  stands =
-      h.each (length list) told
-      (ap (λ (l : List ClientItem). get_elem? l (length list)) (one_end list (Told told) (Told (reading.Synced count)))
-      ∙ at_one list (Told (reading.Synced count) ∷ []) (Told told));
-  seen =
-      subst (λ n. n ≤ count) (seen_through-end (length began) list (Told told))
-      (seen_before (length began) (list ++ Told told ∷ []) (Told (reading.Synced count)) h.orderly.order);
+pub last_within : (sets began : List Set) (list : List ClientItem) (told : Reading) → ListStands sets None began (list ++ Told told ∷ [])
+    → seen_through (length began) (list ++ Told told ∷ []) ≤ length sets → IsWithin sets told
+last_within sets began list told h within = record {
+  stands = h.each (length list) told (at_end_is list (Told told));
+  seen = subst (λ n. n ≤ length sets) (seen_through-end (length began) list (Told told)) within;
 }
 
 -- ---- what is so now
@@ -101,7 +88,7 @@ module _ (o : Opening) (history : List Entry) (legal : Legal o history) where
 
   -- a read of a reader that had seen all sets
   pub now_read : (v behind : AreaView) (name : List ℕ) (told : Reading) → seen_by v.cell ≡ length sets → TellsRead v name told behind
-      → BeforeCount sets told (length sets) → told ≡ read_now s name
+      → IsWithin sets told → told ≡ read_now s name
   now_read v behind name (reading.Found other number value) seen tells h =
       let least = tells.1 in
       let most = h.seen in
@@ -117,7 +104,7 @@ module _ (o : Opening) (history : List Entry) (legal : Legal o history) where
   count_now count is = is ∙ sym (sets_count o history legal)
 
   -- the count that such a reader loads
-  pub now_caught : (v : AreaView) (number : ℕ) → seen_by v.cell ≡ length sets → seen_by v.cell ≤ number → BeforeCount sets (reading.Caught number) (length sets)
+  pub now_caught : (v : AreaView) (number : ℕ) → seen_by v.cell ≡ length sets → seen_by v.cell ≤ number → IsWithin sets (reading.Caught number)
       → number ≡ s.props.count
   now_caught v number seen least h =
       let most = h.seen in

@@ -19,7 +19,7 @@ use Rattle.script_lang.specs.declared.script.Act.TheVariants as act
 use Rattle.script_lang.specs.declared.script.Ask.{Ask}
 use Rattle.script_lang.specs.declared.script.Client.{Client}
 use Rattle.init_driver.specs.Course.{told_at, told_from}
-use Rattle.init_driver.specs.Seat.{AreTold, told_around}
+use Rattle.init_driver.specs.Seat.{AreTold, told_with}
 use Rattle.init_driver.specs.Readings.{empty_parts, parts_from, readings_from, readings_in, told_by, told_now}
 
 abbrev with_readings : ClientPart → List Reading → ClientPart
@@ -156,23 +156,23 @@ told_fresh told id (client ∷ clients) none = (none id, told_fresh told (id + 1
 
 -- an act told its client what it tells, between counts
 pub told_more : (told told' : ℕ → List Reading) (s : State) (act : Act) (id : ℕ) (parts : List ClientPart)
-    → ((q : ℕ) → told' q ≡ told q ++ flat_map told_around (told_by q s act)) → AreTold told id parts → AreTold told' id (told_at s act id parts)
+    → ((q : ℕ) → told' q ≡ told q ++ flat_map told_with (told_by q s act)) → AreTold told id parts → AreTold told' id (told_at s act id parts)
 told_more told told' s act id [] more h = tt
 told_more told told' s act id (part ∷ parts) more h = (
-  more id ∙ ap (λ rs. rs ++ flat_map told_around (told_by id s act)) h.0 ∙ sym (flat_map-append told_around part.readings (told_by id s act)),
+  more id ∙ ap (λ rs. rs ++ flat_map told_with (told_by id s act)) h.0 ∙ sym (flat_map-append told_with part.readings (told_by id s act)),
   told_more told told' s act (id + 1) parts more h.1,
 )
 
 -- the same, of the request of an act
 pub told_by_ask : (s : State) (a : Act) (who : ClientId) (ask : Ask) (reading : Option Reading) (q : ℕ) → a ≡ act.Ask who ask → reading ≡ told_now s ask
-    → (if who.0 == q then flat_map told_around (readings_in reading) else []) ≡ flat_map told_around (told_by q s a)
+    → (if who.0 == q then flat_map told_with (readings_in reading) else []) ≡ flat_map told_with (told_by q s a)
 told_by_ask s a who ask reading q is tells =
-    ap (λ (r : Option Reading). if who.0 == q then flat_map told_around (readings_in r) else []) tells
-    ∙ (elim (who.0 == q) as (λ b. (if b then flat_map told_around (readings_in (told_now s ask)) else []) ≡ flat_map told_around (if b then readings_in (told_now s ask) else [])) [
+    ap (λ (r : Option Reading). if who.0 == q then flat_map told_with (readings_in r) else []) tells
+    ∙ (elim (who.0 == q) as (λ b. (if b then flat_map told_with (readings_in (told_now s ask)) else []) ≡ flat_map told_with (if b then readings_in (told_now s ask) else [])) [
       | true ↦ refl
       | false ↦ refl
     ])
-    ∙ ap (λ (x : Act). flat_map told_around (told_by q s x)) (sym is)
+    ∙ ap (λ (x : Act). flat_map told_with (told_by q s x)) (sym is)
 
 -- a part was pushed to
 pub on_ok_told : {T E : Type 0} (r : Result T E) (told : ℕ → List Reading) (x y : List ClientPart) → OnOk r (x ≡ y) → AreTold told 1 y → OnOk r (AreTold told 1 x)

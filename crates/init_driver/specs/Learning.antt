@@ -11,7 +11,7 @@ use Rattle.property_service.specs.Back.{ComesBack}
 use Rattle.property_service.specs.Service.{ServiceView, state_after}
 use Rattle.script_lang.specs.declared.script.Ask.{Ask}
 use Rattle.init_driver.specs.Readings.{readings_in as readings_told, told_now}
-use Rattle.init_driver.specs.Seat.{told_around}
+use Rattle.init_driver.specs.Seat.{told_with}
 
 -- the desk has the same opening and the same history, and isn't spent where it wasn't
 pub record HasSameHistory (s t : ServiceView) : Type 0 where
@@ -31,4 +31,4 @@ pub record Learns (s : ServiceView) (reader after : Seated) (ask : Ask) (told : 
   pub who : after.view.who ≡ reader.view.who
   pub opening : after.view.opening ≡ reader.view.opening
   pub told_is : told ≡ told_now (state_after s) ask
-  pub heard : readings_in after.view.list ≡ readings_in reader.view.list ++ flat_map told_around (readings_told told)
+  pub heard : readings_in after.view.list ≡ readings_in reader.view.list ++ flat_map told_with (readings_told told)

@@ -11,20 +11,18 @@ use Rattle.property_area.specs.Area.{list_in}
 use Rattle.property_area.specs.declared.view.AreaView.{AreaView}
 use Rattle.property_service.specs.Record.{recorded, log_of}
 
--- What the area tells a client whose request is answered by a reading: before a look-up, and behind it, the count of sets, which is
--- the reading's number.
-abbrev pub told_around : Reading → List Reading
-told_around (reading.Found name number value) = reading.Synced number ∷ reading.Found name number value ∷ reading.Synced number ∷ []
-told_around (reading.Absent name number) = reading.Synced number ∷ reading.Absent name number ∷ reading.Synced number ∷ []
-told_around (reading.Again name number first second) =
-    reading.Synced number ∷ reading.Again name number first second ∷ reading.Synced number ∷ []
-told_around (reading.Synced number) = reading.Synced number ∷ []
-told_around (reading.Caught number) = reading.Synced number ∷ reading.Caught number ∷ reading.Synced number ∷ []
+-- What the area tells a client whose request is answered by a reading: before a look-up the count of sets, which is the reading's number.
+abbrev pub told_with : Reading → List Reading
+told_with (reading.Found name number value) = reading.Synced number ∷ reading.Found name number value ∷ []
+told_with (reading.Absent name number) = reading.Synced number ∷ reading.Absent name number ∷ []
+told_with (reading.Again name number first second) = reading.Synced number ∷ reading.Again name number first second ∷ []
+told_with (reading.Synced number) = reading.Synced number ∷ []
+told_with (reading.Caught number) = reading.Synced number ∷ reading.Caught number ∷ []
 
 -- each client was told what its part has; the first of these parts is that of the client with this number
 abbrev pub AreTold : (ℕ → List Reading) → ℕ → List ClientPart → Type 0
 AreTold told who [] = ⊤
-AreTold told who (part ∷ parts) = (told who ≡ flat_map told_around part.readings) × AreTold told (who + 1) parts
+AreTold told who (part ∷ parts) = (told who ≡ flat_map told_with part.readings) × AreTold told (who + 1) parts
 
 -- the readings in the list of each client
 abbrev pub readings_at : AreaView → ℕ → List Reading

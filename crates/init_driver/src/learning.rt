@@ -2,6 +2,8 @@
 
 ghost use Rattle.std.specs.Prelude.{◌≡◌, IfOk, OnOk, Some, false};
 ghost use Rattle.init_base.specs.Name.{LegalName};
+ghost use Rattle.init_machine.specs.History.{sets_of};
+ghost use Rattle.property_service.specs.Back.{ComesAgain};
 ghost use Rattle.init_driver.specs.Learning.{Counts, HasSameHistory, Learns};
 ghost use Rattle.script_lang.specs.Laws.{ReadsLegal};
 ghost use Rattle.script_lang.specs.declared.script.Ask.TheVariants as ask;
@@ -14,7 +16,8 @@ use property_service::{AreaName, Desk};
 use script_lang::Ask;
 use std::alloc::Global;
 
-/// The reader, with what a request of its client tells now. A look-up stands between two counts of the sets.
+/// The reader, with what a request of its client tells now. Before a look-up it is told the count of sets, and then it comes back to the
+/// desk, so that what it was told stands in the sets that there are.
 pub(crate) fn learn<N: AreaName>(
     alloc: Global,
     desk: &mut Desk<'_, N>,
@@ -52,7 +55,7 @@ fn learn_value<N: AreaName>(
 {
     let (mut reader, _) = count(desk, reader)?;
     let reading = read(alloc, area, &mut reader, name)?;
-    let (reader, _) = count(desk, reader)?;
+    let reader = renew(desk, reader)?;
     desk.agrees();
     Ok((reader, Some(reading)))
 }
@@ -70,7 +73,7 @@ fn learn_serial<N: AreaName>(
 {
     let (mut reader, _) = count(desk, reader)?;
     let number = reader.catch_up(area);
-    let (reader, _) = count(desk, reader)?;
+    let reader = renew(desk, reader)?;
     desk.agrees();
     Ok((reader, Some(Reading::Caught { number })))
 }
@@ -101,4 +104,18 @@ fn count<N: AreaName>(desk: &mut Desk<'_, N>, reader: Reader) -> Result<(Reader,
         return Err(NoMemory);
     };
     Ok((back.ok_or(NoMemory)?, count))
+}
+
+/// Takes the reader in at the desk and hands it out again. Its client is told nothing.
+fn renew<N: AreaName>(desk: &mut Desk<'_, N>, reader: Reader) -> Result<Reader, NoMemory>
+    requires area { reader.table ≡ N.area }
+    ensures renewed { IfOk result (ComesAgain (sets_of desk.old.history) reader) }
+    ensures desk { OnOk result (HasSameHistory desk.old desk.new) }
+    ensures ready { OnOk result (desk.new.spent ≡ false) }
+{
+    let (back, renewed) = desk.renew(reader);
+    let Ok(()) = renewed else {
+        return Err(NoMemory);
+    };
+    Ok(back.ok_or(NoMemory)?)
 }

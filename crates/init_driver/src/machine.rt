@@ -14,7 +14,7 @@ ghost use Rattle.script_lang.specs.Laws.{ReadsLegal};
 ghost use Rattle.init_driver.specs.Learning.{HasSameHistory};
 ghost use Rattle.init_driver.specs.Machine.{AllSeated, EachSeated, StaysSo, entry_of, machine_of, step_of, told_to};
 ghost use Rattle.init_driver.specs.Readings.{readings_in as readings_told, told_now};
-ghost use Rattle.init_driver.specs.Seat.{readings_at, told_around};
+ghost use Rattle.init_driver.specs.Seat.{readings_at, told_with};
 
 use crate::learning::learn;
 use init_base::{ClientId, List, NoMemory};
@@ -151,7 +151,7 @@ impl<'a, N: AreaName> Machine<'a, N> {
         ensures told { IfOk result (λ told. told ≡ told_now self.old.state ask.now) }
         ensures same { OnOk result (StaysSo self.old self.new) }
         ensures heard { IfOk result (λ told. (q : ℕ) → told_to self.new.readers q
-            ≡ told_to self.old.readers q ++ (if who.0 == q then flat_map told_around (readings_told told) else [])) }
+            ≡ told_to self.old.readers q ++ (if who.0 == q then flat_map told_with (readings_told told) else [])) }
     {
         if self.spent {
             return Err(NoMemory);

@@ -46,7 +46,7 @@ pub struct Setup {
 /// answers. At each entry with a `stored` output the keeper is given the text of the saved pairs before the entry is written.
 ///
 /// The answer is the seat of the area's writer. It has recorded the opening and the history of the report, and each client was told by
-/// the area what its part of the report has, each look-up between two counts of the sets that are its own number.
+/// the area what its part of the report has, each look-up behind a count of the sets that is its own number.
 ///
 /// `Keeper` comes only where the keeper's count of faults rose: then exactly the head and the entries before the one whose
 /// text the keeper was to take are written. `Write` comes only where the sink's count rose. After it, and after `NoMemory`, a

@@ -280,7 +280,6 @@ pub fn race<R: Threads + Wait + Sync, P: Keeper, G: Gate>(
     requires config { IsWellFormed setup.config }
     requires domains { length script.now.clients ≡ length setup.config.domains }
     requires words { (64 ≤ script.now.words) × (script.now.words ≤ 1048576) }
-    requires few { length script.now.clients ≤ 64 }
     requires asks { AsksAreMet script.now }
     ensures raced { IfOk result
         (λ raced. Audited (opening_of setup.config setup.policy script.now.words) setup.diagnostics script.now raced.report) }

@@ -1,5 +1,4 @@
 pub mod Adding
-mod Digits
 mod FieldsRead
 pub mod LinesPlain
 mod Lone

@@ -7,6 +7,7 @@ ghost use Rattle.init_trace.specs.Quoted.{hex16};
 ghost use Rattle.init_trace.specs.Quoted as spec;
 
 use init_base::NoMemory;
+use itoa::Buffer;
 
 /// Adds bytes as they are.
 pub fn put(page: &mut Vec<u8>, bytes: &[u8]) -> Result<(), NoMemory>
@@ -149,9 +150,7 @@ pub fn digits(page: &mut Vec<u8>, number: u64) -> Result<(), NoMemory>
     ensures { OnOk result (page.new.items ≡ page.old.items ++ decimal number) }
 {
     if number < 10 {
-        put_byte(page, b'0' + number as u8)
-    } else {
-        digits(page, number / 10)?;
-        put_byte(page, b'0' + (number % 10) as u8)
+        return put_byte(page, b'0' + number as u8);
     }
+    put(page, Buffer::new().format(number).as_bytes())
 }

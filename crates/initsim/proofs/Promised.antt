@@ -12,7 +12,7 @@ use Rattle.initsim.specs.Outcome.{Ends, Tell, Told}
 use Rattle.initsim.specs.Promise.{Objects, Promise, shown_by, told_by}
 use Rattle.initsim.specs.Script.{ScriptSays}
 use Rattle.initsim.specs.Seats.{GivesSeat, Records}
-use Rattle.initsim.specs.Top.{CanBeDone, IsAsBefore, ReadsScript}
+use Rattle.initsim.specs.Top.{CanBeDone, CanSoak, IsAsBefore, ReadsScript}
 use Rattle.initsim.specs.Trace.{TraceSays}
 use Rattle.initsim.specs.Tree.{IsWorldOf}
 use Rattle.initsim.specs.declared.status.Status.{Status}
@@ -52,6 +52,12 @@ no_check Check runs e = runs
 no_check Audit runs e = runs
 no_check (Soak services) runs e = cc
 
+pub run_is_no_soak : (services : ℕ) → Some Run ≡ Some (Soak services) → ⊥
+run_is_no_soak services e = cc
+
+pub race_is_no_soak : (services : ℕ) → Some Race ≡ Some (Soak services) → ⊥
+race_is_no_soak services e = cc
+
 module _ (before after : Objects) (how : Status) (seat : Option Seated) where
   -- what a call that runs a script says of its objects
   pub record Said (form : Form) : Type 0 where
@@ -65,6 +71,7 @@ module _ (before after : Objects) (how : Status) (seat : Option Seated) where
     pub formed : IsRunStatus how
     pub complete : (world : World) → IsWorldOf before.tree world → CanBeDone (Some form) (told_by before) world
         → IsDoneUnlessRisen how before.counts after.counts
+    pub soaked : (services : ℕ) → Some form ≡ Some (Soak services) → CanSoak services → IsDoneUnlessRisen how before.counts after.counts
 
   pub run_promised : (form : Form) → Runs form → Said form → Promise (Some form) before after how seat
   run_promised form runs said = record {
@@ -83,6 +90,7 @@ module _ (before after : Objects) (how : Status) (seat : Option Seated) where
     of_race = λ e. said.formed;
     of_soak = λ services e. said.formed;
     complete = said.complete;
+    soaked = said.soaked;
   }
 
 -- a check, which leaves the keeper alone and gives no seat
@@ -110,6 +118,7 @@ check_promised before after how ends faults unwritten unkept formed complete = r
   of_race = λ e. absurd (unraced e);
   of_soak = λ services e. absurd (unsoaked services e);
   complete = complete;
+  soaked = λ services e can. absurd (unsoaked services e);
 }
   where
     other : Some Check ≡ Some Audit → ⊥
@@ -152,6 +161,7 @@ audit_promised before after how ends read traced faults unwritten unkept held fo
   of_race = λ e. absurd (unraced e);
   of_soak = λ services e. absurd (unsoaked services e);
   complete = complete;
+  soaked = λ services e can. absurd (unsoaked services e);
 }
   where
     unchecked : Some Audit ≡ Some Check → ⊥
@@ -184,6 +194,7 @@ usage_promised objects = record {
   of_race = λ e. absurd (some_not_none Race (sym e));
   of_soak = λ services e. absurd (some_not_none (Soak services) (sym e));
   complete = λ world is can. absurd can;
+  soaked = λ services e can. absurd (some_not_none (Soak services) (sym e));
 }
 
 -- Want of memory says nothing of the words, but that they have a form or none, and leaves all as it was.
@@ -204,6 +215,7 @@ memory_promised asked objects formed = record {
   of_race = λ e. tt;
   of_soak = λ services e. tt;
   complete = λ world is can. tt;
+  soaked = λ services e can. tt;
 }
   where
     none_given : (asked : Option Form) → GivesSeat asked status.NoMemory None

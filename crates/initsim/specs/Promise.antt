@@ -12,7 +12,7 @@ use Rattle.initsim.specs.Outcome.{Ends, Shown, Sources, Tell, Told, shown_as, so
 use Rattle.initsim.specs.Script.{ScriptSays}
 use Rattle.initsim.specs.Seats.{GivesSeat, Records}
 use Rattle.initsim.specs.Texts.{Tree}
-use Rattle.initsim.specs.Top.{CanBeDone, IsAsBefore, ReadsScript}
+use Rattle.initsim.specs.Top.{CanBeDone, CanSoak, IsAsBefore, ReadsScript}
 use Rattle.initsim.specs.Trace.{TraceSays}
 use Rattle.initsim.specs.Tree.{IsWorldOf}
 use Rattle.initsim.specs.declared.status.Status.{Status}
@@ -67,3 +67,5 @@ pub record Promise (asked : Option Form) (before after : Objects) (how : Status)
   -- what is told and can be done is done, or memory runs out, unless a count rose
   pub complete : (world : World) → IsWorldOf before.tree world → CanBeDone asked (told_by before) world
       → IsDoneUnlessRisen how before.counts after.counts
+  -- a soak, which reads nothing, is done where its generated boot can be run, or memory runs out, unless a count rose
+  pub soaked : (services : ℕ) → asked ≡ Some (form.Soak services) → CanSoak services → IsDoneUnlessRisen how before.counts after.counts

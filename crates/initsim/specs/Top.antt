@@ -39,15 +39,15 @@ pub record CanSoak (services : ℕ) : Type 0 where
   pub world_is : IsWorldOf (Some (generated_tree services)) world
   pub can : CanRun (generated_sources services) world
 
--- What is told can be done. A check asks for the world alone, a race for what a run does, and an audit for that and for a trace; a soak for
--- what is generated.
+-- What is told can be done. A check asks for the world alone, a race for what a run does, and an audit for that and for a trace. A soak
+-- reads nothing that is told.
 abbrev pub CanBeDone : Option Form → Sources → World → Type 0
 CanBeDone None sources world = ⊥
 CanBeDone (Some form.Run) sources world = CanRun sources world
 CanBeDone (Some form.Race) sources world = CanRun sources world
 CanBeDone (Some form.Check) sources world = IsFitFor form.Check world
 CanBeDone (Some form.Audit) sources world = CanRun sources world × IsSomeAnd sources.trace HasTrace
-CanBeDone (Some (form.Soak services)) sources world = CanSoak services
+CanBeDone (Some (form.Soak services)) sources world = ⊥
 
 -- a form that reads a script
 abbrev pub ReadsScript : Option Form → Type 0

@@ -34,6 +34,7 @@ pub fn bad_trace(rt: &HostRuntime, path: &Text) -> Option<String> {
         LineFault::NoTitle => (Some(b"initsim 1".as_slice()), ""),
         LineFault::NoForm => (None, "no trace has this line there"),
         LineFault::NoEnd => (Some(b"end".as_slice()), ""),
+        LineFault::NoLineFeed => (None, "the line doesn't end with LF"),
     };
     shown(
         rt,

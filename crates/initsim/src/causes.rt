@@ -218,7 +218,7 @@ fn unloaded(rt: &HostRuntime, root: &Text, limit: Limit, told: u64) -> Option<St
         Limit::FileBytes => passed(rt, &path, MOST_BYTES),
         Limit::Names => passed(rt, &path, "has more than 1024 names"),
         Limit::Files => format!(in rt.alloc();
-            "{told} files are read by imports, the last {last}"
+            "{told} rc files are read, the last {last}"
         ).ok(),
         _ => format!(in rt.alloc();
             "the rc files have more than 33554432 bytes, the last {last}"

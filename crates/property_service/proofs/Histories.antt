@@ -12,7 +12,6 @@ use Rattle.init_machine.specs.declared.config.Config.{Config}
 use Rattle.init_machine.specs.declared.input.Input.{Input}
 use Rattle.init_machine.specs.declared.report.Entry.{Entry}
 use Rattle.machine_laws.specs.Histories.{history_from}
-use Rattle.property_area.specs.Readers.{asker_of, answer_of}
 use Rattle.property_area.specs.declared.view.LogEntry.{LogEntry}
 use Rattle.property_service.specs.Record.{logged, log_from, log_of, inputs_in}
 use Rattle.property_service.specs.Service.{EachDeclared}

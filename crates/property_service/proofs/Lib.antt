@@ -5,6 +5,7 @@ pub mod Asking
 pub mod Moves
 pub mod Seats
 pub mod Syncing
+pub mod Renewing
 pub mod Beginning
 pub mod GivenBack
 pub mod Judging

@@ -3,7 +3,7 @@ use Rattle.std.proofs.Common.{◌≡◌, ℕ, suc, ◌+◌, ◌-◌, ◌≤◌, 
 use Rattle.std.proofs.lemmas.List.{map-append}
 use Rattle.atomic_table.specs.Seated.{TableId}
 use Rattle.history_laws.proofs.Settling.{reached_settled}
-use Rattle.init_core.specs.Core.{CoreView, IsDeclared, step_of}
+use Rattle.init_core.specs.Core.{CoreView, step_of}
 use Rattle.init_machine.specs.Changes.{Change}
 use Rattle.init_machine.specs.History.{Legal, after, inputs_of, sets_in as sets_in_outputs, sets_of}
 use Rattle.init_machine.specs.Orderly.{seen_through}
@@ -13,7 +13,6 @@ use Rattle.init_machine.specs.State.{Opening, State, first_state}
 use Rattle.init_machine.specs.Step.{step}
 use Rattle.init_machine.specs.declared.client.ClientItem.TheVariants.{Asked}
 use Rattle.init_machine.specs.declared.client.ClientRequest.{ClientRequest}
-use Rattle.init_machine.specs.declared.config.Config.{Config}
 use Rattle.init_machine.specs.declared.input.Input.{Input}
 use Rattle.init_machine.specs.declared.output.Output.{Output}
 use Rattle.init_machine.specs.declared.report.Entry.{Entry}
@@ -29,7 +28,7 @@ use Rattle.property_area.specs.declared.view.LogOpening.{LogOpening}
 use Rattle.property_service.proofs.Asking.{answered}
 use Rattle.property_service.proofs.Clients.{client_first, list_behind, none_left, others_else, seat_own, seats_again}
 use Rattle.property_service.proofs.Histories.{after-end, declared-end, entry_at, history-end, inputs_in-end, length-log, log-end, sets-end}
-use Rattle.property_service.proofs.Openings.{declared_plain, may_declared}
+use Rattle.property_service.proofs.Openings.{may_declared}
 use Rattle.property_service.specs.Back.{ComesBackFrom, request_behind}
 use Rattle.property_service.specs.Desk.{DeskHolds, DeskKeeps}
 use Rattle.property_service.specs.Record.{inputs_in, log_of, logged, opening_in, recorded}

@@ -1,6 +1,8 @@
 -- The readers that come back from a service's calls.
-use Rattle.std.specs.Prelude.{◌≡◌, ℕ, ◌+◌, ◌++◌, Bool, true, false, List, [], ◌∷◌, length, Option, Result, Ok, Err}
+use Rattle.std.specs.Prelude.{◌≡◌, ◌≤◌, ℕ, ◌+◌, ◌++◌, Bool, true, false, List, [], ◌∷◌, length, Option, None, Result, Ok, Err}
 use Rattle.init_machine.specs.History.{sets_of}
+use Rattle.init_machine.specs.Orderly.{ListStands, seen_through}
+use Rattle.init_machine.specs.Sets.{Set}
 use Rattle.init_machine.specs.declared.client.ClientItem.{ClientItem}
 use Rattle.init_machine.specs.declared.client.ClientItem.TheVariants.{Asked}
 use Rattle.init_machine.specs.declared.client.ClientRequest.{ClientRequest}
@@ -24,6 +26,16 @@ pub record ComesBack (reader after : Seated) (item : ClientItem) (count : ℕ) :
   pub began : after.view.began ≡ reader.view.began
   pub list : after.view.list ≡ reader.view.list ++ item ∷ []
   pub number : seen_by after.view.cell ≡ count
+
+-- The reader that comes back was told nothing more. What it was told stands in these sets, of which it has seen no more than there are.
+pub record ComesAgain (sets : List Set) (reader after : Seated) : Type 0 where
+  pub table : after.table ≡ reader.table
+  pub who : after.view.who ≡ reader.view.who
+  pub opening : after.view.opening ≡ reader.view.opening
+  pub began : after.view.began ≡ reader.view.began
+  pub list : after.view.list ≡ reader.view.list
+  pub stands : ListStands sets None reader.view.began reader.view.list
+  pub within : seen_through (length reader.view.began) reader.view.list ≤ length sets
 
 -- the request of an entry that comes behind a history
 abbrev pub request_behind : List Entry → Entry → ClientRequest

@@ -12,7 +12,7 @@ ghost use Rattle.init_machine.specs.declared.report.Reading.TheVariants.{Synced}
 ghost use Rattle.property_area.specs.Area.{list_in};
 ghost use Rattle.property_area.specs.Readers.{asker_of, handed};
 ghost use Rattle.property_area.specs.Seats.{sets_in};
-ghost use Rattle.property_service.specs.Back.{ComesBack, ComesBackFrom};
+ghost use Rattle.property_service.specs.Back.{ComesAgain, ComesBack, ComesBackFrom};
 ghost use Rattle.property_service.specs.Record.{recorded};
 ghost use Rattle.property_service.specs.Service.{Agrees, MayAsk, has_seat, next_entry, state_after};
 
@@ -83,6 +83,7 @@ impl<'a, N: AreaName> Desk<'a, N> {
         ensures list { IfOk result (λ reader. (reader.view.list ≡ []) × (reader.view.opening ≡ Some (recorded self.old.opening))) }
         ensures same { OnOk result ((self.new.opening ≡ self.old.opening) × (self.new.history ≡ self.old.history)) }
         ensures seats { OnOk result ((q : ℕ) → has_seat self.new.seat q ≡ (has_seat self.old.seat q || (who.0 == q))) }
+        ensures before { OnOk result (self.old.spent ≡ false) }
         ensures ready { OnOk result (self.new.spent ≡ false) }
         ensures spent { OnErr result (self.new.spent ≡ true) }
     {
@@ -172,6 +173,32 @@ impl<'a, N: AreaName> Desk<'a, N> {
         let count = writer.synced(who);
         match writer.hand_out(who) {
             Ok(reader) => (Some(reader), Ok(count)),
+            Err(NoMemory) => {
+                self.spent = true;
+                (None, Err(CoreStop::NoMemory))
+            }
+        }
+    }
+
+    /// Takes a reader in and hands it out again. Its client is told nothing, and no entry is added; but what it was told stands in the
+    /// sets, of which it has seen no more than there are.
+    pub fn renew(&mut self, reader: Reader) -> (Option<Reader>, Result<(), CoreStop>)
+        requires area { reader.table ≡ N.area }
+        ensures same { OnOk result.1 ((self.new.history ≡ self.old.history) × (self.new.opening ≡ self.old.opening)) }
+        ensures reader { OnOk result.1 (IsSomeAnd result.0 (ComesAgain (sets_of self.old.history) reader)) }
+        ensures seats { OnOk result.1 ((who : ℕ) → has_seat self.new.seat who ≡ has_seat self.old.seat who) }
+        ensures ready { OnOk result.1 (self.new.spent ≡ false) }
+        ensures spent { (result.1 ≡ Err stop.Spent) ↔ (self.old.spent ≡ true) }
+        ensures unchanged { result.1 ≡ Err stop.Spent → (self.new ≡ self.old) × (result.0 ≡ Some reader) }
+        ensures no_memory { result.1 ≡ Err stop.NoMemory → self.new.spent ≡ true }
+    {
+        if self.spent {
+            return (Some(reader), Err(CoreStop::Spent));
+        }
+        let writer = self.core.store_mut();
+        let who = writer.take_in(reader);
+        match writer.hand_out(who) {
+            Ok(reader) => (Some(reader), Ok(())),
             Err(NoMemory) => {
                 self.spent = true;
                 (None, Err(CoreStop::NoMemory))

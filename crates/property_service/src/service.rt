@@ -51,12 +51,11 @@ impl<'a, N: AreaName> Model for Service<'a, N> {
     ghost invariant = { λ s. s.spent ≡ false → (s.desk.spent ≡ false) × (s.history ≡ s.desk.history) };
 }
 
-/// A client's request to set a property.
-fn set_input(alloc: Global, who: ClientId, name: &[u8], value: &[u8]) -> Result<Input, NoMemory>
-    ensures { IfOk result (λ input. input ≡ set_by who.0 name.now value.now) }
+/// A property's name and a value, as texts of the machine's.
+pub(crate) fn pair_of(alloc: Global, name: &[u8], value: &[u8]) -> Result<Pair, NoMemory>
+    ensures { IfOk result (λ pair. (pair.name ≡ name.now) × (pair.value ≡ value.now)) }
 {
-    Ok(Input::Set {
-        who,
+    Ok(Pair {
         name: Text::of(alloc, name)?,
         value: Text::of(alloc, value)?,
     })
@@ -95,6 +94,7 @@ impl<'a, N: AreaName> Service<'a, N> {
         ensures list { IfOk result (λ reader. (reader.view.list ≡ []) × (reader.view.opening ≡ Some (recorded self.old.opening))) }
         ensures same { OnOk result ((self.new.opening ≡ self.old.opening) × (self.new.history ≡ self.old.history)) }
         ensures seats { OnOk result ((q : ℕ) → has_seat self.new.seat q ≡ (has_seat self.old.seat q || (who.0 == q))) }
+        ensures before { OnOk result (self.old.spent ≡ false) }
         ensures ready { OnOk result (self.new.spent ≡ false) }
         ensures spent { OnErr result (self.new.spent ≡ true) }
     {
@@ -184,12 +184,44 @@ impl<'a, N: AreaName> Service<'a, N> {
         ensures unchanged { result.1 ≡ Err refusal.Spent → (self.new ≡ self.old) × (result.0 ≡ Some reader) }
         ensures no_memory { result.1 ≡ Err refusal.NoMemory → self.new.spent ≡ true }
     {
+        match pair_of(self.alloc, name, value) {
+            Ok(pair) => self.set_pair(reader, pair),
+            Err(NoMemory) => self.run_out(reader),
+        }
+    }
+
+    /// `set`, by texts that were made before.
+    pub(crate) fn set_pair(
+        &mut self,
+        reader: Reader,
+        pair: Pair,
+    ) -> (Option<Reader>, Result<Accepted, SetRefusal>)
+        requires area { reader.table ≡ N.area }
+        requires client { DeclaredIn reader.view.opening reader.view.who }
+        ensures history { has_entry result.1 ≡ true
+            → self.new.history ≡ self.old.history ++ next_entry self.old (set_by reader.view.who pair.name pair.value) ∷ [] }
+        ensures opening { has_entry result.1 ≡ true → self.new.opening ≡ self.old.opening }
+        ensures answer { has_entry result.1 ≡ true
+            → last_of (next_entry self.old (set_by reader.view.who pair.name pair.value)).outputs ≡ Some (line_of result.1) }
+        ensures judged { has_entry result.1 ≡ true → line_of result.1
+            ≡ answer_line (refusal_now self.old reader.view.who pair.name pair.value) (is_control pair.name)
+            (length (sets_of self.new.history)) }
+        ensures reader { has_entry result.1 ≡ true
+            → IsSomeAnd result.0 (λ back. ComesBackFrom self.old.history
+            (next_entry self.old (set_by reader.view.who pair.name pair.value)) reader back) }
+        ensures seats { has_entry result.1 ≡ true → (who : ℕ) → has_seat self.new.seat who ≡ has_seat self.old.seat who }
+        ensures ready { has_entry result.1 ≡ true → self.new.spent ≡ false }
+        ensures spent { (result.1 ≡ Err refusal.Spent) ↔ (self.old.spent ≡ true) }
+        ensures unchanged { result.1 ≡ Err refusal.Spent → (self.new ≡ self.old) × (result.0 ≡ Some reader) }
+        ensures no_memory { result.1 ≡ Err refusal.NoMemory → self.new.spent ≡ true }
+    {
         if self.spent {
             return (Some(reader), Err(SetRefusal::Spent));
         }
-        let Ok(input) = set_input(self.alloc, reader.who(), name, value) else {
-            self.spent = true;
-            return (Some(reader), Err(SetRefusal::NoMemory));
+        let input = Input::Set {
+            who: reader.who(),
+            name: pair.name,
+            value: pair.value,
         };
         let (reader, taken) = self.take(reader, input);
         let Ok(()) = taken else {
@@ -202,6 +234,24 @@ impl<'a, N: AreaName> Service<'a, N> {
                 (reader, Err(SetRefusal::NoMemory))
             }
         }
+    }
+
+    /// What a set answers for whose texts there is no memory.
+    pub(crate) fn run_out(
+        &mut self,
+        reader: Reader,
+    ) -> (Option<Reader>, Result<Accepted, SetRefusal>)
+        ensures entry { has_entry result.1 ≡ false }
+        ensures reader { result.0 ≡ Some reader }
+        ensures spent { (result.1 ≡ Err refusal.Spent) ↔ (self.old.spent ≡ true) }
+        ensures unchanged { result.1 ≡ Err refusal.Spent → self.new ≡ self.old }
+        ensures no_memory { self.new.spent ≡ true }
+    {
+        if self.spent {
+            return (Some(reader), Err(SetRefusal::Spent));
+        }
+        self.spent = true;
+        (Some(reader), Err(SetRefusal::NoMemory))
     }
 
     /// Tells the reader's client how many sets are accepted, and answers it. It adds no entry.

@@ -10,15 +10,18 @@ ghost use Rattle.property_service.specs.Service.{DeclaredIn, IsNoSet, set_by};
 
 use crate::answer::Accepted;
 use crate::area_name::AreaName;
-use crate::service::Service;
+use crate::service::{Service, pair_of};
+use init_base::NoMemory;
 use init_core::CoreStop;
 use init_machine::{Input, SetRefusal};
 use property_area::Reader;
+use std::alloc::Global;
 use std::sync::{Mutex, Wait};
 
 /// A service that any number of threads may call. It serves the area that its last type parameter names.
 #[derive(Drop)]
 pub struct Shared<'a, N: AreaName> {
+    alloc: Global,
     lock: Mutex<Service<'a, N>>,
 }
 
@@ -26,11 +29,12 @@ impl<'a, N: AreaName> Shared<'a, N> {
     /// Puts a service behind its lock. It takes no memory.
     pub fn new(service: Service<'a, N>) -> Shared<'a, N> {
         Shared {
+            alloc: service.alloc,
             lock: Mutex::new(service),
         }
     }
 
-    /// `Service::set`, behind the lock.
+    /// `Service::set`, behind the lock. Its texts are made before the lock is taken, so that other clients don't wait for that.
     pub fn set<R: Wait>(
         &self,
         rt: &R,
@@ -44,7 +48,10 @@ impl<'a, N: AreaName> Shared<'a, N> {
             → IsSomeAnd result.0 (ComesBackWith (set_by reader.view.who name.now value.now) (Some (line_of result.1)) reader) }
         ensures unchanged { result.1 ≡ Err refusal.Spent → result.0 ≡ Some reader }
     {
-        self.lock.lock(rt).set(reader, name, value)
+        match pair_of(self.alloc, name, value) {
+            Ok(pair) => self.lock.lock(rt).set_pair(reader, pair),
+            Err(NoMemory) => self.lock.lock(rt).run_out(reader),
+        }
     }
 
     /// `Service::sync`, behind the lock.

@@ -1,7 +1,6 @@
 -- The levels of a trie: the siblings below the node of a front of a name, or at the top. What the writer has noted of them tells
 -- where the first node is linked that a name misses.
 use Rattle.std.specs.Prelude.{◌≡◌, ℕ, zero, suc, ◌+◌, ◌≤◌, List, [], ◌∷◌, take, drop, length, slice_index, Option, Some, None}
-use Rattle.std.specs.BTreeMap.{BTreeMap}
 use Rattle.std.specs.HashMap.{get_by}
 use Rattle.std.specs.Option.{option_map}
 use Rattle.std.specs.Str.{bytes_eq}
@@ -15,6 +14,8 @@ use Rattle.property_trie.specs.TreeWords.{link_at}
 use Rattle.property_trie.specs.TrieSteps.{tree_of, missing_parts}
 use Rattle.property_trie.specs.Additions.{mark_of}
 use Rattle.property_trie.specs.declared.level.Level.{Level}
+use Rattle.property_trie.specs.declared.level.Nodes.{Nodes}
+use Rattle.property_trie.specs.declared.level.Nodes.TheVariants as nodes
 use Rattle.property_trie.specs.declared.levels.Levels.{Levels}
 
 -- the siblings of the level below the node of these parts, none where there is no such node; `top` is the link to the tree
@@ -39,12 +40,13 @@ BeginsPart name zero = Unit {0}
 BeginsPart name (suc n) = slice_index name n ≡ 46
 
 -- what is noted of a level
-abbrev pub noted_nodes : Option (BTreeMap (List ℕ) ℕ) → List Placed
-noted_nodes None = []
-noted_nodes (Some places) = places.entries
+abbrev pub noted_nodes : Nodes → List Placed
+noted_nodes nodes.Empty = []
+noted_nodes (nodes.One part place) = (part, place) ∷ []
+noted_nodes (nodes.Many places) = places.entries
 
 abbrev pub level_as : Level → Siblings
-level_as level = record { link = level.link; nodes = noted_nodes level.places }
+level_as level = record { link = level.link; nodes = noted_nodes level.nodes }
 
 abbrev pub noted_below : {S : Type 0} → Option (IndexMap (List ℕ) Level S) → List ℕ → Option Level
 noted_below None front = None

@@ -1,5 +1,5 @@
 -- The texts of the numbers from 1 on.
-use Rattle.std.proofs.Common.{◌≡◌, ℕ, ◌+◌, List, ◌++◌, append_assoc, add-one, ap, ◌∙◌, sym, refl}
+use Rattle.std.proofs.Common.{◌≡◌, ℕ, ◌+◌, List, ◌++◌, append_assoc, add-one, ap, ◌∙◌, refl}
 use Rattle.script_lang.specs.Generated.{each_to}
 
 each_to_next : (text : ℕ → List ℕ) (n : ℕ) → each_to text n ++ text (n + 1) ≡ each_to text (n + 1)

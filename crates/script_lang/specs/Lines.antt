@@ -1,10 +1,7 @@
--- The lines of a script and their words, this project's own format. A line ends with LF, which the last one may lack, and
--- its words stand between spaces and tabs.
-use Rattle.std.specs.Prelude.{ℕ, Bool, true, false, ◌&&◌, ◌||◌, ◌==◌, nat_le, if◌then◌else◌, List, [], ◌∷◌, filter}
-use Rattle.std.specs.List.{list_all, onto_first, slice_split}
-
-abbrev pub is_line_feed : ℕ → Bool
-is_line_feed b = b == 10
+-- The lines of a script and their words, this project's own format: lines as each text has them, and words between spaces and tabs.
+pub use Rattle.init_base.specs.Lines.{is_line_feed, lines_of}
+use Rattle.std.specs.Prelude.{ℕ, Bool, true, false, ◌&&◌, ◌||◌, ◌==◌, nat_le, List, [], ◌∷◌, filter}
+use Rattle.std.specs.List.{list_all, slice_split}
 
 -- what parts words: a space or a tab
 abbrev pub is_space : ℕ → Bool
@@ -17,11 +14,6 @@ is_blank b = is_space b || b == 13
 -- what may stand in a line: hexadecimal 21 to 7E, a space or a tab
 abbrev pub is_permitted : ℕ → Bool
 is_permitted b = (nat_le 33 b && nat_le b 126) || is_space b
-
--- the lines of a text, without the LF that ends them
-abbrev pub lines_of : List ℕ → List (List ℕ)
-lines_of [] = []
-lines_of (b ∷ rest) = let later = lines_of rest in if is_line_feed b then [] ∷ later else onto_first b later
 
 abbrev pub has_any : {A : Type 0} → List A → Bool
 has_any [] = false

@@ -1,8 +1,8 @@
 -- A value's words give its bytes back.
-use Rattle.std.proofs.Common.{◌≡◌, ℕ, zero, suc, ◌+◌, ◌*◌, ◌<◌, List, [], ◌∷◌, get_or, drop, arith, ap, sym, refl, ◌∙◌}
+use Rattle.std.proofs.Common.{◌≡◌, ℕ, zero, suc, ◌+◌, ◌*◌, ◌<◌, ◌≤◌, List, [], ◌∷◌, length, get_or, drop, arith, ap, sym, refl, ◌∙◌}
 use Rattle.std.specs.Int.{w64, from_le_bytes, to_le_bytes}
 use Rattle.std.proofs.lemmas.Nat.{le_bytes_8}
-use Rattle.std.proofs.lemmas.List.{get_or-drop}
+use Rattle.std.proofs.lemmas.List.{drop_all, get_or-drop}
 use Rattle.serial_value.specs.Words.{text_word}
 
 -- eight bytes, with 0 past the end
@@ -24,6 +24,11 @@ word_of_eight xs ys same =
 pub word_from : (value bytes : List ℕ) (k : ℕ) → ((i : ℕ) → i < 8 → get_or bytes i 0 ≡ get_or value (8 * k + i) 0) → from_le_bytes w64 bytes ≡ text_word value k
 unfolding text_word
 word_from value bytes k same = word_of_eight bytes (drop (8 * k) value) (λ i small. same i small ∙ sym (get_or-drop (8 * k) value i 0))
+
+-- a word past the end
+pub word_past : (text : List ℕ) (k : ℕ) → length text ≤ 8 * k → 0 ≡ text_word text k
+unfolding text_word
+word_past text k past = ap (from_le_bytes w64) (sym (drop_all (8 * k) text past))
 
 -- the eight bytes of a word that is inside
 pub word_whole : (text : List ℕ) (k : ℕ) → from_le_bytes w64 (get_or text (8 * k) 0 ∷ get_or text (8 * k + 1) 0 ∷ get_or text (8 * k + 2) 0 ∷ get_or text (8 * k + 3) 0 ∷ get_or text (8 * k + 4) 0 ∷ get_or text (8 * k + 5) 0 ∷ get_or text (8 * k + 6) 0 ∷ get_or text (8 * k + 7) 0 ∷ []) ≡ text_word text k

@@ -12,10 +12,13 @@ pub fn word_of(text: &[u8], k: usize) -> u64
     requires short { length text.now ≤ 8191 }
     ensures { result ≡ text_word text.now k }
 {
-    if 8 * k + 8 <= text.len() {
+    let start = 8 * k;
+    if start + 8 <= text.len() {
         whole_word(text, k)
-    } else {
+    } else if start < text.len() {
         cut_word(text, k)
+    } else {
+        0
     }
 }
 

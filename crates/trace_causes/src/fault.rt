@@ -22,6 +22,8 @@ pub enum LineFault {
     NoForm,
     /// The text ends without the last line of a trace.
     NoEnd,
+    /// It is the last line, and doesn't end with LF.
+    NoLineFeed,
 }
 
 /// The first line of a text that no report has there.
@@ -33,6 +35,23 @@ pub struct TextFault {
 
 /// The first line of a text that no report has there. None where the text is a report's.
 pub fn fault_in(alloc: Global, text: &[u8]) -> Result<Option<TextFault>, NoMemory> {
+    if text.ends_with(b"\n") {
+        return whole_fault(alloc, text);
+    }
+    let mut whole = Vec::from_slice(alloc, text)?;
+    whole.push(b'\n')?;
+    let last = number_at(text, text.len());
+    match whole_fault(alloc, &whole)? {
+        Some(fault) if fault.line <= last => Ok(Some(fault)),
+        _ => Ok(Some(TextFault {
+            line: last,
+            what: LineFault::NoLineFeed,
+        })),
+    }
+}
+
+/// The same, of a text whose last line ends with LF.
+fn whole_fault(alloc: Global, text: &[u8]) -> Result<Option<TextFault>, NoMemory> {
     if !text.starts_with(TITLE) {
         return Ok(Some(TextFault {
             line: 1,
@@ -42,24 +61,15 @@ pub fn fault_in(alloc: Global, text: &[u8]) -> Result<Option<TextFault>, NoMemor
     if text.ends_with(END) {
         return line_fault(alloc, text);
     }
-    let ended = with_end(alloc, text)?;
+    let mut ended = Vec::from_slice(alloc, text)?;
+    ended.extend_from_slice(END)?;
     match line_fault(alloc, &ended)? {
         Some(fault) => Ok(Some(fault)),
         None => Ok(Some(TextFault {
-            line: number_at(&ended, ended.len().saturating_sub(END.len())),
+            line: number_at(text, text.len()),
             what: LineFault::NoEnd,
         })),
     }
-}
-
-/// A text with the last line of a trace behind its own.
-fn with_end(alloc: Global, text: &[u8]) -> Result<Vec<u8>, NoMemory> {
-    let mut ended = Vec::from_slice(alloc, text)?;
-    if !text.ends_with(b"\n") {
-        ended.push(b'\n')?;
-    }
-    ended.extend_from_slice(END)?;
-    Ok(ended)
 }
 
 /// The first line between the first one and the last one that is in no form.
@@ -73,14 +83,19 @@ fn line_fault(alloc: Global, text: &[u8]) -> Result<Option<TextFault>, NoMemory>
             Ok(Piece::Entry(_)) => {}
             Ok(Piece::Rest(_)) => return Ok(None),
             Err(Fault::NoMemory) => return Err(NoMemory),
-            Err(Fault::Bad) => {
-                let behind = pieces.left().saturating_add(END.len());
-                return Ok(Some(TextFault {
-                    line: number_at(text, text.len().saturating_sub(behind)),
-                    what: LineFault::NoForm,
-                }));
-            }
+            Err(Fault::Bad) => return Ok(Some(fault_before(text, pieces.left()))),
         }
     }
     Ok(None)
+}
+
+/// The line in no form behind which so many bytes are left, with the last line's: the one behind the end, where that stands there.
+fn fault_before(text: &[u8], left: usize) -> TextFault {
+    let at = text.len().saturating_sub(left.saturating_add(END.len()));
+    let number = number_at(text, at);
+    let is_end = text.get(at..).unwrap_or(&[]).starts_with(END);
+    TextFault {
+        line: number.saturating_add(u64::from(is_end)),
+        what: LineFault::NoForm,
+    }
 }

@@ -2,6 +2,7 @@
 use Rattle.std.proofs.Common.{ap, ◌∙◌, eqb}
 use Rattle.std.specs.List.{list_any}
 use Rattle.agenda.specs.Moments.{is_due}
+use Rattle.agenda.proofs.Ascending.{none_ascend}
 use Rattle.agenda.proofs.Held.{due_first}
 use Rattle.agenda.proofs.Agenda.due.Goals as goal
 
@@ -10,3 +11,6 @@ returns-clause-numbers c = λ n.
     c.in_ok-numbers.ensures.numbers n ∙ ap (list_any (eqb n)) c.in_ok-first.ensures.numbers
     ∙ due_first c.args.now n c.self.inside.moments.keys c.in_ok-first.ensures.ordered
     ∙ ap (is_due c.args.now n) c.self.view_is
+
+pub returns-then-is_free-clause-ascending : goal.returns-then-is_free-clause-ascending
+returns-then-is_free-clause-ascending c = none_ascend c.new.result c.new.ensures

@@ -1,10 +1,14 @@
-use Rattle.std.proofs.Common.{ℕ, List, [], refl, subst}
+use Rattle.std.proofs.Common.{ℕ, List, [], refl, subst, arith}
+use Rattle.std.proofs.lemmas.Bool.{leb-true}
 use Rattle.std.proofs.lemmas.Result.{err_from_is_err_and}
 use Rattle.init_core.specs.Core.{opening_of}
 use Rattle.init_driver.specs.Keeper.{Took, seen_by}
 use Rattle.init_race.proofs.Kept.{given_same, nothing_kept, race_not_kept}
 use Rattle.init_race.proofs.Storing.{stored_are_saved, stored_are_typed}
 use Rattle.init_race.proofs.racing.race.Goals as goal
+
+pub run_over-requires-clause-few : goal.run_over-requires-clause-few
+run_over-requires-clause-few g c = let most = leb-true _ 64 c.requires.config.domains in omega (arith, c.requires.domains, most)
 
 pub keep-requires-clause-saved : goal.keep-requires-clause-saved
 keep-requires-clause-saved g c =

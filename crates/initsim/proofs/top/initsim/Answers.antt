@@ -6,11 +6,12 @@ use Rattle.init_words.specs.declared.form.Form.TheVariants.{Run, Race, Check, Au
 use Rattle.init_words.specs.declared.reading.WordsRefusal.TheVariants as why
 use Rattle.initsim.specs.Counts.{counts_of}
 use Rattle.initsim.specs.Promise.{Promise, objects_of, told_by}
+use Rattle.initsim.specs.Top.{CanSoak}
 use Rattle.initsim.specs.declared.status.Status.TheVariants as status
 use Rattle.initsim.proofs.Complete.{complete_audit, complete_check, complete_run}
 use Rattle.initsim.proofs.Ends.{check_ends}
 use Rattle.initsim.proofs.Judged.{same_as_before}
-use Rattle.initsim.proofs.Promised.{audit_promised, check_promised, memory_promised, run_promised, usage_promised}
+use Rattle.initsim.proofs.Promised.{audit_promised, check_promised, memory_promised, race_is_no_soak, run_is_no_soak, run_promised, usage_promised}
 use Rattle.initsim.proofs.Soaked.{soak_ends, soak_in_range, soak_records}
 use Rattle.initsim.proofs.top.initsim.Goals as goal
 
@@ -36,6 +37,7 @@ returns-in-Ok-Run-clause-promise g c =
       formed = c.run_script.ensures.formed;
       complete = λ world is can. complete_run c.run_script.result.0 (told_by before) _ world _ _ c.run_script.ensures.formed c.run_script.ensures.script
           (c.run_script.ensures.tree world is) c.run_script.ensures.store (c.run_script.ensures.counts count) can;
+      soaked = λ services e can. absurd (run_is_no_soak services e);
     })
 
 pub returns-in-Ok-Race-clause-promise : goal.returns-in-Ok-Race-clause-promise
@@ -60,6 +62,7 @@ returns-in-Ok-Race-clause-promise g c =
       formed = c.race_script.ensures.formed;
       complete = λ world is can. complete_run c.race_script.result.0 (told_by before) _ world _ _ c.race_script.ensures.formed c.race_script.ensures.script
           (c.race_script.ensures.tree world is) c.race_script.ensures.store (c.race_script.ensures.counts count) can;
+      soaked = λ services e can. absurd (race_is_no_soak services e);
     })
 
 pub returns-in-Ok-Check-clause-promise : goal.returns-in-Ok-Check-clause-promise
@@ -138,7 +141,8 @@ returns-in-Ok-Soak-clause-promise g c =
       unwritten = c.soak.ensures.unwritten keepers;
       unkept = same_as_before c.soak.result.0 _ _ _ _ refl;
       formed = c.soak.ensures.formed;
-      complete = λ world is can. c.soak.ensures.complete can files scripts traces keepers;
+      complete = λ world is can. absurd can;
+      soaked = λ n is can. let same : n ≡ services = cc in c.soak.ensures.complete (subst CanSoak same can) files scripts traces keepers;
     })
 
 pub returns-in-Err-Usage-clause-promise : goal.returns-in-Err-Usage-clause-promise

@@ -3,7 +3,7 @@ use Rattle.std.specs.List.{flat_map}
 use Rattle.property_area.specs.Seats.{Seated}
 use Rattle.init_driver.specs.Machine.{AllSeated, MachineView, told_to}
 use Rattle.init_driver.specs.Readings.{readings_in as readings_told}
-use Rattle.init_driver.specs.Seat.{told_around}
+use Rattle.init_driver.specs.Seat.{told_with}
 use Rattle.init_driver.proofs.Machines.{seated_again, seated_here, told_learned}
 use Rattle.init_driver.proofs.machine.Machine.learn.Goals as goal
 
@@ -32,7 +32,7 @@ returns-clause-heard g c =
     let rs = c.self.inside.readers.items in
     let k = c.args.who.0 in
     let known = subst (λ (m : MachineView). k ≤ length m.config.domains) (sym c.self.view_is) c.requires.known in
-    let more = flat_map told_around (readings_told c.in_ok-reader-2.told) in
+    let more = flat_map told_with (readings_told c.in_ok-reader-2.told) in
     λ q.
     ap (λ (l : List (Option Seated)). told_to (set l k (Some c.in_ok-reader-2.reader)) q) c.in_ok-reader.ensures.rest
     ∙ told_learned _ s rs k c.in_ok-reader.reader (c.self.invariant.1 c.if-self.false) known c.in_ok-reader.ensures.reader c.args.ask.now c.in_ok-reader-2.told c.in_ok-reader-2.reader c.in_ok-reader-2.ensures.learned q
