@@ -217,9 +217,7 @@ fn unloaded(rt: &HostRuntime, root: &Text, limit: Limit, told: u64) -> Option<St
     match limit {
         Limit::FileBytes => passed(rt, &path, MOST_BYTES),
         Limit::Names => passed(rt, &path, "has more than 1024 names"),
-        Limit::Files => format!(in rt.alloc();
-            "{told} rc files are read, the last {last}"
-        ).ok(),
+        Limit::Files => format!(in rt.alloc(); "{told} rc files are read, the last {last}").ok(),
         _ => format!(in rt.alloc();
             "the rc files have more than 33554432 bytes, the last {last}"
         ).ok(),
