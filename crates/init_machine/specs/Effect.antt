@@ -101,7 +101,7 @@ wait_for_file path within s =
     if has_node s.tree path then ran done.Ok (nothing s)
     else waits_for (waiting.File path (record { 0 = s.kernel.clock + within.0 })) s
 
--- a saved property is set by init, and leaves the saved pairs where its set is refused
+-- a saved property is set by init; where the set is refused, its pair is taken out of the saved ones
 abbrev pub keep_saved : Option SetRefusal → List ℕ → List Pair → List Pair
 keep_saved None name saved = saved
 keep_saved (Some why) name saved = without_name saved name

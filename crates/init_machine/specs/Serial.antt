@@ -3,8 +3,7 @@
 -- whether the cell is dirty, which is while its body is being replaced.
 use Rattle.std.specs.Prelude.{ℕ, Bool, ◌+◌, ◌*◌, ◌/◌, ◌%◌, ◌^◌, ◌==◌, nat_le, List, length, if◌then◌else◌}
 
--- the top byte of a value's serial: its length (a legal value has 91 bytes at most; 255 stands for a longer one, which no
--- accepted set gives)
+-- the top byte of a value's serial: its length, or 255 for a value of more than 91 bytes, which only a name under `ro.` has
 abbrev pub top_byte : List ℕ → ℕ
 top_byte value = if nat_le (length value) 91 then length value else 255
 
