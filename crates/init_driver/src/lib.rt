@@ -20,4 +20,4 @@ mod traced;
 pub use counting::count;
 pub use reading::read;
 pub use refusal::DriveRefusal;
-pub use running::{Setup, run};
+pub use running::{Setup, open_area, run};

@@ -2,8 +2,6 @@
 use Rattle.std.specs.Prelude.{◌≡◌, ℕ, ◌+◌, ◌⊎◌, ⊤, All, List, [], ◌∷◌, Some, Result, Ok, Err, if◌then◌else◌}
 use Rattle.std.specs.List.{list_any}
 use Rattle.init_driver.specs.Keeper.{KeeperView, Risks, Took}
-use Rattle.init_driver.specs.declared.refusal.DriveRefusal.{DriveRefusal}
-use Rattle.init_driver.specs.declared.refusal.DriveRefusal.TheVariants as refusal
 use Rattle.init_machine.specs.History.{after, inputs_of}
 use Rattle.init_machine.specs.Orderly.{readings_in}
 use Rattle.init_machine.specs.State.{Opening}
@@ -23,6 +21,8 @@ use Rattle.property_service.specs.declared.ending.Finished.{Finished}
 use Rattle.script_lang.specs.declared.script.Script.{Script}
 use Rattle.trace_audit.specs.Audited.{Audited}
 use Rattle.init_race.specs.declared.racing.Raced.{Raced}
+use Rattle.init_race.specs.declared.refusal.RaceRefusal.{RaceRefusal}
+use Rattle.init_race.specs.declared.refusal.RaceRefusal.TheVariants as refusal
 
 -- ---- the service has ended
 
@@ -70,11 +70,10 @@ pub record RisksRace (o : Opening) (found : List Diagnostic) (script : Script) (
   pub kept : old.TellsCrash → Risks old new [] (race_given o report.history)
 
 -- what stands with the keeper behind a race
-abbrev pub KeepsNot : DriveRefusal → Opening → List Diagnostic → Script → KeeperView → KeeperView → Type 0
+abbrev pub KeepsNot : RaceRefusal → Opening → List Diagnostic → Script → KeeperView → KeeperView → Type 0
 KeepsNot refusal.Keeper o found script old new = RisksRace o found script old new
-KeepsNot refusal.Write o found script old new = ⊥
 KeepsNot refusal.NoMemory o found script old new = Took old new [] ⊎ RisksRace o found script old new
 
-abbrev pub KeepsRace : Opening → List Diagnostic → Script → Result Raced DriveRefusal → KeeperView → KeeperView → Type 0
+abbrev pub KeepsRace : Opening → List Diagnostic → Script → Result Raced RaceRefusal → KeeperView → KeeperView → Type 0
 KeepsRace o found script (Ok raced) old new = Took old new (race_given o raced.report.history)
 KeepsRace o found script (Err e) old new = KeepsNot e o found script old new

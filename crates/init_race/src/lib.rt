@@ -7,9 +7,11 @@
 mod actors;
 mod gate;
 mod racing;
+mod refusal;
 mod seating;
 mod threads;
 
 pub use actors::{Acted, Stage};
 pub use gate::{Gate, OpenGate, Point};
 pub use racing::{Raced, race};
+pub use refusal::RaceRefusal;

@@ -4,10 +4,10 @@ ghost use Rattle.std.specs.Prelude.{◌≡◌, ◌≤◌, ◌∷◌, ◌++◌, �
 ghost use Rattle.init_base.specs.Faults.{Counted};
 ghost use Rattle.init_core.specs.Core.{opening_of};
 ghost use Rattle.init_driver.specs.Keeper.{seen_by};
-ghost use Rattle.init_driver.specs.Run.{AsksAreMet, keeper_failed};
+ghost use Rattle.init_driver.specs.Run.{AsksAreMet};
 ghost use Rattle.init_machine.specs.WellFormed.{IsWellFormed};
 ghost use Rattle.init_race.specs.Ended.{AreAll, ComeBack, next_part, readers_of, told_to};
-ghost use Rattle.init_race.specs.Keeping.{Gives, given_behind, stored_in};
+ghost use Rattle.init_race.specs.Keeping.{Gives, given_behind, has_failed, stored_in};
 ghost use Rattle.init_race.specs.Race.{AreRaced, HasEnded, HasRecorded, KeepsRace};
 ghost use Rattle.init_race.specs.Threads.{MayAct};
 ghost use Rattle.machine_laws.specs.Saved.{has_stored};
@@ -19,13 +19,14 @@ ghost use Rattle.trace_audit.specs.Audited.{Audited};
 
 use crate::actors::{Acted, Stage};
 use crate::gate::Gate;
+use crate::refusal::RaceRefusal;
 use crate::seating::seat_all;
 use crate::threads::act_all;
 use init_base::{IoRefusal, Keeper, List, NoMemory};
-use init_driver::{DriveRefusal, Setup};
+use init_driver::{Setup, open_area};
 use init_machine::{ClientPart, Config, Entry, Output, Pair, Report};
 use prop_contexts::Policy;
-use property_area::{Area, AreaRefusal, AreaWriter, Reader, WriterSeat};
+use property_area::{Area, AreaWriter, Reader, WriterSeat};
 use property_service::{AreaName, FinishRefusal, Finished, Service, Shared};
 use script_lang::{Client, Script};
 use std::alloc::Global;
@@ -46,18 +47,6 @@ pub struct Raced {
 struct Ended {
     finished: Finished,
     parts: List<ClientPart>,
-}
-
-/// An area of the script's words, and its writer's seat.
-fn open_area(alloc: Global, words: u64) -> Result<(Area, WriterSeat), NoMemory>
-    requires { (64 ≤ words) × (words ≤ 1048576) }
-    ensures { IfOk result (λ made. (made.0.words ≡ words) × (made.1.table ≡ made.0) × (made.1.view ≡ begins words)) }
-{
-    match Area::new(alloc, words) {
-        Ok(made) => Ok(made),
-        Err(AreaRefusal::NoMemory) => Err(NoMemory),
-        Err(_) => unreachable!(),
-    }
 }
 
 /// Takes the actors apart: the readers of all, and what each client was told.
@@ -210,12 +199,12 @@ fn run_over<N: AreaName + Send + Sync, R: Threads + Wait + Sync, G: Gate>(
 }
 
 /// Replaces what the keeper holds, where a property was stored.
-fn keep<P: Keeper>(alloc: Global, finished: &Finished, keeper: &mut P) -> Result<(), DriveRefusal>
+fn keep<P: Keeper>(alloc: Global, finished: &Finished, keeper: &mut P) -> Result<(), RaceRefusal>
     requires saved { IsTrue (stored_in finished.now.history) → IsTrue (are_saved finished.now.saved) }
     requires typed { IsTrue (stored_in finished.now.history) → IsTrue (are_typed finished.now.policy finished.now.saved) }
     ensures keeps { let seen = seen_by P.held P.TellsCrash P.moment P.MayLeave in
         Gives (given_behind finished.now.history finished.now.policy finished.now.saved) (seen keeper.old) (seen keeper.new) result }
-    ensures cause { Counted (keeper_failed result) (P.fault_count keeper.old) (P.fault_count keeper.new) }
+    ensures cause { Counted (has_failed result) (P.fault_count keeper.old) (P.fault_count keeper.new) }
 {
     if !stored(finished.history.items()) {
         return Ok(());
@@ -229,18 +218,18 @@ fn put<P: Keeper>(
     pairs: &List<Pair>,
     policy: &Policy,
     keeper: &mut P,
-) -> Result<(), DriveRefusal>
+) -> Result<(), RaceRefusal>
     requires saved { IsTrue (are_saved pairs.now) }
     requires typed { IsTrue (are_typed policy.now pairs.now) }
     ensures keeps { let seen = seen_by P.held P.TellsCrash P.moment P.MayLeave in
         Gives (store_text policy.now pairs.now ∷ []) (seen keeper.old) (seen keeper.new) result }
-    ensures cause { Counted (keeper_failed result) (P.fault_count keeper.old) (P.fault_count keeper.new) }
+    ensures cause { Counted (has_failed result) (P.fault_count keeper.old) (P.fault_count keeper.new) }
 {
     let text = persist_file::print(alloc, pairs, policy)?;
     match keeper.replace(alloc, text.bytes()) {
         Ok(()) => Ok(()),
-        Err(IoRefusal::Failed) => Err(DriveRefusal::Keeper),
-        Err(IoRefusal::NoMemory) => Err(DriveRefusal::NoMemory),
+        Err(IoRefusal::Failed) => Err(RaceRefusal::Keeper),
+        Err(IoRefusal::NoMemory) => Err(RaceRefusal::NoMemory),
     }
 }
 
@@ -276,7 +265,7 @@ pub fn race<R: Threads + Wait + Sync, P: Keeper, G: Gate>(
     script: &Script,
     keeper: &mut P,
     gate: &G,
-) -> Result<Raced, DriveRefusal>
+) -> Result<Raced, RaceRefusal>
     requires config { IsWellFormed setup.config }
     requires domains { length script.now.clients ≡ length setup.config.domains }
     requires words { (64 ≤ script.now.words) × (script.now.words ≤ 1048576) }
@@ -288,7 +277,7 @@ pub fn race<R: Threads + Wait + Sync, P: Keeper, G: Gate>(
     ensures kept { let seen = seen_by P.held P.TellsCrash P.moment P.MayLeave in
         KeepsRace (opening_of setup.config setup.policy script.now.words) setup.diagnostics script.now result (seen keeper.old)
         (seen keeper.new) }
-    ensures cause { Counted (keeper_failed result) (P.fault_count keeper.old) (P.fault_count keeper.new) }
+    ensures cause { Counted (has_failed result) (P.fault_count keeper.old) (P.fault_count keeper.new) }
 {
     let Setup {
         config,

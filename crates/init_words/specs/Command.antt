@@ -1,7 +1,13 @@
 -- The command that the words are read by, as `clap` sees it.
-use Rattle.std.specs.Prelude.{ℕ, true, List, codes, Some}
+use Rattle.std.specs.Prelude.{◌≡◌, ℕ, false, true, List, codes, Some}
 use Rattle.clap.specs.Words.{App, Rule, new_app, new_rule, with_rule, with_subcommand}
 use Rattle.clap.specs.declared.builder.ArgAction.TheVariants.{Set}
+use Rattle.clap.specs.declared.builder.command.Command.{Command}
+use Rattle.clap.specs.declared.builder.command.Command.TheViews.{out-Command as fields_of}
+
+-- none of a command's arguments is shared with its forms
+abbrev pub HasNoGlobals : Command → Type 0
+HasNoGlobals command = (fields_of command).has_globals ≡ false
 
 -- a word that has to be given
 abbrev pub path_rule : List ℕ → Rule

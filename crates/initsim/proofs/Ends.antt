@@ -11,23 +11,24 @@ use Rattle.init_machine.specs.declared.limit.Limit.TheVariants as limits
 use Rattle.init_trace.specs.Written.{TakesFront}
 use Rattle.init_words.specs.declared.form.Form.{Form}
 use Rattle.init_words.specs.declared.form.Form.TheVariants.{Run, Check, Audit}
-use Rattle.initsim.specs.Check.{CheckWrites, IsCheckStatus}
-use Rattle.initsim.specs.Endings.{IsRunLimit, IsRunStatus}
+use Rattle.job_reader.specs.Tree.Purpose.{ToRun, ToCheck}
+use Rattle.job_reader.specs.Check.{CheckWrites, IsCheckStatus}
+use Rattle.job_reader.specs.Endings.{IsRunLimit, IsRunStatus}
 use Rattle.initsim.specs.Outcome.{AuditRefused, CanBeRun, ComesTo, Ends, FilesRefuse, IsJudged, Outcome, RunRefused, Shows, Told, Untouched, shown_as, status_of_outcome}
 use Rattle.initsim.specs.Outcome.Outcome.{Checked, Judged, Ran, Refused, Unformed}
-use Rattle.initsim.specs.Prepared.{Performs, WritesText}
-use Rattle.initsim.specs.Run.{Course, IsCourseOf, due_of_course}
-use Rattle.initsim.specs.Script.{HasScript, IsReadWhole, ScriptLimitSays, ScriptSays}
-use Rattle.initsim.specs.Stops.{status_of}
-use Rattle.initsim.specs.Store.{HasStore, StoreLimitSays, StoreSays}
-use Rattle.initsim.specs.Trace.{TraceLimitSays, TraceSays}
-use Rattle.initsim.specs.Tree.{IsFitFor, IsTreeTooLarge, TreeLimitSays, TreeSays}
+use Rattle.job_reader.specs.Prepared.{Performs, WritesText}
+use Rattle.job_reader.specs.Run.{Course, IsCourseOf, due_of_course}
+use Rattle.job_reader.specs.Script.{HasScript, IsReadWhole, ScriptLimitSays, ScriptSays}
+use Rattle.job_reader.specs.Stops.{status_of}
+use Rattle.job_reader.specs.Store.{HasStore, StoreLimitSays, StoreSays}
+use Rattle.job_reader.specs.Trace.{TraceLimitSays, TraceSays}
+use Rattle.job_reader.specs.Tree.{IsFitFor, IsTreeTooLarge, TreeLimitSays, TreeSays}
 use Rattle.initsim.specs.Verdict.{verdict_text}
 use Rattle.trace_audit.specs.declared.verdict.Verdict.{Verdict}
-use Rattle.initsim.specs.declared.status.Status.{Status}
-use Rattle.initsim.specs.declared.status.Status.TheVariants as status
-use Rattle.initsim.specs.declared.stop.Stop.{Stop}
-use Rattle.initsim.specs.declared.stop.Stop.TheVariants as stop
+use Rattle.job_reader.specs.declared.status.Status.{Status}
+use Rattle.job_reader.specs.declared.status.Status.TheVariants as status
+use Rattle.job_reader.specs.declared.stop.Stop.{Stop}
+use Rattle.job_reader.specs.declared.stop.Stop.TheVariants as stop
 
 -- what is known of an ending that leaves all as it was
 untouched : (old : Option (List ℕ)) (a b : KeeperView) → b.held ≡ a.held → (a.TellsCrash → Risks a b [] []) → Untouched (shown_as old old a b)
@@ -41,7 +42,7 @@ left_alone old a = untouched old a a refl (λ tells. risks_nothing a [])
 
 -- ---- why a run isn't begun
 
-tree_limit : (told : Told) (limit : Limit) (number : ℕ) → HasScript told.script → IsTreeTooLarge Run told.world limit number
+tree_limit : (told : Told) (limit : Limit) (number : ℕ) → HasScript told.script → IsTreeTooLarge ToRun told.world limit number
     → RunRefused told (status.TooLarge limit number)
 tree_limit told limit number has (inl policy) = inr (has, inl policy)
 tree_limit told limit number has (inr (inl build)) = inr (has, inr (build.0, inl (inl build.1)))
@@ -49,7 +50,7 @@ tree_limit told limit number has (inr (inr rc)) =
     inr (has, inr (rc.policy, inl (inr (rc.build_files, record { refusal = rc.refusal; refused = rc.refused; passes = rc.passes }))))
 
 pub limit_refused : (told : Told) (left : Option (List ℕ)) (limit : Limit) (number : ℕ) → IsRunLimit limit → ScriptLimitSays told.script left limit number
-    → TreeLimitSays Run told.world limit number → StoreLimitSays told.held limit number → RunRefused told (status.TooLarge limit number)
+    → TreeLimitSays ToRun told.world limit number → StoreLimitSays told.held limit number → RunRefused told (status.TooLarge limit number)
 limit_refused told left limits.ScriptBytes number is script tree store = inl script
 limit_refused told left limits.ScriptLines number is script tree store = inl script
 limit_refused told left limits.Steps number is script tree store = inl script
@@ -69,7 +70,7 @@ refused form told why old a b comes held crash = (Refused why, comes, refl, unto
 pub stop_ends : (why : Stop) (form : Form) (told : Told) (left old : Option (List ℕ)) (a b : KeeperView)
     → ((how : Status) → RunRefused told how → ComesTo (Some form) told (Refused how))
     → IsRunStatus (status_of why) → ScriptSays told.script left (status_of why)
-    → TreeSays Run told.world (status_of why) → StoreSays told.held (status_of why) → b.held ≡ a.held → (a.TellsCrash → Risks a b [] [])
+    → TreeSays ToRun told.world (status_of why) → StoreSays told.held (status_of why) → b.held ≡ a.held → (a.TellsCrash → Risks a b [] [])
     → Ends (Some form) told (status_of why) (shown_as old old a b)
 stop_ends stop.ReadFault form told left old a b comes is script tree store held crash = inl (untouched old a b held crash)
 stop_ends stop.NoMemory form told left old a b comes is script tree store held crash = inl (untouched old a b held crash)
@@ -89,11 +90,11 @@ stop_ends stop.BadTrace form told left old a b comes is script tree store held c
 
 -- ---- why nothing is judged
 
-can_be_run : (told : Told) (left : Option (List ℕ)) → IsReadWhole told.script left → IsFitFor Run told.world → HasStore told.held → CanBeRun told
+can_be_run : (told : Told) (left : Option (List ℕ)) → IsReadWhole told.script left → IsFitFor ToRun told.world → HasStore told.held → CanBeRun told
 can_be_run told left script tree store = record { script = script.0; policy = tree.0; files = tree.1; store = store }
 
 audit_limit : (told : Told) (left behind : Option (List ℕ)) (limit : Limit) (number : ℕ) → ScriptLimitSays told.script left limit number
-    → TreeLimitSays Run told.world limit number → StoreLimitSays told.held limit number → TraceLimitSays told.trace limit number
+    → TreeLimitSays ToRun told.world limit number → StoreLimitSays told.held limit number → TraceLimitSays told.trace limit number
     → AuditRefused told (status.TooLarge limit number)
 audit_limit told left behind limits.TraceBytes number script tree store trace = inr (can_be_run told left script tree store, (refl, trace))
 audit_limit told left behind limits.ScriptBytes number script tree store trace = inl (limit_refused told left limits.ScriptBytes number tt script tree store)
@@ -107,7 +108,7 @@ audit_limit told left behind limits.StoreBytes number script tree store trace = 
 
 -- an audit that isn't begun
 pub audit_stop_ends : (why : Stop) (told : Told) (left behind old : Option (List ℕ)) (a b : KeeperView) → ScriptSays told.script left (status_of why)
-    → TreeSays Run told.world (status_of why) → StoreSays told.held (status_of why) → TraceSays told.trace behind (status_of why)
+    → TreeSays ToRun told.world (status_of why) → StoreSays told.held (status_of why) → TraceSays told.trace behind (status_of why)
     → b.held ≡ a.held → (a.TellsCrash → Risks a b [] []) → Ends (Some Audit) told (status_of why) (shown_as old old a b)
 audit_stop_ends stop.ReadFault told left behind old a b script tree store trace held crash = inl (untouched old a b held crash)
 audit_stop_ends stop.NoMemory told left behind old a b script tree store trace held crash = inl (untouched old a b held crash)
@@ -175,16 +176,16 @@ performed_ends course told old new a b c status.BadTrace asked is h = absurd h
 
 -- ---- a check
 
-check_limit : (told : Told) (limit : Limit) (number : ℕ) → IsCheckStatus (status.TooLarge limit number) → TreeLimitSays Check told.world limit number
+check_limit : (told : Told) (limit : Limit) (number : ℕ) → IsCheckStatus (status.TooLarge limit number) → TreeLimitSays ToCheck told.world limit number
     → FilesRefuse told.world (status.TooLarge limit number)
 check_limit told limit number is says = by limit is says
   where
-    of_tree : (l : Limit) → IsTreeTooLarge Check told.world l number → FilesRefuse told.world (status.TooLarge l number)
+    of_tree : (l : Limit) → IsTreeTooLarge ToCheck told.world l number → FilesRefuse told.world (status.TooLarge l number)
     of_tree l (inl policy) = absurd policy
     of_tree l (inr (inl build)) = inl build.1
     of_tree l (inr (inr rc)) = inr (rc.build_files, record { refusal = rc.refusal; refused = rc.refused; passes = rc.passes })
 
-    by : (l : Limit) → IsCheckStatus (status.TooLarge l number) → TreeLimitSays Check told.world l number → FilesRefuse told.world (status.TooLarge l number)
+    by : (l : Limit) → IsCheckStatus (status.TooLarge l number) → TreeLimitSays ToCheck told.world l number → FilesRefuse told.world (status.TooLarge l number)
     by limits.FileBytes is says = of_tree limits.FileBytes says
     by limits.Files is says = of_tree limits.Files says
     by limits.Names is says = of_tree limits.Names says
@@ -195,7 +196,7 @@ check_limit told limit number is says = by limit is says
     by limits.StoreBytes is says = absurd is
     by limits.TraceBytes is says = absurd is
 
-pub check_ends : (told : Told) (old new : Option (List ℕ)) (a : KeeperView) (how : Status) → IsCheckStatus how → TreeSays Check told.world how
+pub check_ends : (told : Told) (old new : Option (List ℕ)) (a : KeeperView) (how : Status) → IsCheckStatus how → TreeSays ToCheck told.world how
     → CheckWrites told.world old new how → Ends (Some Check) told how (shown_as old new a a)
 check_ends told old new a status.Done is tree writes =
     (Checked writes.1.diagnostics, (writes.1.config, writes.1.load), refl, (writes.2 ∙ ap (append_known old) writes.1.printed, took_nothing a))

@@ -5,22 +5,22 @@ use Rattle.init_base.specs.Faults.{Counted}
 use Rattle.init_driver.specs.Keeper.{KeeperView, Took}
 use Rattle.init_driver.proofs.Keepers.{risks_nothing, risks_then}
 use Rattle.rc_import.specs.World.{World}
-use Rattle.initsim.specs.Counts.{AreCounted, Counts, counts_of}
-use Rattle.initsim.specs.Endings.{IsAuditStatus}
+use Rattle.job_reader.specs.Counts.{AreCounted, Counts, counts_of}
+use Rattle.job_reader.specs.Endings.{IsAuditStatus}
 use Rattle.initsim.specs.Judging.{ending_of}
-use Rattle.initsim.specs.Prepared.{IsAsked, WritesText}
-use Rattle.initsim.specs.Script.{IsReadWhole, ScriptSays}
-use Rattle.initsim.specs.Stops.{IsOfTrace, has_read_fault, status_of}
-use Rattle.initsim.specs.Store.{HasStore, StoreSays}
+use Rattle.job_reader.specs.Prepared.{IsAsked, WritesText}
+use Rattle.job_reader.specs.Script.{IsReadWhole, ScriptSays}
+use Rattle.job_reader.specs.Stops.{IsOfTrace, has_read_fault, status_of}
+use Rattle.job_reader.specs.Store.{HasStore, StoreSays}
 use Rattle.initsim.specs.Top.{IsAsBefore}
-use Rattle.initsim.specs.Tree.{IsFitFor, TreeSays}
-use Rattle.initsim.specs.declared.status.Status.{Status}
-use Rattle.initsim.specs.declared.status.Status.TheVariants as status
-use Rattle.initsim.specs.declared.stop.Stop.{Stop}
-use Rattle.initsim.specs.declared.stop.Stop.TheVariants as stop
-use Rattle.init_words.specs.declared.form.Form.TheVariants.{Run}
-use Rattle.initsim.proofs.Prepared.{no_stop_counts, trace_stop_counts}
-use Rattle.initsim.proofs.Says.{trace_stop_script, trace_stop_store, trace_stop_tree}
+use Rattle.job_reader.specs.Tree.{IsFitFor, TreeSays}
+use Rattle.job_reader.specs.declared.status.Status.{Status}
+use Rattle.job_reader.specs.declared.status.Status.TheVariants as status
+use Rattle.job_reader.specs.declared.stop.Stop.{Stop}
+use Rattle.job_reader.specs.declared.stop.Stop.TheVariants as stop
+use Rattle.job_reader.specs.Tree.Purpose.{ToRun}
+use Rattle.job_reader.proofs.Prepared.{no_stop_counts, trace_stop_counts}
+use Rattle.job_reader.proofs.Says.{trace_stop_script, trace_stop_store, trace_stop_tree}
 
 pub judged_script : {T : Type 0} (result : Result T Stop) (bytes : List ℕ) (left : Option (List ℕ))
     → IfErr result IsOfTrace → IsReadWhole bytes left → ScriptSays bytes left (ending_of result)
@@ -28,9 +28,9 @@ judged_script (Ok value) bytes left last read = read
 judged_script (Err why) bytes left last read = trace_stop_script bytes left why last read
 
 pub judged_tree : {T : Type 0} (result : Result T Stop) (world : World)
-    → IfErr result IsOfTrace → IsFitFor Run world → TreeSays Run world (ending_of result)
+    → IfErr result IsOfTrace → IsFitFor ToRun world → TreeSays ToRun world (ending_of result)
 judged_tree (Ok value) world last fit = fit
-judged_tree (Err why) world last fit = trace_stop_tree Run world why last fit
+judged_tree (Err why) world last fit = trace_stop_tree ToRun world why last fit
 
 pub judged_store : {T : Type 0} (result : Result T Stop) (held : List ℕ)
     → IfErr result IsOfTrace → HasStore held → StoreSays held (ending_of result)

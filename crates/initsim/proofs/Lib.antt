@@ -1,9 +1,4 @@
-pub mod Says
-pub mod TreeTexts
-pub mod RcFiles
 pub mod Written
-pub mod WellFormed
-pub mod Prepared
 pub mod Performed
 pub mod Judged
 pub mod Ends
@@ -11,6 +6,6 @@ pub mod Raced
 pub mod Soaked
 pub mod Seated
 pub mod Complete
+pub mod OneStatus
 pub mod Promised
-pub mod Stores
 pub mod TextJudged

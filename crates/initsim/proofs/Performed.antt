@@ -5,25 +5,25 @@ use Rattle.init_base.specs.Faults.{Rose}
 use Rattle.init_driver.specs.Keeper.{KeeperView}
 use Rattle.rc_import.specs.World.{World}
 use Rattle.script_lang.specs.Script.{IsScript}
-use Rattle.initsim.specs.Counts.{AreCounted, Counts, counts_of}
-use Rattle.initsim.specs.Endings.{IsRunStatus}
-use Rattle.initsim.specs.Prepared.{IsFit, IsSetupOf, Performs, course_of}
-use Rattle.initsim.specs.Run.{Course, IsCourseOf}
-use Rattle.initsim.specs.Store.{IsStoreOf}
+use Rattle.job_reader.specs.Counts.{AreCounted, Counts, counts_of}
+use Rattle.job_reader.specs.Endings.{IsRunStatus}
+use Rattle.job_reader.specs.Prepared.{IsFit, IsSetupOf, Performs, course_of}
+use Rattle.job_reader.specs.Run.{Course, IsCourseOf}
+use Rattle.job_reader.specs.Store.{IsStoreOf}
 use Rattle.initsim.specs.Top.{IsAsBefore}
-use Rattle.initsim.specs.Tree.{IsFitFor, TreeSays}
-use Rattle.initsim.specs.declared.prepare.Job.{Job}
-use Rattle.initsim.specs.declared.status.Status.{Status}
-use Rattle.initsim.specs.declared.status.Status.TheVariants as status
-use Rattle.init_words.specs.declared.form.Form.TheVariants.{Run}
+use Rattle.job_reader.specs.Tree.{IsFitFor, TreeSays}
+use Rattle.job_reader.specs.declared.prepare.Job.{Job}
+use Rattle.job_reader.specs.declared.status.Status.{Status}
+use Rattle.job_reader.specs.declared.status.Status.TheVariants as status
+use Rattle.job_reader.specs.Tree.Purpose.{ToRun}
 
 -- ---- what it says
 
-pub setup_fits : (world : World) (job : Job) → IsSetupOf world job.setup → IsFitFor Run world
+pub setup_fits : (world : World) (job : Job) → IsSetupOf world job.setup → IsFitFor ToRun world
 setup_fits world job is = ((job.setup.policy, is.policy), (is.load.short, (is.load.loaded, is.load.rc_files)))
 
 pub performed_tree : (job : Job) (old new : Option (List ℕ)) (keeper kept : KeeperView) (how : Status) (world : World)
-    → Performs (course_of job) old new keeper kept how → IsSetupOf world job.setup → TreeSays Run world how
+    → Performs (course_of job) old new keeper kept how → IsSetupOf world job.setup → TreeSays ToRun world how
 performed_tree job old new keeper kept status.Done world performs is = setup_fits world job is
 performed_tree job old new keeper kept status.WriteFault world performs is = setup_fits world job is
 performed_tree job old new keeper kept status.ReadFault world performs is = tt

@@ -5,19 +5,20 @@ use Rattle.init_words.specs.declared.form.Form.{Form}
 use Rattle.init_words.specs.declared.form.Form.TheVariants.{Run, Race, Check, Audit, Soak}
 use Rattle.property_area.specs.Seats.{Seated}
 use Rattle.rc_import.specs.World.{World}
-use Rattle.initsim.specs.Check.{IsCheckStatus}
-use Rattle.initsim.specs.Counts.{AreCounted, IsDoneUnlessRisen}
-use Rattle.initsim.specs.Endings.{IsAuditStatus, IsRunStatus}
+use Rattle.job_reader.specs.Check.{IsCheckStatus}
+use Rattle.job_reader.specs.Counts.{AreCounted, IsDoneUnlessRisen}
+use Rattle.job_reader.specs.Endings.{IsAuditStatus, IsRunStatus}
 use Rattle.initsim.specs.Outcome.{Ends, Tell, Told}
 use Rattle.initsim.specs.Promise.{Objects, Promise, shown_by, told_by}
-use Rattle.initsim.specs.Script.{ScriptSays}
+use Rattle.job_reader.specs.Script.{ScriptSays}
 use Rattle.initsim.specs.Seats.{GivesSeat, Records}
 use Rattle.initsim.specs.Top.{CanBeDone, CanSoak, IsAsBefore, ReadsScript}
-use Rattle.initsim.specs.Trace.{TraceSays}
-use Rattle.initsim.specs.Tree.{IsWorldOf}
-use Rattle.initsim.specs.declared.status.Status.{Status}
-use Rattle.initsim.specs.declared.status.Status.TheVariants as status
+use Rattle.job_reader.specs.Trace.{TraceSays}
+use Rattle.job_reader.specs.Tree.{IsWorldOf}
+use Rattle.job_reader.specs.declared.status.Status.{Status}
+use Rattle.job_reader.specs.declared.status.Status.TheVariants as status
 use Rattle.initsim.proofs.Ends.{left_alone, usage_ends}
+use Rattle.initsim.proofs.OneStatus.{only_status}
 
 some_not_none : (form : Form) → Some form ≡ None → ⊥
 some_not_none form e = cc
@@ -77,6 +78,7 @@ module _ (before after : Objects) (how : Status) (seat : Option Seated) where
   run_promised form runs said = record {
     usage = no_usage IsRunStatus form how (λ no. no) said.formed;
     ends = said.ends;
+    only = λ told tells outcome comes. only_status (Some form) told how (shown_by before after) (said.ends told tells) outcome comes;
     read = said.read;
     traced = λ e. absurd (no_audit form runs e);
     gives = said.gives;
@@ -105,6 +107,7 @@ pub check_promised : (before after : Objects) (how : Status)
 check_promised before after how ends faults unwritten unkept formed complete = record {
   usage = no_usage IsCheckStatus Check how (λ no. no) formed;
   ends = ends;
+  only = λ told tells outcome comes. only_status (Some Check) told how (shown_by before after) (ends told tells) outcome comes;
   read = λ reads. absurd reads;
   traced = λ e. absurd (other e);
   gives = refl;
@@ -148,6 +151,7 @@ pub audit_promised : (before after : Objects) (how : Status)
 audit_promised before after how ends read traced faults unwritten unkept held formed complete = record {
   usage = no_usage IsAuditStatus Audit how (λ no. no) formed;
   ends = ends;
+  only = λ told tells outcome comes. only_status (Some Audit) told how (shown_by before after) (ends told tells) outcome comes;
   read = λ reads. read;
   traced = λ e. traced;
   gives = refl;
@@ -181,6 +185,7 @@ pub usage_promised : (objects : Objects) → Promise None objects objects status
 usage_promised objects = record {
   usage = (λ usage. refl, λ none. refl);
   ends = λ told tells. usage_ends told objects.taken objects.keeper;
+  only = λ told tells outcome comes. only_status None told status.Usage (shown_by objects objects) (usage_ends told objects.taken objects.keeper) outcome comes;
   read = λ reads. absurd reads;
   traced = λ e. absurd (some_not_none Audit (sym e));
   gives = refl;
@@ -202,6 +207,7 @@ pub memory_promised : (asked : Option Form) (objects : Objects) → (asked ≡ N
 memory_promised asked objects formed = record {
   usage = (λ usage. cc, λ none. absurd (formed none));
   ends = λ told tells. inl (left_alone objects.taken objects.keeper);
+  only = λ told tells outcome comes. inl tt;
   read = λ reads. always objects.script _ (λ bytes. tt);
   traced = λ e. always objects.trace _ (λ bytes. tt);
   gives = none_given asked;

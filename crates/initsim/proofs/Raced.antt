@@ -4,24 +4,25 @@ use Rattle.init_base.specs.Faults.{Rose}
 use Rattle.init_driver.specs.Keeper.{KeeperView, Took}
 use Rattle.init_driver.specs.Stored.{Keeps}
 use Rattle.init_driver.proofs.Keepers.{risks_then, risks_took, took_then}
-use Rattle.init_driver.specs.declared.refusal.DriveRefusal.TheVariants as refusal
 use Rattle.init_machine.specs.declared.report.Report.{Report}
 use Rattle.init_race.specs.Race.{KeepsNot, race_given}
+use Rattle.init_race.specs.declared.refusal.RaceRefusal.TheVariants as refusal
 use Rattle.init_trace.specs.Report.{TextOf}
 use Rattle.rc_import.specs.World.{World}
-use Rattle.initsim.specs.Counts.{AreCounted, SomeReadRose, counts_of}
+use Rattle.job_reader.specs.Counts.{AreCounted, SomeReadRose, counts_of}
 use Rattle.initsim.specs.Outcome.{ComesTo, Ends, Told, Untouched, shown_as}
 use Rattle.initsim.specs.Outcome.Outcome.{Raced}
-use Rattle.initsim.specs.Prepared.{WritesText}
+use Rattle.job_reader.specs.Prepared.{WritesText}
 use Rattle.initsim.specs.Racing.{IsAudited, PerformsRace, WritesFront, WritesNothing}
-use Rattle.initsim.specs.Run.{Course, IsCourseOf}
-use Rattle.initsim.specs.Script.{IsReadWhole, ScriptSays}
-use Rattle.initsim.specs.Store.{HasStore, StoreSays}
+use Rattle.job_reader.specs.Run.{Course, IsCourseOf}
+use Rattle.job_reader.specs.Script.{IsReadWhole, ScriptSays}
+use Rattle.job_reader.specs.Store.{HasStore, StoreSays}
 use Rattle.initsim.specs.Top.{IsAsBefore}
-use Rattle.initsim.specs.Tree.{IsFitFor, TreeSays}
-use Rattle.initsim.specs.declared.status.Status.{Status}
-use Rattle.initsim.specs.declared.status.Status.TheVariants as status
-use Rattle.init_words.specs.declared.form.Form.TheVariants.{Race, Run}
+use Rattle.job_reader.specs.Tree.{IsFitFor, TreeSays}
+use Rattle.job_reader.specs.declared.status.Status.{Status}
+use Rattle.job_reader.specs.declared.status.Status.TheVariants as status
+use Rattle.init_words.specs.declared.form.Form.TheVariants.{Race}
+use Rattle.job_reader.specs.Tree.Purpose.{ToRun}
 
 -- ---- which statuses a race has
 
@@ -41,9 +42,9 @@ raced_status P course old new keeper kept (status.BadStore line why) performs do
 raced_status P course old new keeper kept status.BadTrace performs done write read memory = absurd performs
 
 pub raced_tree : (course : Course) (old new : Option (List ℕ)) (keeper kept : KeeperView) (how : Status) (world : World)
-    → PerformsRace course old new keeper kept how → IsFitFor Run world → TreeSays Run world how
+    → PerformsRace course old new keeper kept how → IsFitFor ToRun world → TreeSays ToRun world how
 raced_tree course old new keeper kept how world performs fit =
-    raced_status (λ how. TreeSays Run world how) course old new keeper kept how performs fit fit tt tt
+    raced_status (λ how. TreeSays ToRun world how) course old new keeper kept how performs fit fit tt tt
 
 pub raced_script : (course : Course) (old new : Option (List ℕ)) (keeper kept : KeeperView) (how : Status) (bytes : List ℕ) (left : Option (List ℕ))
     → PerformsRace course old new keeper kept how → IsReadWhole bytes left → ScriptSays bytes left how

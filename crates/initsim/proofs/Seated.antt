@@ -8,12 +8,12 @@ use Rattle.init_race.specs.Race.{HasRecorded as HasRecordedRace, race_given}
 use Rattle.init_trace.specs.Report.{TextOf}
 use Rattle.property_area.specs.Seats.{Seated}
 use Rattle.initsim.specs.Outcome.{Shown, Told, shown_as}
-use Rattle.initsim.specs.Prepared.{Performs, WritesText}
+use Rattle.job_reader.specs.Prepared.{Performs, WritesText}
 use Rattle.initsim.specs.Racing.{IsAudited}
-use Rattle.initsim.specs.Run.{Course, IsCourseOf}
+use Rattle.job_reader.specs.Run.{Course, IsCourseOf}
 use Rattle.initsim.specs.Seats.{GivesOwn, IsGiven, RaceGives, Records, RecordsRace, RunGives}
-use Rattle.initsim.specs.declared.status.Status.{Status}
-use Rattle.initsim.specs.declared.status.Status.TheVariants as status
+use Rattle.job_reader.specs.declared.status.Status.{Status}
+use Rattle.job_reader.specs.declared.status.Status.TheVariants as status
 use Rattle.init_words.specs.declared.form.Form.TheVariants.{Race, Run}
 
 some_of : {T : Type 0} (P : T → Type 0) (o : Option T) → IsSomeAnd o P → IsSome o

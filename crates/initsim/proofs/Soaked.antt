@@ -16,27 +16,28 @@ use Rattle.soak_summary.specs.Summary.{SummaryText}
 use Rattle.soak_summary.specs.declared.tally.Tally.{Tally}
 use Rattle.init_words.specs.Form.{form_of}
 use Rattle.init_words.specs.Services.{begins_number, services_in}
-use Rattle.initsim.specs.Counts.{AreCounted, Counts, IsDoneUnlessRisen, counts_of}
-use Rattle.initsim.specs.Endings.{IsRunStatus}
+use Rattle.job_reader.specs.Counts.{AreCounted, Counts, IsDoneUnlessRisen, counts_of}
+use Rattle.job_reader.specs.Endings.{IsRunStatus}
 use Rattle.initsim.specs.Outcome.{Ends, TellRun, Told, generated_sources, shown_as}
 use Rattle.initsim.specs.Outcome.Outcome.{Refused, Soaked}
-use Rattle.initsim.specs.Prepared.{IsFit, IsSetupOf, WritesText, course_of}
-use Rattle.initsim.specs.Run.{Course, IsCourseOf}
-use Rattle.initsim.specs.Script.{ScriptSays}
+use Rattle.job_reader.specs.Prepared.{IsFit, IsSetupOf, WritesText, course_of}
+use Rattle.job_reader.specs.Run.{Course, IsCourseOf}
+use Rattle.job_reader.specs.Script.{ScriptSays}
 use Rattle.initsim.specs.Seats.{Records, RunGives}
 use Rattle.initsim.specs.SoakEnds.{EndsSoak}
 use Rattle.initsim.specs.Soaking.{generated_script, generated_tree, soak_text}
-use Rattle.initsim.specs.Stops.{status_of}
-use Rattle.initsim.specs.Store.{IsStoreOf, StoreSays}
-use Rattle.initsim.specs.Texts.{Tree}
+use Rattle.job_reader.specs.Stops.{status_of}
+use Rattle.job_reader.specs.Store.{IsStoreOf, StoreSays}
+use Rattle.job_reader.specs.Texts.{Tree}
 use Rattle.initsim.specs.Top.{CanSoak}
-use Rattle.initsim.specs.Tree.{IsWorldOf, TreeSays}
-use Rattle.initsim.specs.declared.prepare.Job.{Job}
-use Rattle.initsim.specs.declared.status.Status.{Status}
-use Rattle.initsim.specs.declared.status.Status.TheVariants as status
-use Rattle.initsim.specs.declared.stop.Stop.{Stop}
-use Rattle.initsim.specs.declared.stop.Stop.TheVariants as stop
+use Rattle.job_reader.specs.Tree.{IsWorldOf, TreeSays}
+use Rattle.job_reader.specs.declared.prepare.Job.{Job}
+use Rattle.job_reader.specs.declared.status.Status.{Status}
+use Rattle.job_reader.specs.declared.status.Status.TheVariants as status
+use Rattle.job_reader.specs.declared.stop.Stop.{Stop}
+use Rattle.job_reader.specs.declared.stop.Stop.TheVariants as stop
 use Rattle.init_words.specs.declared.form.Form.TheVariants.{Run, Race, Check, Audit, Soak}
+use Rattle.job_reader.specs.Tree.Purpose.{ToRun}
 use Rattle.initsim.proofs.Complete.{complete_run}
 use Rattle.initsim.proofs.Ends.{limit_refused, nothing_new}
 use Rattle.initsim.proofs.Judged.{written_status}
@@ -74,7 +75,7 @@ soak_records services told old new a status.BadTrace seat h = tt
 
 -- a soak that isn't begun
 pub soak_refused : (why : Stop) (services : ℕ) (told : Told) (left old : Option (List ℕ)) → (why ≡ stop.ReadFault → ⊥) → IsRunStatus (status_of why)
-    → ScriptSays told.script left (status_of why) → TreeSays Run told.world (status_of why) → StoreSays told.held (status_of why)
+    → ScriptSays told.script left (status_of why) → TreeSays ToRun told.world (status_of why) → StoreSays told.held (status_of why)
     → EndsSoak services told old old (status_of why) None
 soak_refused stop.ReadFault services told left old steady is script tree store = absurd (steady refl)
 soak_refused stop.NoMemory services told left old steady is script tree store = inl refl
@@ -148,14 +149,14 @@ module _ (services : ℕ) (files : Tree) (bytes held : List ℕ) (left : Option 
       writes gives
 
   pub boot_refused : (why : Stop) (old : Option (List ℕ)) → (why ≡ stop.ReadFault → ⊥) → IsRunStatus (status_of why) → ScriptSays bytes left (status_of why)
-      → ((world : World) → IsWorldOf (Some files) world → TreeSays Run world (status_of why)) → StoreSays held (status_of why)
+      → ((world : World) → IsWorldOf (Some files) world → TreeSays ToRun world (status_of why)) → StoreSays held (status_of why)
       → (told : Told) → TellRun (generated_sources services) told → EndsSoak services told old old (status_of why) None
   boot_refused why old steady is script tree store told tells =
       soak_refused why services told left old steady is (subst (λ (b : List ℕ). ScriptSays b left (status_of why)) (told_script told tells) script)
       (tree told.world (told_world told tells)) (subst (λ (h : List ℕ). StoreSays h (status_of why)) (told_store told tells) store)
 
   -- a generated boot that can be run isn't refused
-  pub boot_done : (how : Status) (before now : Counts) → IsRunStatus how → ScriptSays bytes left how → ((world : World) → IsWorldOf (Some files) world → TreeSays Run world how)
+  pub boot_done : (how : Status) (before now : Counts) → IsRunStatus how → ScriptSays bytes left how → ((world : World) → IsWorldOf (Some files) world → TreeSays ToRun world how)
       → StoreSays held how → AreCounted how before now → CanSoak services → IsDoneUnlessRisen how before now
   boot_done how before now is script tree store counted can =
       complete_run how (generated_sources services) left can.world before now is (subst (λ (b : List ℕ). ScriptSays b left how) bytes_are script)

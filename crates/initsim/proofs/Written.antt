@@ -4,20 +4,20 @@ use Rattle.init_machine.specs.declared.config.Config.{Config}
 use Rattle.init_machine.specs.declared.diagnostic.Diagnostic.{Diagnostic}
 use Rattle.init_trace.specs.Report.{DiagnosticsText}
 use Rattle.rc_import.specs.World.{World}
-use Rattle.initsim.specs.Check.{CheckWrites, IsCheckText}
-use Rattle.initsim.specs.Prepared.{WritesText}
-use Rattle.initsim.specs.Tree.{IsFitFor, IsLoadOf, TreeSays}
-use Rattle.initsim.specs.declared.status.Status.{Status}
-use Rattle.initsim.specs.declared.status.Status.TheVariants as status
-use Rattle.init_words.specs.declared.form.Form.TheVariants.{Check}
+use Rattle.job_reader.specs.Check.{CheckWrites, IsCheckText}
+use Rattle.job_reader.specs.Prepared.{WritesText}
+use Rattle.job_reader.specs.Tree.{IsFitFor, IsLoadOf, TreeSays}
+use Rattle.job_reader.specs.declared.status.Status.{Status}
+use Rattle.job_reader.specs.declared.status.Status.TheVariants as status
+use Rattle.job_reader.specs.Tree.Purpose.{ToCheck}
 
 -- ---- a check
 
-loadable : (world : World) (config : Config) (diagnostics : List Diagnostic) → IsLoadOf world config diagnostics → IsFitFor Check world
+loadable : (world : World) (config : Config) (diagnostics : List Diagnostic) → IsLoadOf world config diagnostics → IsFitFor ToCheck world
 loadable world config diagnostics load = (tt, (load.short, (load.loaded, load.rc_files)))
 
 pub check_says : (world : World) (config : Config) (diagnostics : List Diagnostic) (old new : Option (List ℕ)) (how : Status)
-    → IsLoadOf world config diagnostics → WritesText (DiagnosticsText diagnostics) old new how → TreeSays Check world how
+    → IsLoadOf world config diagnostics → WritesText (DiagnosticsText diagnostics) old new how → TreeSays ToCheck world how
 check_says world config diagnostics old new status.Done load writes = loadable world config diagnostics load
 check_says world config diagnostics old new status.WriteFault load writes = loadable world config diagnostics load
 check_says world config diagnostics old new status.NoMemory load writes = tt

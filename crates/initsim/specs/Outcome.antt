@@ -21,19 +21,19 @@ use Rattle.rc_import.specs.Order.{root_file}
 use Rattle.rc_import.specs.World.{World}
 use Rattle.rc_import.specs.declared.loaded.LoadRefusal.{LoadRefusal}
 use Rattle.script_lang.specs.Refusal.{IsBadAt, IsTooLarge}
-use Rattle.initsim.specs.Policy.{HasPolicy, IsBadPolicyAt, IsPolicyTooLarge}
+use Rattle.job_reader.specs.Policy.{HasPolicy, IsBadPolicyAt, IsPolicyTooLarge}
 use Rattle.initsim.specs.Racing.{CutsRace, IsAudited, WritesRace}
-use Rattle.initsim.specs.Run.{Course, IsCourseOf, due_of_course, run_text}
-use Rattle.initsim.specs.Script.{HasScript}
+use Rattle.job_reader.specs.Run.{Course, IsCourseOf, due_of_course, run_text}
+use Rattle.job_reader.specs.Script.{HasScript}
 use Rattle.initsim.specs.Soaking.{generated_script, generated_tree, soak_text}
-use Rattle.initsim.specs.Store.{HasStore}
-use Rattle.initsim.specs.Texts.{Tree}
-use Rattle.initsim.specs.Trace.{IsNoTrace, IsTraceTooLarge}
+use Rattle.job_reader.specs.Store.{HasStore}
+use Rattle.job_reader.specs.Texts.{Tree}
+use Rattle.job_reader.specs.Trace.{IsNoTrace, IsTraceTooLarge}
 use Rattle.initsim.specs.Verdict.{IsVerdictOn, verdict_text}
 use Rattle.trace_audit.specs.declared.verdict.Verdict.{Verdict}
-use Rattle.initsim.specs.Tree.{AreBuildFilesShort, AreBuildFilesTooLarge, IsLoadOf, IsLoadable, IsWorldOf, PassesLimit}
-use Rattle.initsim.specs.declared.status.Status.{Status}
-use Rattle.initsim.specs.declared.status.Status.TheVariants as status
+use Rattle.job_reader.specs.Tree.{AreBuildFilesShort, AreBuildFilesTooLarge, IsLoadOf, IsLoadable, IsWorldOf, PassesLimit}
+use Rattle.job_reader.specs.declared.status.Status.{Status}
+use Rattle.job_reader.specs.declared.status.Status.TheVariants as status
 
 -- what is told as a call begins: the script's bytes, the tree with the meaning of its rc files, the store's text, and the
 -- trace's bytes
@@ -214,6 +214,13 @@ CutShort why (Judged verdict) shown = TakesFront shown.old shown.new (verdict_te
 CutShort refusal.Keeper (Soaked services course) shown = ⊥
 CutShort why (Soaked services course) shown = TakesFront shown.old shown.new (soak_text services course) × Took shown.keeper shown.kept []
 CutShort why outcome shown = ⊥
+
+-- a fault, or want of memory, cut the call
+abbrev pub IsCut : Status → Type 0
+IsCut status.ReadFault = ⊤
+IsCut status.WriteFault = ⊤
+IsCut status.NoMemory = ⊤
+IsCut how = ⊥
 
 -- How a call ends. A fault of what is read, and want of memory, come before anything is written, or in the run or the race.
 abbrev pub Ends : Option Form → Told → Status → Shown → Type 0

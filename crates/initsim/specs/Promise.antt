@@ -1,22 +1,22 @@
 -- What the top call promises: how it ends, as its objects show it.
-use Rattle.std.specs.Prelude.{◌≡◌, ◌↔◌, ℕ, List, Option, Some, None, IfSome}
+use Rattle.std.specs.Prelude.{◌≡◌, ◌↔◌, ◌⊎◌, ℕ, List, Option, Some, None, IfSome}
 use Rattle.init_driver.specs.Keeper.{KeeperView}
 use Rattle.init_words.specs.declared.form.Form.{Form}
 use Rattle.init_words.specs.declared.form.Form.TheVariants as form
 use Rattle.property_area.specs.Seats.{Seated}
 use Rattle.rc_import.specs.World.{World}
-use Rattle.initsim.specs.Check.{IsCheckStatus}
-use Rattle.initsim.specs.Counts.{AreCounted, Counts, IsDoneUnlessRisen}
-use Rattle.initsim.specs.Endings.{IsRunStatus}
-use Rattle.initsim.specs.Outcome.{Ends, Shown, Sources, Tell, Told, shown_as, sources_of}
-use Rattle.initsim.specs.Script.{ScriptSays}
+use Rattle.job_reader.specs.Check.{IsCheckStatus}
+use Rattle.job_reader.specs.Counts.{AreCounted, Counts, IsDoneUnlessRisen}
+use Rattle.job_reader.specs.Endings.{IsRunStatus}
+use Rattle.initsim.specs.Outcome.{ComesTo, Ends, IsCut, Outcome, Shown, Sources, Tell, Told, shown_as, sources_of, status_of_outcome}
+use Rattle.job_reader.specs.Script.{ScriptSays}
 use Rattle.initsim.specs.Seats.{GivesSeat, Records}
-use Rattle.initsim.specs.Texts.{Tree}
+use Rattle.job_reader.specs.Texts.{Tree}
 use Rattle.initsim.specs.Top.{CanBeDone, CanSoak, IsAsBefore, ReadsScript}
-use Rattle.initsim.specs.Trace.{TraceSays}
-use Rattle.initsim.specs.Tree.{IsWorldOf}
-use Rattle.initsim.specs.declared.status.Status.{Status}
-use Rattle.initsim.specs.declared.status.Status.TheVariants as status
+use Rattle.job_reader.specs.Trace.{TraceSays}
+use Rattle.job_reader.specs.Tree.{IsWorldOf}
+use Rattle.job_reader.specs.declared.status.Status.{Status}
+use Rattle.job_reader.specs.declared.status.Status.TheVariants as status
 
 -- what the objects of a call show: the tree, what is left of the script and of the trace, the keeper, what the sink took, and the
 -- counts of faults of all of them
@@ -46,6 +46,9 @@ pub record Promise (asked : Option Form) (before after : Objects) (how : Status)
   pub usage : (how ≡ status.Usage) ↔ (asked ≡ None)
   -- where it is told what the form reads, the call ends as the outcome says
   pub ends : (told : Told) → Tell asked (told_by before) told → Ends asked told how (shown_by before after)
+  -- and unless it was cut, its status is that of each outcome: a refusal comes exactly where its reader is the first that refuses
+  pub only : (told : Told) → Tell asked (told_by before) told → (outcome : Outcome) → ComesTo asked told outcome
+      → IsCut how ⊎ (how ≡ status_of_outcome outcome)
   pub read : ReadsScript asked → IfSome before.script (λ bytes. ScriptSays bytes after.script how)
   pub traced : asked ≡ Some form.Audit → IfSome before.trace (λ bytes. TraceSays bytes after.trace how)
   -- a run, a race or a soak that is done gives the seat of the area's writer, and no other call does; what the writer has recorded is

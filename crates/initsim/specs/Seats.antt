@@ -11,10 +11,10 @@ use Rattle.init_words.specs.declared.form.Form.TheVariants as form
 use Rattle.property_area.specs.Seats.{Seated}
 use Rattle.initsim.specs.Outcome.{IsRaced, Shown, Told}
 use Rattle.initsim.specs.Racing.{IsAudited, WritesRace}
-use Rattle.initsim.specs.Run.{Course, IsCourseOf, run_text}
+use Rattle.job_reader.specs.Run.{Course, IsCourseOf, run_text}
 use Rattle.initsim.specs.Soaking.{soak_text}
-use Rattle.initsim.specs.declared.status.Status.{Status}
-use Rattle.initsim.specs.declared.status.Status.TheVariants as status
+use Rattle.job_reader.specs.declared.status.Status.{Status}
+use Rattle.job_reader.specs.declared.status.Status.TheVariants as status
 
 -- a call that is done gives a seat, and no other does
 abbrev pub IsGiven : Status → Option Seated → Type 0

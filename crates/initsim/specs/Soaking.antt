@@ -5,8 +5,8 @@ use Rattle.rc_import.specs.Order.{root_file}
 use Rattle.script_lang.specs.Generated.{generated, script_text}
 use Rattle.soak_summary.specs.Counting.{tally_of}
 use Rattle.soak_summary.specs.Summary.{SummaryText}
-use Rattle.initsim.specs.Run.{Course}
-use Rattle.initsim.specs.Texts.{Tree, allow_path, contexts_path}
+use Rattle.job_reader.specs.Run.{Course}
+use Rattle.job_reader.specs.Texts.{Tree, allow_path, contexts_path}
 
 -- the tree of so many services: the root file and the policy
 unfoldable pub generated_tree : ℕ → Tree

@@ -2,14 +2,15 @@
 use Rattle.std.specs.Prelude.{◌≡◌, ℕ, ⊤, ◌⊎◌, Option, Some, None, IsSomeAnd}
 use Rattle.init_base.specs.Faults.{Rose}
 use Rattle.initsim.specs.Outcome.{Sources, generated_sources}
-use Rattle.initsim.specs.Script.{HasScript}
+use Rattle.job_reader.specs.Script.{HasScript}
 use Rattle.initsim.specs.Soaking.{generated_tree}
-use Rattle.initsim.specs.Store.{HasStore}
+use Rattle.job_reader.specs.Store.{HasStore}
 use Rattle.rc_import.specs.World.{World}
-use Rattle.initsim.specs.Trace.{HasTrace}
-use Rattle.initsim.specs.Tree.{IsFitFor, IsWorldOf}
-use Rattle.initsim.specs.declared.status.Status.{Status}
-use Rattle.initsim.specs.declared.status.Status.TheVariants as status
+use Rattle.job_reader.specs.Trace.{HasTrace}
+use Rattle.job_reader.specs.Tree.{IsFitFor, IsWorldOf}
+use Rattle.job_reader.specs.Tree.Purpose.{ToRun, ToCheck}
+use Rattle.job_reader.specs.declared.status.Status.{Status}
+use Rattle.job_reader.specs.declared.status.Status.TheVariants as status
 use Rattle.init_words.specs.declared.form.Form.{Form}
 use Rattle.init_words.specs.declared.form.Form.TheVariants as form
 
@@ -30,7 +31,7 @@ IsAsBefore old new status.BadTrace before now = new ≡ old
 -- What is told can be run: the script's bytes are a script, the world can be run, and the text that the keeper holds is a store.
 pub record CanRun (sources : Sources) (world : World) : Type 0 where
   pub script : IsSomeAnd sources.script HasScript
-  pub world_is_fit : IsFitFor form.Run world
+  pub world_is_fit : IsFitFor ToRun world
   pub store : IsSomeAnd sources.held HasStore
 
 -- the generated boot of so many services can be run
@@ -45,7 +46,7 @@ abbrev pub CanBeDone : Option Form → Sources → World → Type 0
 CanBeDone None sources world = ⊥
 CanBeDone (Some form.Run) sources world = CanRun sources world
 CanBeDone (Some form.Race) sources world = CanRun sources world
-CanBeDone (Some form.Check) sources world = IsFitFor form.Check world
+CanBeDone (Some form.Check) sources world = IsFitFor ToCheck world
 CanBeDone (Some form.Audit) sources world = CanRun sources world × IsSomeAnd sources.trace HasTrace
 CanBeDone (Some (form.Soak services)) sources world = ⊥
 

@@ -7,8 +7,8 @@ use Rattle.trace_audit.specs.declared.verdict.Verdict.{Verdict}
 use Rattle.trace_audit.specs.declared.verdict.Verdict.TheVariants as verdict
 use Rattle.trace_audit.specs.declared.verdict.Why.{Why}
 use Rattle.trace_audit.specs.declared.verdict.Why.TheVariants as why
-use Rattle.initsim.specs.Run.{Course}
-use Rattle.initsim.specs.Trace.{IsTraceOf}
+use Rattle.job_reader.specs.Run.{Course}
+use Rattle.job_reader.specs.Trace.{IsTraceOf}
 
 -- What an audit says of the report that the bytes are the text of: whether a run of the course can have written it, and if
 -- not, what is wrong first.

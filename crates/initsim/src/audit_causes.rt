@@ -4,16 +4,16 @@
 ghost use Rattle.std.specs.Prelude.{◌≡◌, IfSome, IsTrue, length};
 ghost use Rattle.init_core.specs.Core.{IsDeclared};
 ghost use Rattle.init_machine.specs.declared.config.Config.{Config as Declared};
-ghost use Rattle.initsim.specs.Prepared.{IsFit};
+ghost use Rattle.job_reader.specs.Prepared.{IsFit};
 
 use crate::causes::text_at;
-use crate::prepare::{Job, prepare};
 use crate::store::store_below;
 use init_base::{List, MemSink, StdFiles, StdSource, Text};
 use init_core::Core;
 use init_driver::Setup;
 use init_machine::{ClientPart, Diagnostic, Entry, Input, ListStore, Report};
 use init_trace::{Printer, print, print_diagnostics};
+use job_reader::{Job, prepare};
 use refusal_causes::ShownPath;
 use script_lang::Client;
 use std::alloc::Global;

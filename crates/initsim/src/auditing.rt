@@ -4,27 +4,25 @@ ghost use Rattle.std.specs.Prelude.{◌≡◌, ℕ, IfErr, IfOk, IfSome, List as
 ghost use Rattle.init_base.specs.Faults.{Counted};
 ghost use Rattle.init_driver.specs.Keeper.{seen_by};
 ghost use Rattle.init_words.specs.declared.form.Form.TheVariants as Form;
-ghost use Rattle.initsim.specs.Counts.{AreCounted, counts_of};
-ghost use Rattle.initsim.specs.Endings.{IsAuditStatus};
+ghost use Rattle.job_reader.specs.Counts.{AreCounted, counts_of};
+ghost use Rattle.job_reader.specs.Endings.{IsAuditStatus};
 ghost use Rattle.initsim.specs.Judging.{JudgesText, ending_of};
 ghost use Rattle.initsim.specs.Outcome.{Ends, IsJudged, TellRun, Told, shown_as, sources_of};
-ghost use Rattle.initsim.specs.Prepared.{IsAsked, IsFit, course_of};
-ghost use Rattle.initsim.specs.Script.{ScriptSays};
-ghost use Rattle.initsim.specs.Stops.{IsOfTrace, has_read_fault};
-ghost use Rattle.initsim.specs.Store.{StoreSays};
+ghost use Rattle.job_reader.specs.Prepared.{IsAsked, IsFit, course_of};
+ghost use Rattle.job_reader.specs.Script.{ScriptSays};
+ghost use Rattle.job_reader.specs.Stops.{IsOfTrace, has_read_fault};
+ghost use Rattle.job_reader.specs.Store.{StoreSays};
 ghost use Rattle.initsim.specs.Top.{IsAsBefore};
-ghost use Rattle.initsim.specs.Trace.{TraceSays};
-ghost use Rattle.initsim.specs.Tree.{IsWorldOf, TreeSays};
+ghost use Rattle.job_reader.specs.Trace.{TraceSays};
+ghost use Rattle.job_reader.specs.Tree.{IsWorldOf, TreeSays};
+ghost use Rattle.job_reader.specs.Tree.Purpose.{ToRun};
 ghost use Rattle.initsim.specs.Verdict.{IsVerdictOn};
 ghost use Rattle.rc_import.specs.World.{World};
 
-use crate::prepare::{Job, prepare};
-use crate::reading::read_trace;
-use crate::status::Status;
-use crate::stop::Stop;
 use crate::verdict::write_verdict;
 use init_base::{Files, Keeper, Sink, Source};
 use init_driver::Setup;
+use job_reader::{Job, Status, Stop, prepare, read_trace};
 use std::alloc::Global;
 use trace_audit::{Verdict, audit_text};
 
@@ -65,7 +63,7 @@ fn judge<F: Files, S: Source, T: Source, P: Keeper>(
     keeper: &mut P,
 ) -> Result<Verdict, Stop>
     ensures script { IfSome (S.left script.old) (λ bytes. ScriptSays bytes (S.left script.new) (ending_of result)) }
-    ensures tree { (world : World) → IsWorldOf (F.tree files.old) world → TreeSays Form.Run world (ending_of result) }
+    ensures tree { (world : World) → IsWorldOf (F.tree files.old) world → TreeSays ToRun world (ending_of result) }
     ensures store { IfSome (P.held keeper.old) (λ held. StoreSays held (ending_of result)) }
     ensures trace { IfSome (T.left trace.old) (λ bytes. TraceSays bytes (T.left trace.new) (ending_of result)) }
     ensures judged { (told : Told) →
@@ -91,7 +89,7 @@ pub fn audit_trace<F: Files, S: Source, T: Source, P: Keeper, K: Sink>(
     out: &mut K,
 ) -> Status
     ensures script { IfSome (S.left script.old) (λ bytes. ScriptSays bytes (S.left script.new) result) }
-    ensures tree { (world : World) → IsWorldOf (F.tree files.old) world → TreeSays Form.Run world result }
+    ensures tree { (world : World) → IsWorldOf (F.tree files.old) world → TreeSays ToRun world result }
     ensures store { IfSome (P.held keeper.old) (λ held. StoreSays held result) }
     ensures trace { IfSome (T.left trace.old) (λ bytes. TraceSays bytes (T.left trace.new) result) }
     ensures ends { let seen = seen_by P.held P.TellsCrash P.moment P.MayLeave in

@@ -4,11 +4,10 @@
 ghost use Rattle.std.specs.Prelude.{◌≤◌, IfSome, length};
 
 use crate::audit_causes::{bad_trace, bad_verdict};
-use crate::status::Status;
 use crate::store::{IMAGE, TEXT, store_below};
-use crate::texts::read_build_files;
 use init_base::{Files, Keeper, List, NoMemory, ReadRefusal, StdFiles, StdSource, Text, read_all};
 use init_machine::Limit;
+use job_reader::{Status, read_build_files};
 use persist_disk::OpenRefusal;
 use prop_rules::boot_view;
 use rc_import::LoadRefusal;

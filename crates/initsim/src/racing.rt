@@ -4,25 +4,24 @@ ghost use Rattle.std.specs.Prelude.{◌≡◌, ℕ, IfSome, List as Items, Optio
 ghost use Rattle.init_driver.specs.Keeper.{seen_by};
 ghost use Rattle.init_trace.specs.Report.{TextOf};
 ghost use Rattle.init_words.specs.declared.form.Form.TheVariants as Form;
-ghost use Rattle.initsim.specs.Counts.{AreCounted, counts_of};
-ghost use Rattle.initsim.specs.Endings.{IsRunStatus};
+ghost use Rattle.job_reader.specs.Counts.{AreCounted, counts_of};
+ghost use Rattle.job_reader.specs.Endings.{IsRunStatus};
 ghost use Rattle.initsim.specs.Outcome.{Ends, TellRun, Told, shown_as, sources_of};
-ghost use Rattle.initsim.specs.Prepared.{IsFit, WritesText, course_of};
+ghost use Rattle.job_reader.specs.Prepared.{IsFit, WritesText, course_of};
 ghost use Rattle.initsim.specs.Racing.{PerformsRace};
-ghost use Rattle.initsim.specs.Script.{ScriptSays};
+ghost use Rattle.job_reader.specs.Script.{ScriptSays};
 ghost use Rattle.initsim.specs.Seats.{GivesOwn, GivesSeat, RaceGives, Records};
-ghost use Rattle.initsim.specs.Store.{StoreSays};
+ghost use Rattle.job_reader.specs.Store.{StoreSays};
 ghost use Rattle.initsim.specs.Top.{IsAsBefore};
-ghost use Rattle.initsim.specs.Tree.{IsWorldOf, TreeSays};
+ghost use Rattle.job_reader.specs.Tree.{IsWorldOf, TreeSays};
+ghost use Rattle.job_reader.specs.Tree.Purpose.{ToRun};
 ghost use Rattle.rc_import.specs.World.{World};
 
-use crate::prepare::{Job, prepare};
-use crate::status::Status;
 use init_base::{Files, IoRefusal, Keeper, Sink, Source};
-use init_driver::DriveRefusal;
 use init_machine::Report;
-use init_race::{Gate, Raced, race};
+use init_race::{Gate, RaceRefusal, Raced, race};
 use init_trace::print;
+use job_reader::{Job, Status, prepare};
 use property_area::WriterSeat;
 use std::alloc::Global;
 use std::sync::Wait;
@@ -77,9 +76,8 @@ fn perform_race<R: Threads + Wait + Sync, P: Keeper, K: Sink, G: Gate>(
 {
     match race(rt, alloc, job.setup, &job.script, keeper, gate) {
         Ok(raced) => write_raced(alloc, raced, out),
-        Err(DriveRefusal::Keeper) => (Status::ReadFault, None),
-        Err(DriveRefusal::Write) => unreachable!(),
-        Err(DriveRefusal::NoMemory) => (Status::NoMemory, None),
+        Err(RaceRefusal::Keeper) => (Status::ReadFault, None),
+        Err(RaceRefusal::NoMemory) => (Status::NoMemory, None),
     }
 }
 
@@ -95,7 +93,7 @@ pub fn race_script<R: Threads + Wait + Sync, F: Files, S: Source, P: Keeper, K: 
     gate: &G,
 ) -> (Status, Option<WriterSeat>)
     ensures script { IfSome (S.left script.old) (λ bytes. ScriptSays bytes (S.left script.new) result.0) }
-    ensures tree { (world : World) → IsWorldOf (F.tree files.old) world → TreeSays Form.Run world result.0 }
+    ensures tree { (world : World) → IsWorldOf (F.tree files.old) world → TreeSays ToRun world result.0 }
     ensures store { IfSome (P.held keeper.old) (λ held. StoreSays held result.0) }
     ensures ends { let seen = seen_by P.held P.TellsCrash P.moment P.MayLeave in
         (trace : Option (Items ℕ)) (told : Told) →

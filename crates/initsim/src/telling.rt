@@ -1,8 +1,8 @@
 //! What is printed to standard error.
 
-use crate::status::Status;
 use init_base::{Fault, List, Text};
 use init_words::{FormName, Misuse, Place, WordFault, misuse_of};
+use job_reader::Status;
 use persist_file::StoreCause;
 use refusal_causes::ShownPath;
 use std::fmt;

@@ -2,34 +2,33 @@
 
 ghost use Rattle.std.specs.Prelude.{◌≡◌, ℕ, IfSome, List as Items, Option, Some};
 ghost use Rattle.init_driver.specs.Keeper.{seen_by};
-ghost use Rattle.initsim.specs.Check.{CheckWrites, IsCheckStatus};
+ghost use Rattle.job_reader.specs.Check.{CheckWrites, IsCheckStatus};
 ghost use Rattle.init_trace.specs.Report.{DiagnosticsText};
-ghost use Rattle.initsim.specs.Counts.{AreCounted, counts_of};
-ghost use Rattle.initsim.specs.Endings.{IsRunStatus};
+ghost use Rattle.job_reader.specs.Counts.{AreCounted, counts_of};
+ghost use Rattle.job_reader.specs.Endings.{IsRunStatus};
 ghost use Rattle.initsim.specs.Outcome.{Ends, TellRun, Told, shown_as, sources_of};
-ghost use Rattle.initsim.specs.Prepared.{IsFit, Performs, WritesText, course_of};
+ghost use Rattle.job_reader.specs.Prepared.{IsFit, Performs, WritesText, course_of};
 ghost use Rattle.initsim.specs.Promise.{Promise, objects_of};
-ghost use Rattle.initsim.specs.Script.{ScriptSays};
+ghost use Rattle.job_reader.specs.Script.{ScriptSays};
 ghost use Rattle.initsim.specs.Seats.{GivesSeat, Records, RunGives};
-ghost use Rattle.initsim.specs.Store.{StoreSays};
+ghost use Rattle.job_reader.specs.Store.{StoreSays};
 ghost use Rattle.initsim.specs.Top.{IsAsBefore};
-ghost use Rattle.initsim.specs.Tree.{IsWorldOf, TreeSays};
+ghost use Rattle.job_reader.specs.Tree.{IsWorldOf, TreeSays};
+ghost use Rattle.job_reader.specs.Tree.Purpose.{ToCheck, ToRun};
 ghost use Rattle.init_words.specs.Form as spec;
 ghost use Rattle.init_words.specs.declared.form.Form.TheVariants as Form;
 ghost use Rattle.rc_import.specs.World.{World};
 
 use crate::auditing::audit_trace;
-use crate::loading::diagnose;
-use crate::prepare::{Job, prepare};
 use crate::racing::race_script;
 use crate::soaking::soak;
-use crate::status::Status;
 use init_base::{Files, IoRefusal, Keeper, List, Sink, Source, Text};
 use init_driver::{DriveRefusal, run};
 use init_machine::Diagnostic;
 use init_race::Gate;
 use init_trace::print_diagnostics;
 use init_words::{Form, WordsRefusal, read_words};
+use job_reader::{Job, Status, diagnose, prepare};
 use property_area::WriterSeat;
 use std::alloc::Global;
 use std::sync::Wait;
@@ -67,7 +66,7 @@ fn run_script<F: Files, S: Source, P: Keeper, K: Sink>(
     out: &mut K,
 ) -> (Status, Option<WriterSeat>)
     ensures script { IfSome (S.left script.old) (λ bytes. ScriptSays bytes (S.left script.new) result.0) }
-    ensures tree { (world : World) → IsWorldOf (F.tree files.old) world → TreeSays Form.Run world result.0 }
+    ensures tree { (world : World) → IsWorldOf (F.tree files.old) world → TreeSays ToRun world result.0 }
     ensures store { IfSome (P.held keeper.old) (λ held. StoreSays held result.0) }
     ensures ends { let seen = seen_by P.held P.TellsCrash P.moment P.MayLeave in
         (trace : Option (Items ℕ)) (told : Told) →
@@ -107,7 +106,7 @@ fn write_diagnostics<K: Sink>(alloc: Global, diagnostics: &List<Diagnostic>, out
 
 /// `check`: reads the build files and the rc files, and writes what is wrong in them.
 fn check<F: Files, K: Sink>(alloc: Global, files: &mut F, out: &mut K) -> Status
-    ensures tree { (world : World) → IsWorldOf (F.tree files.old) world → TreeSays Form.Check world result }
+    ensures tree { (world : World) → IsWorldOf (F.tree files.old) world → TreeSays ToCheck world result }
     ensures writes { (world : World) → IsWorldOf (F.tree files.old) world
         → CheckWrites world (K.taken out.old) (K.taken out.new) result }
     ensures counts { (script trace keeper : ℕ) → AreCounted result

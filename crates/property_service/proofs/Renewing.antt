@@ -7,7 +7,7 @@ use Rattle.init_machine.specs.Orderly.{ListStands, seen_through}
 use Rattle.init_machine.specs.Sets.{Set}
 use Rattle.init_machine.specs.State.{State}
 use Rattle.property_area.specs.Area.{list_in, out_seat}
-use Rattle.property_area.specs.Readers.{IsIn, client_in, client_of, handed, handing, others_in, taking}
+use Rattle.property_area.specs.Readers.{IsIn, client_in, client_of, handed, handing, others_in, seen_by, taking}
 use Rattle.property_area.specs.Seats.{Seated, sets_in, store_of}
 use Rattle.property_area.specs.declared.view.AreaView.{AreaView}
 use Rattle.property_area.specs.declared.view.Client.{Client}
@@ -70,6 +70,7 @@ module _ {area : TableId} {core : CoreView Seated} {seats : List Bool} {reader :
     list = ap (λ (x : AreaView). x.list) view ∙ ap (λ (x : Client). x.list) client_now;
     stands = subst (λ (l : List Set). ListStands l None reader.view.began reader.view.list) h.agrees.sets came_in.stands.0;
     within = subst (λ (l : List Set). seen_through (length reader.view.began) reader.view.list ≤ length l) h.agrees.sets came_in.stands.2;
+    number = ap (λ (x : AreaView). seen_by x.cell) view ∙ ap (λ (l : List Set). length l) h.agrees.sets;
   }
 
   pub shown_renewed : (w : AreaView) → w ≡ renewed → (recorded_service w false ≡ (let t : ServiceView = record s { seat = w } in t)) × ((q : ℕ) → has_seat w q ≡ has_seat v q)

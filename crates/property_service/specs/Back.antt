@@ -27,7 +27,7 @@ pub record ComesBack (reader after : Seated) (item : ClientItem) (count : ℕ) :
   pub list : after.view.list ≡ reader.view.list ++ item ∷ []
   pub number : seen_by after.view.cell ≡ count
 
--- The reader that comes back was told nothing more. What it was told stands in these sets, of which it has seen no more than there are.
+-- The reader that comes back was told nothing more, and has seen these sets. What it was told stands in them.
 pub record ComesAgain (sets : List Set) (reader after : Seated) : Type 0 where
   pub table : after.table ≡ reader.table
   pub who : after.view.who ≡ reader.view.who
@@ -36,6 +36,7 @@ pub record ComesAgain (sets : List Set) (reader after : Seated) : Type 0 where
   pub list : after.view.list ≡ reader.view.list
   pub stands : ListStands sets None reader.view.began reader.view.list
   pub within : seen_through (length reader.view.began) reader.view.list ≤ length sets
+  pub number : seen_by after.view.cell ≡ length sets
 
 -- the request of an entry that comes behind a history
 abbrev pub request_behind : List Entry → Entry → ClientRequest

@@ -180,8 +180,8 @@ impl<'a, N: AreaName> Desk<'a, N> {
         }
     }
 
-    /// Takes a reader in and hands it out again. Its client is told nothing, and no entry is added; but what it was told stands in the
-    /// sets, of which it has seen no more than there are.
+    /// Takes a reader in and hands it out again, now with all sets seen. Its client is told nothing, and no entry is added; but what it
+    /// was told stands in the sets.
     pub fn renew(&mut self, reader: Reader) -> (Option<Reader>, Result<(), CoreStop>)
         requires area { reader.table ≡ N.area }
         ensures same { OnOk result.1 ((self.new.history ≡ self.old.history) × (self.new.opening ≡ self.old.opening)) }

@@ -1,45 +1,29 @@
-use Rattle.std.proofs.Common.{◌≡◌, ◌∙◌, ◌||◌, false, ap, ap₂, codes}
-use Rattle.clap.specs.Built.{AddsArg}
-use Rattle.clap.specs.Words.{App, app_of, new_app, with_rule, with_subcommand}
-use Rattle.clap.specs.declared.builder.arg.Arg.{Arg}
+use Rattle.std.proofs.Common.{◌≡◌, ◌∙◌, IfOk, IsOkAnd, Result, Ok, Err, ap}
+use Rattle.std.proofs.lemmas.Result.{IfOk-weaker}
+use Rattle.clap.specs.Words.{App, app_of, with_subcommand}
 use Rattle.clap.specs.declared.builder.command.Command.{Command}
-use Rattle.clap.specs.declared.builder.command.Command.TheViews.{out-Command as fields_of}
-use Rattle.init_words.specs.Command.{audit_app, bare_of, check_app, race_app, run_app, soak_app}
+use Rattle.init_words.specs.Command.{audit_app, check_app, race_app, run_app, soak_app}
 use Rattle.init_words.proofs.command.command.Goals as goal
 
--- a command without global arguments has none with one more that isn't global
-none_global : (old : Command) (a : Arg) (new : Command) → AddsArg old a new → a.global ≡ false
-    → (fields_of old).has_globals ≡ false → (fields_of new).has_globals ≡ false
-none_global old a new adds one others = adds.globals ∙ ap₂ (λ x y. x || y) others one
+-- a form of this shape was added
+added : {E : Type 0} (form : Result Command E) (old whole shape : App) → IsOkAnd form (λ f. whole ≡ with_subcommand old (app_of f).top)
+    → IfOk form (λ f. app_of f ≡ shape) → whole ≡ with_subcommand old shape.top
+added (Ok f) old whole shape h is = h ∙ ap (λ (a : App). with_subcommand old a.top) is
+added (Err e) old whole shape h is = absurd h
 
-pub returns-clause-ok : goal.returns-clause-ok
-returns-clause-ok c =
-    let run_is : app_of c.in_ok-run.run' ≡ run_app = c.in_ok-run.ensures.shape c.path-2.ensures.local
-    ∙ ap₂ with_rule (c.in_ok-arg.ensures.shape c.path.ensures.local ∙ ap₂ with_rule c.new.ensures.app c.path.ensures.rule) c.path-2.ensures.rule in
-    let race_is : app_of c.in_ok-race.race ≡ race_app = c.in_ok-race.ensures.shape c.path-4.ensures.local
-    ∙ ap₂ with_rule (c.in_ok-arg-2.ensures.shape c.path-3.ensures.local ∙ ap₂ with_rule c.new-2.ensures.app c.path-3.ensures.rule) c.path-4.ensures.rule in
-    let check_is : app_of c.in_ok-check.check ≡ check_app = c.in_ok-check.ensures.shape c.path-5.ensures.local
-    ∙ ap₂ with_rule c.new-3.ensures.app c.path-5.ensures.rule in
-    let audit_is : app_of c.in_ok-audit.audit ≡ audit_app = c.in_ok-audit.ensures.shape c.path-8.ensures.local
-    ∙ ap₂ with_rule (c.in_ok-arg-4.ensures.shape c.path-7.ensures.local
-    ∙ ap₂ with_rule (c.in_ok-arg-3.ensures.shape c.path-6.ensures.local ∙ ap₂ with_rule c.new-4.ensures.app c.path-6.ensures.rule) c.path-7.ensures.rule) c.path-8.ensures.rule in
-    let soak_is : app_of c.in_ok-soak.soak ≡ soak_app = c.in_ok-soak.ensures.shape c.path-9.ensures.local
-    ∙ ap₂ with_rule c.new-5.ensures.app c.path-9.ensures.rule in
-    let bare_is : app_of c.subcommand_required-bare.result ≡ bare_of (new_app (codes "initsim")) =
-    rw (c.subcommand_required-bare.ensures, c.disable_version_flag.ensures, c.disable_help_subcommand.ensures, c.disable_help_flag.ensures, c.no_binary_name.ensures)
-    (ap bare_of c.new-6.ensures.app) in
-    let of_run = none_global _ _ _ c.in_ok-run.ensures c.path-2.ensures.local
-    (none_global _ _ _ c.in_ok-arg.ensures c.path.ensures.local c.new.ensures.local) in
-    let of_race = none_global _ _ _ c.in_ok-race.ensures c.path-4.ensures.local
-    (none_global _ _ _ c.in_ok-arg-2.ensures c.path-3.ensures.local c.new-2.ensures.local) in
-    let of_check = none_global _ _ _ c.in_ok-check.ensures c.path-5.ensures.local c.new-3.ensures.local in
-    let of_audit = none_global _ _ _ c.in_ok-audit.ensures c.path-8.ensures.local
-    (none_global _ _ _ c.in_ok-arg-4.ensures c.path-7.ensures.local
-    (none_global _ _ _ c.in_ok-arg-3.ensures c.path-6.ensures.local c.new-4.ensures.local)) in
-    let of_soak = none_global _ _ _ c.in_ok-soak.ensures c.path-9.ensures.local c.new-5.ensures.local in
-    c.in_ok-whole.ensures.shape of_soak
-    ∙ ap₂ with_subcommand (c.in_ok-subcommand-4.ensures.shape of_audit
-    ∙ ap₂ with_subcommand (c.in_ok-subcommand-3.ensures.shape of_check
-    ∙ ap₂ with_subcommand (c.in_ok-subcommand-2.ensures.shape of_race
-    ∙ ap₂ with_subcommand (c.in_ok-subcommand.ensures.shape of_run ∙ ap₂ with_subcommand bare_is (ap (λ (a : App). a.top) run_is))
-    (ap (λ (a : App). a.top) race_is)) (ap (λ (a : App). a.top) check_is)) (ap (λ (a : App). a.top) audit_is)) (ap (λ (a : App). a.top) soak_is)
+pub returns : goal.returns
+returns c =
+    let with_run = added c.two_paths.result (app_of c.bare.result) (app_of c.in_ok-with_run.with_run) run_app c.in_ok-with_run.ensures.ok c.two_paths.ensures.ok in
+    let with_race = added c.two_paths-2.result (app_of c.in_ok-with_run.with_run) (app_of c.in_ok-with_race.with_race) race_app c.in_ok-with_race.ensures.ok c.two_paths-2.ensures.ok in
+    let with_check = added c.one_path.result (app_of c.in_ok-with_race.with_race) (app_of c.in_ok-with_check.with_check) check_app c.in_ok-with_check.ensures.ok c.one_path.ensures.ok in
+    let with_audit = added c.three_paths.result (app_of c.in_ok-with_check.with_check) (app_of c.in_ok-with_audit.with_audit) audit_app c.in_ok-with_audit.ensures.ok c.three_paths.ensures.ok in
+    record {
+      ok = IfOk-weaker c.with_form-5.result _ _
+          (λ whole h. added c.one_path-2.result (app_of c.in_ok-with_audit.with_audit) (app_of whole) soak_app h c.one_path-2.ensures.ok
+          ∙ ap (λ (a : App). with_subcommand a soak_app.top) (with_audit
+          ∙ ap (λ (a : App). with_subcommand a audit_app.top) (with_check
+          ∙ ap (λ (a : App). with_subcommand a check_app.top) (with_race
+          ∙ ap (λ (a : App). with_subcommand a race_app.top) (with_run
+          ∙ ap (λ (a : App). with_subcommand a run_app.top) c.bare.ensures)))))
+          c.with_form-5.ensures.ok;
+    }

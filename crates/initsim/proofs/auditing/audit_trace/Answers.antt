@@ -1,12 +1,12 @@
 use Rattle.std.proofs.Common.{refl}
 use Rattle.init_driver.specs.Keeper.{seen_by}
-use Rattle.initsim.specs.Endings.{IsAuditStatus}
-use Rattle.initsim.specs.Script.{ScriptSays}
-use Rattle.initsim.specs.Store.{StoreSays}
+use Rattle.job_reader.specs.Endings.{IsAuditStatus}
+use Rattle.job_reader.specs.Script.{ScriptSays}
+use Rattle.job_reader.specs.Store.{StoreSays}
 use Rattle.initsim.specs.Top.{IsAsBefore}
-use Rattle.initsim.specs.Trace.{TraceSays}
-use Rattle.initsim.specs.Tree.{TreeSays}
-use Rattle.init_words.specs.declared.form.Form.TheVariants.{Run}
+use Rattle.job_reader.specs.Trace.{TraceSays}
+use Rattle.job_reader.specs.Tree.{TreeSays}
+use Rattle.job_reader.specs.Tree.Purpose.{ToRun}
 use Rattle.initsim.proofs.Ends.{audit_stop_ends, judged_ends}
 use Rattle.initsim.proofs.Judged.{counts_written, same_as_before, stop_of_audit, written_status}
 use Rattle.rc_import.proofs.Outcomes.{if_told, told as told_of}
@@ -21,7 +21,7 @@ returns-in-Ok-clause-script g c =
 pub returns-in-Ok-clause-tree : goal.returns-in-Ok-clause-tree
 returns-in-Ok-clause-tree g c = λ world is.
     let fit = c.in-Ok.ensures.tree world is in
-    written_status (λ how. TreeSays Run world how) _ _ _ c.write_verdict.result c.write_verdict.ensures.writes fit fit tt
+    written_status (λ how. TreeSays ToRun world how) _ _ _ c.write_verdict.result c.write_verdict.ensures.writes fit fit tt
 
 pub returns-in-Ok-clause-store : goal.returns-in-Ok-clause-store
 returns-in-Ok-clause-store g c =

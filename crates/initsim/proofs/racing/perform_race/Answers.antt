@@ -1,7 +1,7 @@
 use Rattle.std.proofs.Common.{length, ap, ◌∙◌, arith}
 use Rattle.std.proofs.lemmas.List.{length-map}
 use Rattle.init_driver.specs.Keeper.{seen_by}
-use Rattle.initsim.specs.Prepared.{course_of}
+use Rattle.job_reader.specs.Prepared.{course_of}
 use Rattle.initsim.proofs.Raced.{failed_race, stopped_race, written_race}
 use Rattle.initsim.proofs.Seated.{written_gives}
 use Rattle.initsim.proofs.racing.perform_race.Goals as goal

@@ -1,9 +1,9 @@
 use Rattle.std.proofs.Common.{Ok, ap}
 use Rattle.init_driver.specs.Keeper.{seen_by}
-use Rattle.initsim.specs.Counts.{Counts}
-use Rattle.initsim.specs.Endings.{IsRunStatus}
+use Rattle.job_reader.specs.Counts.{Counts}
+use Rattle.job_reader.specs.Endings.{IsRunStatus}
 use Rattle.init_words.specs.declared.form.Form.TheVariants.{Race}
-use Rattle.initsim.specs.Prepared.{GivesSaved, ScriptOfJob, course_of}
+use Rattle.job_reader.specs.Prepared.{GivesSaved, ScriptOfJob, course_of}
 use Rattle.initsim.proofs.Ends.{stop_ends}
 use Rattle.initsim.proofs.Performed.{counts_after, course_is, setup_fits}
 use Rattle.initsim.proofs.Raced.{raced_as_before, raced_ends, raced_status, raced_tree}

@@ -1,4 +1,4 @@
-use Rattle.initsim.specs.Prepared.{course_of}
+use Rattle.job_reader.specs.Prepared.{course_of}
 use Rattle.initsim.proofs.Soaked.{summary_written}
 use Rattle.initsim.proofs.soaking.perform_soak.Goals as goal
 

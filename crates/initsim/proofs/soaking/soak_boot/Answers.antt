@@ -1,6 +1,6 @@
 use Rattle.std.proofs.Common.{None}
-use Rattle.initsim.specs.Counts.{counts_of}
-use Rattle.initsim.specs.Prepared.{course_of}
+use Rattle.job_reader.specs.Counts.{counts_of}
+use Rattle.job_reader.specs.Prepared.{course_of}
 use Rattle.initsim.specs.Soaking.{soak_text}
 use Rattle.initsim.proofs.Soaked.{boot_done, boot_performed, boot_refused, no_fault, still_counted, written_done}
 use Rattle.initsim.proofs.soaking.soak_boot.Goals as goal

@@ -1,0 +1,31 @@
+use Rattle.std.proofs.Common.{◌∙◌}
+use Rattle.init_base.specs.Faults.{Counted}
+use Rattle.job_reader.specs.Stops.{GivesLoad, has_read_fault}
+use Rattle.job_reader.specs.declared.stop.Stop.TheVariants.{NoMemory}
+use Rattle.rc_import.proofs.BuildFiles.{world_viewed}
+use Rattle.job_reader.proofs.RcFiles.{load_read, load_refused}
+use Rattle.rc_import.proofs.Outcomes.{err_is, told}
+use Rattle.job_reader.proofs.loading.load.Goals as goal
+
+pub returns-in_err-loaded-clause-load : goal.returns-in_err-loaded-clause-load
+returns-in_err-loaded-clause-load g c = λ world is.
+    let files = told _ _ world.tree is.tree_is c.in_ok-build_files.ensures.props in
+    err_is (GivesLoad world) _ _ c.from_residual-in_err-loaded.ensures
+    (load_refused world c.in_err-loaded.field-0.0 files.short
+    (c.in_err-loaded.ensures.loaded world
+    (world_viewed _ _ _ _ world c.in_ok-build_files.ensures.tree c.in_ok-view.ensures files.pairs_are is)))
+
+pub returns-in_err-behind-clause-load : goal.returns-in_err-behind-clause-load
+returns-in_err-behind-clause-load g c = λ world is. err_is (GivesLoad world) _ NoMemory c.from_residual-in_err-behind.ensures tt
+
+pub returns-in_err-behind-clause-cause : goal.returns-in_err-behind-clause-cause
+returns-in_err-behind-clause-cause g c =
+    err_is (λ r. Counted (has_read_fault r) (g.F.Files.fault_count c.args.files.now) (g.F.Files.fault_count c.load.new.files)) _ NoMemory
+    c.from_residual-in_err-behind.ensures (c.in_ok-loaded.ensures.cause ∙ c.in_ok-build_files.ensures.cause)
+
+pub returns-clause-load : goal.returns-clause-load
+returns-clause-load g c = λ world is.
+    let files = told _ _ world.tree is.tree_is c.in_ok-build_files.ensures.props in
+    load_read world c.in_ok-build_files.build_files c.in_ok-loaded.loaded c.in_ok-behind.field-0 files c.in_ok-behind.ensures
+    (c.in_ok-loaded.ensures.loaded world
+    (world_viewed _ _ _ _ world c.in_ok-build_files.ensures.tree c.in_ok-view.ensures files.pairs_are is))

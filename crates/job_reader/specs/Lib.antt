@@ -1,0 +1,13 @@
+pub mod Status
+pub mod Counts
+pub mod Script
+pub mod Texts
+pub mod Policy
+pub mod Tree
+pub mod Store
+pub mod Run
+pub mod Trace
+pub mod Endings
+pub mod Check
+pub mod Stops
+pub mod Prepared

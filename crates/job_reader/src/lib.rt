@@ -1,0 +1,20 @@
+//! What a run, a race or an audit stands on is read, and what a check does: the script, the policy and the rc files of the tree, the
+//! persistent store, a trace. The first refusal ends it.
+//!
+//! Each reader gives what its text says by the definition of the format, or a `Stop` exactly where that definition has none
+//! (`specs/Stops.antt`); the status of the program tells it.
+#![tactic(auto)]
+
+mod loading;
+mod prepare;
+mod reading;
+mod status;
+mod stop;
+mod texts;
+
+pub use loading::diagnose;
+pub use prepare::{Job, prepare};
+pub use reading::read_trace;
+pub use status::Status;
+pub use stop::Stop;
+pub use texts::read_build_files;
