@@ -6,6 +6,18 @@ use Rattle.init_base.specs.Tree.{file_at}
 use Rattle.init_machine.specs.Policy.{PolicyLines}
 use Rattle.init_machine.specs.declared.limit.Limit.{Limit}
 use Rattle.init_machine.specs.declared.limit.Limit.TheVariants as limits
+use Rattle.job_reader.specs.Check.{IsCheckStatus}
+use Rattle.job_reader.specs.Counts.{AreCounted, Counts, IsDoneUnlessRisen}
+use Rattle.job_reader.specs.Endings.{IsAuditStatus, IsRunLimit, IsRunStatus}
+use Rattle.job_reader.specs.Policy.{IsBadLine}
+use Rattle.job_reader.specs.Script.{HasScript, ScriptLimitSays, ScriptSays}
+use Rattle.job_reader.specs.Store.{HasStore, StoreSays}
+use Rattle.job_reader.specs.Texts.{AreShort, IsOneLong, allow_text, contexts_text}
+use Rattle.job_reader.specs.Trace.{HasTrace, TraceLimitSays, TraceSays}
+use Rattle.job_reader.specs.Tree.{HasNoRoot, IsBadPolicyFor, IsFitFor, IsPolicyTooLargeFor, IsTreeTooLarge, Purpose, TreeSays}
+use Rattle.job_reader.specs.Tree.Purpose.{ToRun, ToCheck}
+use Rattle.job_reader.specs.declared.status.Status.{Status}
+use Rattle.job_reader.specs.declared.status.Status.TheVariants as status
 use Rattle.persist_file.proofs.Determined.{not_both as store_or_line}
 use Rattle.prop_contexts.proofs.Readers.{not_both as policy_or_refusal}
 use Rattle.prop_contexts.specs.Grammar.{IsPolicy}
@@ -13,24 +25,12 @@ use Rattle.prop_contexts.specs.declared.refusal.PolicyRefusal.TheVariants as pol
 use Rattle.rc_import.specs.Limits.{loaded as rc_files_of, loaded_from}
 use Rattle.rc_import.specs.Order.{root_file}
 use Rattle.rc_import.specs.World.{World}
-use Rattle.rc_import.specs.declared.loaded.Loaded.{Loaded}
 use Rattle.rc_import.specs.declared.loaded.LoadRefusal.{LoadRefusal}
 use Rattle.rc_import.specs.declared.loaded.LoadRefusal.TheVariants.{NoInit}
+use Rattle.rc_import.specs.declared.loaded.Loaded.{Loaded}
 use Rattle.script_lang.proofs.OneReading.{script_or_line, within_no_limit}
-use Rattle.job_reader.specs.Check.{IsCheckStatus}
-use Rattle.job_reader.specs.Counts.{AreCounted, Counts, IsDoneUnlessRisen}
-use Rattle.job_reader.specs.Policy.{IsBadLine}
-use Rattle.job_reader.specs.Endings.{IsAuditStatus, IsRunLimit, IsRunStatus}
 use Rattle.initsim.specs.Outcome.{Sources}
-use Rattle.job_reader.specs.Script.{HasScript, ScriptLimitSays, ScriptSays}
-use Rattle.job_reader.specs.Store.{HasStore, StoreSays}
-use Rattle.job_reader.specs.Texts.{AreShort, IsOneLong, allow_text, contexts_text}
 use Rattle.initsim.specs.Top.{CanRun}
-use Rattle.job_reader.specs.Trace.{HasTrace, TraceLimitSays, TraceSays}
-use Rattle.job_reader.specs.Tree.{HasNoRoot, IsBadPolicyFor, IsFitFor, IsPolicyTooLargeFor, IsTreeTooLarge, Purpose, TreeSays}
-use Rattle.job_reader.specs.declared.status.Status.{Status}
-use Rattle.job_reader.specs.declared.status.Status.TheVariants as status
-use Rattle.job_reader.specs.Tree.Purpose.{ToRun, ToCheck}
 
 -- ---- the tree
 

@@ -1,21 +1,18 @@
 -- How a call ends, by what its parts say of the objects.
 use Rattle.std.specs.Io.KnownBytes.{append_known}
 use Rattle.std.proofs.Common.{◌≡◌, ℕ, inl, inr, List, [], Option, Some, None, refl, ap, ◌∙◌, subst}
+use Rattle.init_driver.proofs.Keepers.{risks_nothing, risks_then, took_nothing, took_then}
 use Rattle.init_driver.specs.Keeper.{KeeperView, Risks, Took}
 use Rattle.init_driver.specs.Run.{Due, KeepsPart, LeavesPart, given_in}
 use Rattle.init_driver.specs.declared.refusal.DriveRefusal.{DriveRefusal}
 use Rattle.init_driver.specs.declared.refusal.DriveRefusal.TheVariants as refusal
-use Rattle.init_driver.proofs.Keepers.{risks_nothing, risks_then, took_nothing, took_then}
 use Rattle.init_machine.specs.declared.limit.Limit.{Limit}
 use Rattle.init_machine.specs.declared.limit.Limit.TheVariants as limits
 use Rattle.init_trace.specs.Written.{TakesFront}
 use Rattle.init_words.specs.declared.form.Form.{Form}
 use Rattle.init_words.specs.declared.form.Form.TheVariants.{Run, Check, Audit}
-use Rattle.job_reader.specs.Tree.Purpose.{ToRun, ToCheck}
 use Rattle.job_reader.specs.Check.{CheckWrites, IsCheckStatus}
 use Rattle.job_reader.specs.Endings.{IsRunLimit, IsRunStatus}
-use Rattle.initsim.specs.Outcome.{AuditRefused, CanBeRun, ComesTo, Ends, FilesRefuse, IsJudged, Outcome, RunRefused, Shows, Told, Untouched, shown_as, status_of_outcome}
-use Rattle.initsim.specs.Outcome.Outcome.{Checked, Judged, Ran, Refused, Unformed}
 use Rattle.job_reader.specs.Prepared.{Performs, WritesText}
 use Rattle.job_reader.specs.Run.{Course, IsCourseOf, due_of_course}
 use Rattle.job_reader.specs.Script.{HasScript, IsReadWhole, ScriptLimitSays, ScriptSays}
@@ -23,12 +20,15 @@ use Rattle.job_reader.specs.Stops.{status_of}
 use Rattle.job_reader.specs.Store.{HasStore, StoreLimitSays, StoreSays}
 use Rattle.job_reader.specs.Trace.{TraceLimitSays, TraceSays}
 use Rattle.job_reader.specs.Tree.{IsFitFor, IsTreeTooLarge, TreeLimitSays, TreeSays}
-use Rattle.initsim.specs.Verdict.{verdict_text}
-use Rattle.trace_audit.specs.declared.verdict.Verdict.{Verdict}
+use Rattle.job_reader.specs.Tree.Purpose.{ToRun, ToCheck}
 use Rattle.job_reader.specs.declared.status.Status.{Status}
 use Rattle.job_reader.specs.declared.status.Status.TheVariants as status
 use Rattle.job_reader.specs.declared.stop.Stop.{Stop}
 use Rattle.job_reader.specs.declared.stop.Stop.TheVariants as stop
+use Rattle.trace_audit.specs.declared.verdict.Verdict.{Verdict}
+use Rattle.initsim.specs.Outcome.{AuditRefused, CanBeRun, ComesTo, Ends, FilesRefuse, IsJudged, Outcome, RunRefused, Shows, Told, Untouched, shown_as, status_of_outcome}
+use Rattle.initsim.specs.Outcome.Outcome.{Checked, Judged, Ran, Refused, Unformed}
+use Rattle.initsim.specs.Verdict.{verdict_text}
 
 -- what is known of an ending that leaves all as it was
 untouched : (old : Option (List ℕ)) (a b : KeeperView) → b.held ≡ a.held → (a.TellsCrash → Risks a b [] []) → Untouched (shown_as old old a b)

@@ -2,25 +2,25 @@
 use Rattle.std.proofs.Common.{◌≡◌, ℕ, List, [], Option, Result, Ok, Err, ap, subst, inl}
 use Rattle.std.specs.Prelude.{IfErr}
 use Rattle.init_base.specs.Faults.{Counted}
-use Rattle.init_driver.specs.Keeper.{KeeperView, Took}
 use Rattle.init_driver.proofs.Keepers.{risks_nothing, risks_then}
-use Rattle.rc_import.specs.World.{World}
+use Rattle.init_driver.specs.Keeper.{KeeperView, Took}
+use Rattle.job_reader.proofs.Prepared.{no_stop_counts, trace_stop_counts}
+use Rattle.job_reader.proofs.Says.{trace_stop_script, trace_stop_store, trace_stop_tree}
 use Rattle.job_reader.specs.Counts.{AreCounted, Counts, counts_of}
 use Rattle.job_reader.specs.Endings.{IsAuditStatus}
-use Rattle.initsim.specs.Judging.{ending_of}
 use Rattle.job_reader.specs.Prepared.{IsAsked, WritesText}
 use Rattle.job_reader.specs.Script.{IsReadWhole, ScriptSays}
 use Rattle.job_reader.specs.Stops.{IsOfTrace, has_read_fault, status_of}
 use Rattle.job_reader.specs.Store.{HasStore, StoreSays}
-use Rattle.initsim.specs.Top.{IsAsBefore}
 use Rattle.job_reader.specs.Tree.{IsFitFor, TreeSays}
+use Rattle.job_reader.specs.Tree.Purpose.{ToRun}
 use Rattle.job_reader.specs.declared.status.Status.{Status}
 use Rattle.job_reader.specs.declared.status.Status.TheVariants as status
 use Rattle.job_reader.specs.declared.stop.Stop.{Stop}
 use Rattle.job_reader.specs.declared.stop.Stop.TheVariants as stop
-use Rattle.job_reader.specs.Tree.Purpose.{ToRun}
-use Rattle.job_reader.proofs.Prepared.{no_stop_counts, trace_stop_counts}
-use Rattle.job_reader.proofs.Says.{trace_stop_script, trace_stop_store, trace_stop_tree}
+use Rattle.rc_import.specs.World.{World}
+use Rattle.initsim.specs.Judging.{ending_of}
+use Rattle.initsim.specs.Top.{IsAsBefore}
 
 pub judged_script : {T : Type 0} (result : Result T Stop) (bytes : List ℕ) (left : Option (List ℕ))
     → IfErr result IsOfTrace → IsReadWhole bytes left → ScriptSays bytes left (ending_of result)

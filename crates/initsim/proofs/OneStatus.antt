@@ -29,9 +29,9 @@ use Rattle.prop_contexts.specs.declared.refusal.PolicyRefusal.TheVariants as pol
 use Rattle.rc_import.specs.Limits.{loaded as rc_files_of}
 use Rattle.rc_import.specs.Order.{root_file}
 use Rattle.rc_import.specs.World.{World}
-use Rattle.rc_import.specs.declared.loaded.Loaded.{Loaded}
 use Rattle.rc_import.specs.declared.loaded.LoadRefusal.{LoadRefusal}
 use Rattle.rc_import.specs.declared.loaded.LoadRefusal.TheVariants as load
+use Rattle.rc_import.specs.declared.loaded.Loaded.{Loaded}
 use Rattle.script_lang.proofs.OneReading.{one_limit, one_line, script_or_line, within_no_limit}
 use Rattle.script_lang.specs.Refusal.{IsBadAt, IsTooLarge}
 use Rattle.initsim.specs.Outcome.{AuditRefused, CanBeRun, ComesTo, Ends, FilesRefuse, IsCut, Outcome, PassRcLimit, PolicyRefuses, RunRefused, ScriptRefuses, Shown, StoreRefuses, Told, TraceRefuses, status_of_outcome}

@@ -3,19 +3,19 @@ use Rattle.std.proofs.Common.{◌≡◌, ℕ, List, Option, refl, subst, ap, inl
 use native.Mathlib.Omega.{arith}
 use Rattle.init_base.specs.Faults.{Rose}
 use Rattle.init_driver.specs.Keeper.{KeeperView}
-use Rattle.rc_import.specs.World.{World}
-use Rattle.script_lang.specs.Script.{IsScript}
 use Rattle.job_reader.specs.Counts.{AreCounted, Counts, counts_of}
 use Rattle.job_reader.specs.Endings.{IsRunStatus}
 use Rattle.job_reader.specs.Prepared.{IsFit, IsSetupOf, Performs, course_of}
 use Rattle.job_reader.specs.Run.{Course, IsCourseOf}
 use Rattle.job_reader.specs.Store.{IsStoreOf}
-use Rattle.initsim.specs.Top.{IsAsBefore}
 use Rattle.job_reader.specs.Tree.{IsFitFor, TreeSays}
-use Rattle.job_reader.specs.declared.prepare.Job.{Job}
+use Rattle.job_reader.specs.Tree.Purpose.{ToRun}
+use Rattle.job_reader.specs.declared.preparing.Job.{Job}
 use Rattle.job_reader.specs.declared.status.Status.{Status}
 use Rattle.job_reader.specs.declared.status.Status.TheVariants as status
-use Rattle.job_reader.specs.Tree.Purpose.{ToRun}
+use Rattle.rc_import.specs.World.{World}
+use Rattle.script_lang.specs.Script.{IsScript}
+use Rattle.initsim.specs.Top.{IsAsBefore}
 
 -- ---- what it says
 

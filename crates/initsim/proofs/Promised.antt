@@ -3,20 +3,20 @@ use Rattle.std.proofs.Common.{◌≡◌, ◌↔◌, ℕ, Option, Some, None, ref
 use Rattle.std.specs.Prelude.{⊤, IfSome}
 use Rattle.init_words.specs.declared.form.Form.{Form}
 use Rattle.init_words.specs.declared.form.Form.TheVariants.{Run, Race, Check, Audit, Soak}
-use Rattle.property_area.specs.Seats.{Seated}
-use Rattle.rc_import.specs.World.{World}
 use Rattle.job_reader.specs.Check.{IsCheckStatus}
 use Rattle.job_reader.specs.Counts.{AreCounted, IsDoneUnlessRisen}
 use Rattle.job_reader.specs.Endings.{IsAuditStatus, IsRunStatus}
-use Rattle.initsim.specs.Outcome.{Ends, Tell, Told}
-use Rattle.initsim.specs.Promise.{Objects, Promise, shown_by, told_by}
 use Rattle.job_reader.specs.Script.{ScriptSays}
-use Rattle.initsim.specs.Seats.{GivesSeat, Records}
-use Rattle.initsim.specs.Top.{CanBeDone, CanSoak, IsAsBefore, ReadsScript}
 use Rattle.job_reader.specs.Trace.{TraceSays}
 use Rattle.job_reader.specs.Tree.{IsWorldOf}
 use Rattle.job_reader.specs.declared.status.Status.{Status}
 use Rattle.job_reader.specs.declared.status.Status.TheVariants as status
+use Rattle.property_area.specs.Seats.{Seated}
+use Rattle.rc_import.specs.World.{World}
+use Rattle.initsim.specs.Outcome.{Ends, Tell, Told}
+use Rattle.initsim.specs.Promise.{Objects, Promise, shown_by, told_by}
+use Rattle.initsim.specs.Seats.{GivesSeat, Records}
+use Rattle.initsim.specs.Top.{CanBeDone, CanSoak, IsAsBefore, ReadsScript}
 use Rattle.initsim.proofs.Ends.{left_alone, usage_ends}
 use Rattle.initsim.proofs.OneStatus.{only_status}
 

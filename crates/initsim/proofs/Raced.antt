@@ -1,28 +1,28 @@
 -- How a race ends, and what it says of the objects.
 use Rattle.std.proofs.Common.{◌≡◌, ℕ, List, [], Option, Some, inl, inr, refl, sym, ◌∙◌, subst, arith}
 use Rattle.init_base.specs.Faults.{Rose}
+use Rattle.init_driver.proofs.Keepers.{risks_then, risks_took, took_then}
 use Rattle.init_driver.specs.Keeper.{KeeperView, Took}
 use Rattle.init_driver.specs.Stored.{Keeps}
-use Rattle.init_driver.proofs.Keepers.{risks_then, risks_took, took_then}
 use Rattle.init_machine.specs.declared.report.Report.{Report}
 use Rattle.init_race.specs.Race.{KeepsNot, race_given}
 use Rattle.init_race.specs.declared.refusal.RaceRefusal.TheVariants as refusal
 use Rattle.init_trace.specs.Report.{TextOf}
-use Rattle.rc_import.specs.World.{World}
+use Rattle.init_words.specs.declared.form.Form.TheVariants.{Race}
 use Rattle.job_reader.specs.Counts.{AreCounted, SomeReadRose, counts_of}
-use Rattle.initsim.specs.Outcome.{ComesTo, Ends, Told, Untouched, shown_as}
-use Rattle.initsim.specs.Outcome.Outcome.{Raced}
 use Rattle.job_reader.specs.Prepared.{WritesText}
-use Rattle.initsim.specs.Racing.{IsAudited, PerformsRace, WritesFront, WritesNothing}
 use Rattle.job_reader.specs.Run.{Course, IsCourseOf}
 use Rattle.job_reader.specs.Script.{IsReadWhole, ScriptSays}
 use Rattle.job_reader.specs.Store.{HasStore, StoreSays}
-use Rattle.initsim.specs.Top.{IsAsBefore}
 use Rattle.job_reader.specs.Tree.{IsFitFor, TreeSays}
+use Rattle.job_reader.specs.Tree.Purpose.{ToRun}
 use Rattle.job_reader.specs.declared.status.Status.{Status}
 use Rattle.job_reader.specs.declared.status.Status.TheVariants as status
-use Rattle.init_words.specs.declared.form.Form.TheVariants.{Race}
-use Rattle.job_reader.specs.Tree.Purpose.{ToRun}
+use Rattle.rc_import.specs.World.{World}
+use Rattle.initsim.specs.Outcome.{ComesTo, Ends, Told, Untouched, shown_as}
+use Rattle.initsim.specs.Outcome.Outcome.{Raced}
+use Rattle.initsim.specs.Racing.{IsAudited, PerformsRace, WritesFront, WritesNothing}
+use Rattle.initsim.specs.Top.{IsAsBefore}
 
 -- ---- which statuses a race has
 

@@ -1,20 +1,20 @@
 -- The seat that a run or a race gives, and what it has recorded.
 use Rattle.std.proofs.Common.{List, [], ℕ, Option, Some, None, refl, subst, sym}
 use Rattle.std.specs.Prelude.{IsSome, IsSomeAnd}
-use Rattle.init_driver.specs.Keeper.{KeeperView, Took}
 use Rattle.init_driver.proofs.Keepers.{took_then}
+use Rattle.init_driver.specs.Keeper.{KeeperView, Took}
 use Rattle.init_machine.specs.declared.report.Report.{Report}
 use Rattle.init_race.specs.Race.{HasRecorded as HasRecordedRace, race_given}
 use Rattle.init_trace.specs.Report.{TextOf}
-use Rattle.property_area.specs.Seats.{Seated}
-use Rattle.initsim.specs.Outcome.{Shown, Told, shown_as}
+use Rattle.init_words.specs.declared.form.Form.TheVariants.{Race, Run}
 use Rattle.job_reader.specs.Prepared.{Performs, WritesText}
-use Rattle.initsim.specs.Racing.{IsAudited}
 use Rattle.job_reader.specs.Run.{Course, IsCourseOf}
-use Rattle.initsim.specs.Seats.{GivesOwn, IsGiven, RaceGives, Records, RecordsRace, RunGives}
 use Rattle.job_reader.specs.declared.status.Status.{Status}
 use Rattle.job_reader.specs.declared.status.Status.TheVariants as status
-use Rattle.init_words.specs.declared.form.Form.TheVariants.{Race, Run}
+use Rattle.property_area.specs.Seats.{Seated}
+use Rattle.initsim.specs.Outcome.{Shown, Told, shown_as}
+use Rattle.initsim.specs.Racing.{IsAudited}
+use Rattle.initsim.specs.Seats.{GivesOwn, IsGiven, RaceGives, Records, RecordsRace, RunGives}
 
 some_of : {T : Type 0} (P : T → Type 0) (o : Option T) → IsSomeAnd o P → IsSome o
 some_of P None h = absurd h

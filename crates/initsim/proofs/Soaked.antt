@@ -5,39 +5,39 @@ use Rattle.std.specs.Char.{is_ascii_digit}
 use Rattle.std.specs.List.{list_all}
 use Rattle.std.specs.Str.Parse.{digits_value}
 use Rattle.std.proofs.lemmas.Bool.{leb-true}
-use Rattle.init_driver.specs.Keeper.{KeeperView}
 use Rattle.init_driver.proofs.Keepers.{took_nothing}
+use Rattle.init_driver.specs.Keeper.{KeeperView}
 use Rattle.init_driver.specs.Run.{report_of}
+use Rattle.init_words.specs.Form.{form_of}
+use Rattle.init_words.specs.Services.{begins_number, services_in}
+use Rattle.init_words.specs.declared.form.Form.TheVariants.{Run, Race, Check, Audit, Soak}
+use Rattle.job_reader.specs.Counts.{AreCounted, Counts, IsDoneUnlessRisen, counts_of}
+use Rattle.job_reader.specs.Endings.{IsRunStatus}
+use Rattle.job_reader.specs.Prepared.{IsFit, IsSetupOf, WritesText, course_of}
+use Rattle.job_reader.specs.Run.{Course, IsCourseOf}
+use Rattle.job_reader.specs.Script.{ScriptSays}
+use Rattle.job_reader.specs.Stops.{status_of}
+use Rattle.job_reader.specs.Store.{IsStoreOf, StoreSays}
+use Rattle.job_reader.specs.Texts.{Tree}
+use Rattle.job_reader.specs.Tree.{IsWorldOf, TreeSays}
+use Rattle.job_reader.specs.Tree.Purpose.{ToRun}
+use Rattle.job_reader.specs.declared.preparing.Job.{Job}
+use Rattle.job_reader.specs.declared.status.Status.{Status}
+use Rattle.job_reader.specs.declared.status.Status.TheVariants as status
+use Rattle.job_reader.specs.declared.stop.Stop.{Stop}
+use Rattle.job_reader.specs.declared.stop.Stop.TheVariants as stop
 use Rattle.property_area.specs.Seats.{Seated}
 use Rattle.rc_import.specs.World.{World}
 use Rattle.script_lang.specs.Script.{IsScript}
 use Rattle.soak_summary.specs.Counting.{tally_of}
 use Rattle.soak_summary.specs.Summary.{SummaryText}
 use Rattle.soak_summary.specs.declared.tally.Tally.{Tally}
-use Rattle.init_words.specs.Form.{form_of}
-use Rattle.init_words.specs.Services.{begins_number, services_in}
-use Rattle.job_reader.specs.Counts.{AreCounted, Counts, IsDoneUnlessRisen, counts_of}
-use Rattle.job_reader.specs.Endings.{IsRunStatus}
 use Rattle.initsim.specs.Outcome.{Ends, TellRun, Told, generated_sources, shown_as}
 use Rattle.initsim.specs.Outcome.Outcome.{Refused, Soaked}
-use Rattle.job_reader.specs.Prepared.{IsFit, IsSetupOf, WritesText, course_of}
-use Rattle.job_reader.specs.Run.{Course, IsCourseOf}
-use Rattle.job_reader.specs.Script.{ScriptSays}
 use Rattle.initsim.specs.Seats.{Records, RunGives}
 use Rattle.initsim.specs.SoakEnds.{EndsSoak}
 use Rattle.initsim.specs.Soaking.{generated_script, generated_tree, soak_text}
-use Rattle.job_reader.specs.Stops.{status_of}
-use Rattle.job_reader.specs.Store.{IsStoreOf, StoreSays}
-use Rattle.job_reader.specs.Texts.{Tree}
 use Rattle.initsim.specs.Top.{CanSoak}
-use Rattle.job_reader.specs.Tree.{IsWorldOf, TreeSays}
-use Rattle.job_reader.specs.declared.prepare.Job.{Job}
-use Rattle.job_reader.specs.declared.status.Status.{Status}
-use Rattle.job_reader.specs.declared.status.Status.TheVariants as status
-use Rattle.job_reader.specs.declared.stop.Stop.{Stop}
-use Rattle.job_reader.specs.declared.stop.Stop.TheVariants as stop
-use Rattle.init_words.specs.declared.form.Form.TheVariants.{Run, Race, Check, Audit, Soak}
-use Rattle.job_reader.specs.Tree.Purpose.{ToRun}
 use Rattle.initsim.proofs.Complete.{complete_run}
 use Rattle.initsim.proofs.Ends.{limit_refused, nothing_new}
 use Rattle.initsim.proofs.Judged.{written_status}

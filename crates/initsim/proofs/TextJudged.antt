@@ -2,15 +2,15 @@
 use Rattle.std.proofs.Common.{◌≡◌, ℕ, List, Option, Result, Ok, Err, false, refl, sym, subst}
 use Rattle.std.specs.Prelude.{IfErr, IfOk}
 use Rattle.init_machine.specs.declared.report.Report.{Report}
-use Rattle.trace_audit.specs.declared.verdict.Verdict.{Verdict}
-use Rattle.trace_reader.specs.Reports.{IsTextOf}
-use Rattle.initsim.specs.Judging.{JudgesText, ending_of}
 use Rattle.job_reader.specs.Run.{Course}
 use Rattle.job_reader.specs.Stops.{GivesTrace, IsOfTrace, has_read_fault}
 use Rattle.job_reader.specs.Trace.{IsTraceOf, TraceSays}
-use Rattle.initsim.specs.Verdict.{IsVerdictOn}
 use Rattle.job_reader.specs.declared.stop.Stop.{Stop}
 use Rattle.job_reader.specs.declared.stop.Stop.TheVariants as stop
+use Rattle.trace_audit.specs.declared.verdict.Verdict.{Verdict}
+use Rattle.trace_reader.specs.Reports.{IsTextOf}
+use Rattle.initsim.specs.Judging.{JudgesText, ending_of}
+use Rattle.initsim.specs.Verdict.{IsVerdictOn}
 
 text_of : (bytes text : List ℕ) (left : Option (List ℕ)) (report : Report) → GivesTrace bytes left (Ok text) → IsTextOf text report → IsTraceOf bytes report
 text_of bytes text left report gives is = record { short = gives.1; text = subst (λ (t : List ℕ). IsTextOf t report) gives.0 is }

@@ -3,13 +3,13 @@ use Rattle.std.proofs.Common.{ℕ, List, Option, refl, inr}
 use Rattle.init_machine.specs.declared.config.Config.{Config}
 use Rattle.init_machine.specs.declared.diagnostic.Diagnostic.{Diagnostic}
 use Rattle.init_trace.specs.Report.{DiagnosticsText}
-use Rattle.rc_import.specs.World.{World}
 use Rattle.job_reader.specs.Check.{CheckWrites, IsCheckText}
 use Rattle.job_reader.specs.Prepared.{WritesText}
 use Rattle.job_reader.specs.Tree.{IsFitFor, IsLoadOf, TreeSays}
+use Rattle.job_reader.specs.Tree.Purpose.{ToCheck}
 use Rattle.job_reader.specs.declared.status.Status.{Status}
 use Rattle.job_reader.specs.declared.status.Status.TheVariants as status
-use Rattle.job_reader.specs.Tree.Purpose.{ToCheck}
+use Rattle.rc_import.specs.World.{World}
 
 -- ---- a check
 

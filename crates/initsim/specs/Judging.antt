@@ -1,15 +1,15 @@
 -- How an audit ends as far as its verdict, before anything is written.
 use Rattle.std.specs.Prelude.{ℕ, ⊤, List, Result, Ok, Err}
 use Rattle.init_machine.specs.declared.report.Report.{Report}
-use Rattle.trace_audit.specs.Texts.{IsVerdictOn}
-use Rattle.trace_audit.specs.declared.verdict.Verdict.{Verdict}
-use Rattle.trace_reader.specs.Reports.{IsTextOf}
 use Rattle.job_reader.specs.Run.{Course}
 use Rattle.job_reader.specs.Stops.{status_of}
 use Rattle.job_reader.specs.declared.status.Status.{Status}
 use Rattle.job_reader.specs.declared.status.Status.TheVariants as status
 use Rattle.job_reader.specs.declared.stop.Stop.{Stop}
 use Rattle.job_reader.specs.declared.stop.Stop.TheVariants as stop
+use Rattle.trace_audit.specs.Texts.{IsVerdictOn}
+use Rattle.trace_audit.specs.declared.verdict.Verdict.{Verdict}
+use Rattle.trace_reader.specs.Reports.{IsTextOf}
 
 -- done as soon as there is a verdict, or else stopped so
 abbrev pub ending_of : {T : Type 0} → Result T Stop → Status

@@ -15,25 +15,25 @@ use Rattle.init_trace.specs.Report.{DiagnosticsText}
 use Rattle.init_trace.specs.Written.{TakesFront}
 use Rattle.init_words.specs.declared.form.Form.{Form}
 use Rattle.init_words.specs.declared.form.Form.TheVariants as form
+use Rattle.job_reader.specs.Policy.{HasPolicy, IsBadPolicyAt, IsPolicyTooLarge}
+use Rattle.job_reader.specs.Run.{Course, IsCourseOf, due_of_course, run_text}
+use Rattle.job_reader.specs.Script.{HasScript}
+use Rattle.job_reader.specs.Store.{HasStore}
+use Rattle.job_reader.specs.Texts.{Tree}
+use Rattle.job_reader.specs.Trace.{IsNoTrace, IsTraceTooLarge}
+use Rattle.job_reader.specs.Tree.{AreBuildFilesShort, AreBuildFilesTooLarge, IsLoadOf, IsLoadable, IsWorldOf, PassesLimit}
+use Rattle.job_reader.specs.declared.status.Status.{Status}
+use Rattle.job_reader.specs.declared.status.Status.TheVariants as status
 use Rattle.persist_file.specs.Causes.{IsUnfitAt}
 use Rattle.rc_import.specs.Limits.{loaded as rc_files_of}
 use Rattle.rc_import.specs.Order.{root_file}
 use Rattle.rc_import.specs.World.{World}
 use Rattle.rc_import.specs.declared.loaded.LoadRefusal.{LoadRefusal}
 use Rattle.script_lang.specs.Refusal.{IsBadAt, IsTooLarge}
-use Rattle.job_reader.specs.Policy.{HasPolicy, IsBadPolicyAt, IsPolicyTooLarge}
-use Rattle.initsim.specs.Racing.{CutsRace, IsAudited, WritesRace}
-use Rattle.job_reader.specs.Run.{Course, IsCourseOf, due_of_course, run_text}
-use Rattle.job_reader.specs.Script.{HasScript}
-use Rattle.initsim.specs.Soaking.{generated_script, generated_tree, soak_text}
-use Rattle.job_reader.specs.Store.{HasStore}
-use Rattle.job_reader.specs.Texts.{Tree}
-use Rattle.job_reader.specs.Trace.{IsNoTrace, IsTraceTooLarge}
-use Rattle.initsim.specs.Verdict.{IsVerdictOn, verdict_text}
 use Rattle.trace_audit.specs.declared.verdict.Verdict.{Verdict}
-use Rattle.job_reader.specs.Tree.{AreBuildFilesShort, AreBuildFilesTooLarge, IsLoadOf, IsLoadable, IsWorldOf, PassesLimit}
-use Rattle.job_reader.specs.declared.status.Status.{Status}
-use Rattle.job_reader.specs.declared.status.Status.TheVariants as status
+use Rattle.initsim.specs.Racing.{CutsRace, IsAudited, WritesRace}
+use Rattle.initsim.specs.Soaking.{generated_script, generated_tree, soak_text}
+use Rattle.initsim.specs.Verdict.{IsVerdictOn, verdict_text}
 
 -- what is told as a call begins: the script's bytes, the tree with the meaning of its rc files, the store's text, and the
 -- trace's bytes

@@ -3,20 +3,20 @@ use Rattle.std.specs.Prelude.{◌≡◌, ◌↔◌, ◌⊎◌, ℕ, List, Option
 use Rattle.init_driver.specs.Keeper.{KeeperView}
 use Rattle.init_words.specs.declared.form.Form.{Form}
 use Rattle.init_words.specs.declared.form.Form.TheVariants as form
-use Rattle.property_area.specs.Seats.{Seated}
-use Rattle.rc_import.specs.World.{World}
 use Rattle.job_reader.specs.Check.{IsCheckStatus}
 use Rattle.job_reader.specs.Counts.{AreCounted, Counts, IsDoneUnlessRisen}
 use Rattle.job_reader.specs.Endings.{IsRunStatus}
-use Rattle.initsim.specs.Outcome.{ComesTo, Ends, IsCut, Outcome, Shown, Sources, Tell, Told, shown_as, sources_of, status_of_outcome}
 use Rattle.job_reader.specs.Script.{ScriptSays}
-use Rattle.initsim.specs.Seats.{GivesSeat, Records}
 use Rattle.job_reader.specs.Texts.{Tree}
-use Rattle.initsim.specs.Top.{CanBeDone, CanSoak, IsAsBefore, ReadsScript}
 use Rattle.job_reader.specs.Trace.{TraceSays}
 use Rattle.job_reader.specs.Tree.{IsWorldOf}
 use Rattle.job_reader.specs.declared.status.Status.{Status}
 use Rattle.job_reader.specs.declared.status.Status.TheVariants as status
+use Rattle.property_area.specs.Seats.{Seated}
+use Rattle.rc_import.specs.World.{World}
+use Rattle.initsim.specs.Outcome.{ComesTo, Ends, IsCut, Outcome, Shown, Sources, Tell, Told, shown_as, sources_of, status_of_outcome}
+use Rattle.initsim.specs.Seats.{GivesSeat, Records}
+use Rattle.initsim.specs.Top.{CanBeDone, CanSoak, IsAsBefore, ReadsScript}
 
 -- what the objects of a call show: the tree, what is left of the script and of the trace, the keeper, what the sink took, and the
 -- counts of faults of all of them

@@ -8,10 +8,10 @@ use Rattle.init_machine.specs.declared.report.Report.{Report}
 use Rattle.init_race.specs.Race.{race_given}
 use Rattle.init_trace.specs.Report.{TextOf}
 use Rattle.init_trace.specs.Written.{TakesFront}
-use Rattle.trace_audit.specs.Audited.{Audited}
 use Rattle.job_reader.specs.Run.{Course}
 use Rattle.job_reader.specs.declared.status.Status.{Status}
 use Rattle.job_reader.specs.declared.status.Status.TheVariants as status
+use Rattle.trace_audit.specs.Audited.{Audited}
 
 -- a report that the audit of traces answers Yes to
 abbrev pub IsAudited : Course → Report → Type 0

@@ -2,19 +2,19 @@
 -- history, and what each client was told.
 use Rattle.std.specs.Prelude.{◌≡◌, ℕ, ⊤, Option, Some, None, IsSome, IsSomeAnd}
 use Rattle.std.specs.Io.KnownBytes.{append_known}
-use Rattle.init_driver.specs.Seat.{HasRecorded}
 use Rattle.init_driver.specs.Run.{report_of}
+use Rattle.init_driver.specs.Seat.{HasRecorded}
 use Rattle.init_machine.specs.declared.report.Report.{Report}
 use Rattle.init_race.specs.Race.{HasRecorded as HasRecordedRace}
 use Rattle.init_words.specs.declared.form.Form.{Form}
 use Rattle.init_words.specs.declared.form.Form.TheVariants as form
+use Rattle.job_reader.specs.Run.{Course, IsCourseOf, run_text}
+use Rattle.job_reader.specs.declared.status.Status.{Status}
+use Rattle.job_reader.specs.declared.status.Status.TheVariants as status
 use Rattle.property_area.specs.Seats.{Seated}
 use Rattle.initsim.specs.Outcome.{IsRaced, Shown, Told}
 use Rattle.initsim.specs.Racing.{IsAudited, WritesRace}
-use Rattle.job_reader.specs.Run.{Course, IsCourseOf, run_text}
 use Rattle.initsim.specs.Soaking.{soak_text}
-use Rattle.job_reader.specs.declared.status.Status.{Status}
-use Rattle.job_reader.specs.declared.status.Status.TheVariants as status
 
 -- a call that is done gives a seat, and no other does
 abbrev pub IsGiven : Status → Option Seated → Type 0

@@ -2,13 +2,13 @@
 use Rattle.std.specs.Prelude.{◌≡◌, ℕ, ◌⊎◌, List, Option}
 use Rattle.std.specs.Io.KnownBytes.{append_known}
 use Rattle.init_trace.specs.Written.{TakesFront}
-use Rattle.property_area.specs.Seats.{Seated}
-use Rattle.initsim.specs.Outcome.{RunRefused, Told}
 use Rattle.job_reader.specs.Run.{Course, IsCourseOf}
-use Rattle.initsim.specs.Seats.{RecordsRun}
-use Rattle.initsim.specs.Soaking.{soak_text}
 use Rattle.job_reader.specs.declared.status.Status.{Status}
 use Rattle.job_reader.specs.declared.status.Status.TheVariants as status
+use Rattle.property_area.specs.Seats.{Seated}
+use Rattle.initsim.specs.Outcome.{RunRefused, Told}
+use Rattle.initsim.specs.Seats.{RecordsRun}
+use Rattle.initsim.specs.Soaking.{soak_text}
 
 -- a front of the summary is written
 abbrev pub CutsSoak : ℕ → Told → Option (List ℕ) → Option (List ℕ) → Type 0

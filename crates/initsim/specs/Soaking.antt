@@ -1,12 +1,12 @@
 -- A generated boot: the tree and the script that are read for it, and what is written.
 use Rattle.std.specs.Prelude.{ℕ, List, [], ◌∷◌}
 use Rattle.init_driver.specs.Run.{report_of}
+use Rattle.job_reader.specs.Run.{Course}
+use Rattle.job_reader.specs.Texts.{Tree, allow_path, contexts_path}
 use Rattle.rc_import.specs.Order.{root_file}
 use Rattle.script_lang.specs.Generated.{generated, script_text}
 use Rattle.soak_summary.specs.Counting.{tally_of}
 use Rattle.soak_summary.specs.Summary.{SummaryText}
-use Rattle.job_reader.specs.Run.{Course}
-use Rattle.job_reader.specs.Texts.{Tree, allow_path, contexts_path}
 
 -- the tree of so many services: the root file and the policy
 unfoldable pub generated_tree : ℕ → Tree

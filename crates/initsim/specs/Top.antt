@@ -1,18 +1,18 @@
 -- What the top call leaves alone, and what it can do.
 use Rattle.std.specs.Prelude.{◌≡◌, ℕ, ⊤, ◌⊎◌, Option, Some, None, IsSomeAnd}
 use Rattle.init_base.specs.Faults.{Rose}
-use Rattle.initsim.specs.Outcome.{Sources, generated_sources}
+use Rattle.init_words.specs.declared.form.Form.{Form}
+use Rattle.init_words.specs.declared.form.Form.TheVariants as form
 use Rattle.job_reader.specs.Script.{HasScript}
-use Rattle.initsim.specs.Soaking.{generated_tree}
 use Rattle.job_reader.specs.Store.{HasStore}
-use Rattle.rc_import.specs.World.{World}
 use Rattle.job_reader.specs.Trace.{HasTrace}
 use Rattle.job_reader.specs.Tree.{IsFitFor, IsWorldOf}
 use Rattle.job_reader.specs.Tree.Purpose.{ToRun, ToCheck}
 use Rattle.job_reader.specs.declared.status.Status.{Status}
 use Rattle.job_reader.specs.declared.status.Status.TheVariants as status
-use Rattle.init_words.specs.declared.form.Form.{Form}
-use Rattle.init_words.specs.declared.form.Form.TheVariants as form
+use Rattle.rc_import.specs.World.{World}
+use Rattle.initsim.specs.Outcome.{Sources, generated_sources}
+use Rattle.initsim.specs.Soaking.{generated_tree}
 
 -- Where a refusal before the run is answered, something is as before. Of a fault it is so too, unless the keeper's count rose.
 abbrev pub IsAsBefore : {A : Type 0} → A → A → Status → ℕ → ℕ → Type 0

@@ -2,13 +2,13 @@
 use Rattle.std.specs.Prelude.{◌≡◌, ◌↔◌, ℕ, List, [], ◌∷◌, ◌++◌, codes}
 use Rattle.std.specs.Fmt.{decimal}
 use Rattle.init_machine.specs.declared.report.Report.{Report}
+use Rattle.job_reader.specs.Run.{Course}
+use Rattle.job_reader.specs.Trace.{IsTraceOf}
 use Rattle.trace_audit.specs.Audited.{Audited, Says}
 use Rattle.trace_audit.specs.declared.verdict.Verdict.{Verdict}
 use Rattle.trace_audit.specs.declared.verdict.Verdict.TheVariants as verdict
 use Rattle.trace_audit.specs.declared.verdict.Why.{Why}
 use Rattle.trace_audit.specs.declared.verdict.Why.TheVariants as why
-use Rattle.job_reader.specs.Run.{Course}
-use Rattle.job_reader.specs.Trace.{IsTraceOf}
 
 -- What an audit says of the report that the bytes are the text of: whether a run of the course can have written it, and if
 -- not, what is wrong first.

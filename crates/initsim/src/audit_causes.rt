@@ -103,12 +103,17 @@ fn job_of(rt: &HostRuntime, words: &List<Text>) -> Option<Job>
     ensures { IfSome result IsFit }
 {
     let (root, path) = (words.at(1)?, words.at(2)?);
-    let mut files = StdFiles::at(rt, rt.alloc(), root).ok()?;
-    let mut script = StdSource::at(rt, rt.alloc(), path).ok()?;
-    let mut keeper = store_below(rt, root).ok()?;
-    match prepare(rt.alloc(), &mut files, &mut script, &mut keeper) {
-        Ok(job) => Some(job),
-        Err(_) => None,
+    let files = StdFiles::at(rt, rt.alloc(), root);
+    let script = StdSource::at(rt, rt.alloc(), path);
+    let keeper = store_below(rt, root);
+    match (files, script, keeper) {
+        (Ok(mut files), Ok(mut script), Ok(mut keeper)) => prepare(
+            rt.alloc(),
+            &mut files,
+            &mut script,
+            &mut keeper,
+        ).ok(),
+        _ => None,
     }
 }
 

@@ -4,19 +4,19 @@ ghost use Rattle.std.specs.Prelude.{◌≡◌, ℕ, IfErr, IfOk, IfSome, List as
 ghost use Rattle.init_base.specs.Faults.{Counted};
 ghost use Rattle.init_driver.specs.Keeper.{seen_by};
 ghost use Rattle.init_words.specs.declared.form.Form.TheVariants as Form;
-ghost use Rattle.job_reader.specs.Counts.{AreCounted, counts_of};
-ghost use Rattle.job_reader.specs.Endings.{IsAuditStatus};
 ghost use Rattle.initsim.specs.Judging.{JudgesText, ending_of};
 ghost use Rattle.initsim.specs.Outcome.{Ends, IsJudged, TellRun, Told, shown_as, sources_of};
+ghost use Rattle.initsim.specs.Top.{IsAsBefore};
+ghost use Rattle.initsim.specs.Verdict.{IsVerdictOn};
+ghost use Rattle.job_reader.specs.Counts.{AreCounted, counts_of};
+ghost use Rattle.job_reader.specs.Endings.{IsAuditStatus};
 ghost use Rattle.job_reader.specs.Prepared.{IsAsked, IsFit, course_of};
 ghost use Rattle.job_reader.specs.Script.{ScriptSays};
 ghost use Rattle.job_reader.specs.Stops.{IsOfTrace, has_read_fault};
 ghost use Rattle.job_reader.specs.Store.{StoreSays};
-ghost use Rattle.initsim.specs.Top.{IsAsBefore};
 ghost use Rattle.job_reader.specs.Trace.{TraceSays};
 ghost use Rattle.job_reader.specs.Tree.{IsWorldOf, TreeSays};
 ghost use Rattle.job_reader.specs.Tree.Purpose.{ToRun};
-ghost use Rattle.initsim.specs.Verdict.{IsVerdictOn};
 ghost use Rattle.rc_import.specs.World.{World};
 
 use crate::verdict::write_verdict;

@@ -47,18 +47,27 @@ pub fn tell_cause(rt: &HostRuntime, status: Status, words: &List<Text>, wrote: &
 }
 
 /// Prints what is wrong with the image of the store, where it is no store.
-pub fn tell_bad_image(rt: &HostRuntime, root: &Text) {
-    if let Some(line) = image_line(rt, root) {
+pub fn tell_bad_image(rt: &HostRuntime, words: &List<Text>) {
+    if let Some(line) = image_line(rt, words) {
         let _ = eprintln!(rt; "initsim: {line}");
     }
 }
 
-fn image_line(rt: &HostRuntime, root: &Text) -> Option<String> {
-    let mut store = store_below(rt, root).ok()?;
-    let Err(OpenRefusal::BadSlot { slot, len }) = store.look() else {
-        return None;
-    };
-    let path = below(rt, root, IMAGE)?;
+fn image_line(rt: &HostRuntime, words: &List<Text>) -> Option<String> {
+    let root = words.at(1)?;
+    let (slot, len) = bad_slot(rt, root)?;
+    slot_line(rt, &below(rt, root, IMAGE)?, slot, len)
+}
+
+/// The slot of the store's image that is none, and its length.
+fn bad_slot(rt: &HostRuntime, root: &Text) -> Option<(u8, u64)> {
+    match store_below(rt, root).ok()?.look() {
+        Err(OpenRefusal::BadSlot { slot, len }) => Some((slot, len)),
+        _ => None,
+    }
+}
+
+fn slot_line(rt: &HostRuntime, path: &Text, slot: u8, len: u64) -> Option<String> {
     let path = ShownPath(path.bytes());
     if len > MOST_STORE_BYTES as u64 {
         return format!(in rt.alloc();
@@ -112,11 +121,23 @@ fn bad_allow(rt: &HostRuntime, root: &Text, line: u32) -> Option<String> {
 }
 
 fn bad_store(rt: &HostRuntime, root: &Text, line: u32) -> Option<String> {
+    let (text, path) = stored(rt, root)?;
+    store_line(rt, &below(rt, root, path)?, text.bytes(), line)
+}
+
+/// The text that the store holds, and the path below the root at which it was read.
+fn stored(rt: &HostRuntime, root: &Text) -> Option<(Text, &'static [u8])> {
     let mut store = store_below(rt, root).ok()?;
-    let text = store.load(rt.alloc(), MOST_STORE_BYTES).ok()?;
-    let cause = store_cause(rt.alloc(), text.bytes(), line).ok()??;
-    let read = if store.store().is_open() { IMAGE } else { TEXT };
-    said(rt, &below(rt, root, read)?, line, &cause)
+    match store.load(rt.alloc(), MOST_STORE_BYTES) {
+        Ok(text) if store.store().is_open() => Some((text, IMAGE)),
+        Ok(text) => Some((text, TEXT)),
+        Err(_) => None,
+    }
+}
+
+fn store_line(rt: &HostRuntime, path: &Text, bytes: &[u8], line: u32) -> Option<String> {
+    let cause = store_cause(rt.alloc(), bytes, line).ok()??;
+    said(rt, path, line, &cause)
 }
 
 /// What is wrong in a line of a file.

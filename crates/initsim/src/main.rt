@@ -31,6 +31,32 @@ use store::{TreeStore, last_fault, store_below};
 use telling::{tell, tell_misuse};
 use top::initsim;
 
+/// The objects of the machine that the words name.
+#[derive(Drop)]
+struct Outside<'a> {
+    files: StdFiles<'a, HostRuntime>,
+    script: StdSource<'a, HostRuntime>,
+    trace: StdSource<'a, HostRuntime>,
+    keeper: TreeStore<'a>,
+}
+
+/// Makes the objects. They are taken out of their answers together, so that only one end lets some of them go.
+fn outside_of<'a>(rt: &'a HostRuntime, words: &List<Text>) -> Result<Outside<'a>, NoMemory> {
+    let files = files_at(rt, words);
+    let script = source_at(rt, words, 2);
+    let trace = source_at(rt, words, 3);
+    let keeper = store_at(rt, words);
+    match (files, script, trace, keeper) {
+        (Ok(files), Ok(script), Ok(trace), Ok(keeper)) => Ok(Outside {
+            files,
+            script,
+            trace,
+            keeper,
+        }),
+        _ => Err(NoMemory),
+    }
+}
+
 /// A word by its place. The empty text where there is none.
 fn word_at(words: &List<Text>, at: usize) -> Result<Text, NoMemory> {
     match words.at(at) {
@@ -39,38 +65,76 @@ fn word_at(words: &List<Text>, at: usize) -> Result<Text, NoMemory> {
     }
 }
 
+fn files_at<'a>(
+    rt: &'a HostRuntime,
+    words: &List<Text>,
+) -> Result<StdFiles<'a, HostRuntime>, NoMemory> {
+    let root = word_at(words, 1)?;
+    StdFiles::at(rt, rt.alloc(), &root)
+}
+
+fn source_at<'a>(
+    rt: &'a HostRuntime,
+    words: &List<Text>,
+    at: usize,
+) -> Result<StdSource<'a, HostRuntime>, NoMemory> {
+    let path = word_at(words, at)?;
+    StdSource::at(rt, rt.alloc(), &path)
+}
+
+fn store_at<'a>(rt: &'a HostRuntime, words: &List<Text>) -> Result<TreeStore<'a>, NoMemory> {
+    let root = word_at(words, 1)?;
+    store_below(rt, &root)
+}
+
 /// Makes the real objects, and the call. `threads` is the runtime once more: `main` alone may start threads by it.
 fn run<R: Threads + Wait + Sync>(rt: &HostRuntime, threads: &R) -> Result<Status, NoMemory> {
+    let words = words_of(rt, rt.alloc())?;
+    let mut outside = outside_of(rt, &words)?;
+    Ok(run_over(rt, threads, &words, &mut outside))
+}
+
+/// Makes the call over the real objects, and tells how it ended.
+fn run_over<R: Threads + Wait + Sync>(
+    rt: &HostRuntime,
+    threads: &R,
+    words: &List<Text>,
+    outside: &mut Outside<'_>,
+) -> Status {
     let alloc = rt.alloc();
-    let words = words_of(rt, alloc)?;
-    let root = word_at(&words, 1)?;
-    let path = word_at(&words, 2)?;
-    let mut files = StdFiles::at(rt, alloc, &root)?;
-    let mut script = StdSource::at(rt, alloc, &path)?;
-    let mut trace = StdSource::at(rt, alloc, &word_at(&words, 3)?)?;
-    let mut keeper = store_below(rt, &root)?;
     let mut out = Noting::new(alloc, StdSink::stdout(rt));
     let (status, _) = initsim(
         threads,
         alloc,
-        &words,
-        &mut files,
-        &mut script,
-        &mut trace,
-        &mut keeper,
+        words,
+        &mut outside.files,
+        &mut outside.script,
+        &mut outside.trace,
+        &mut outside.keeper,
         &mut out,
         &OpenGate,
     );
-    let fault = fault_behind(status, &script, &trace, &files, &keeper, &out.sink);
+    tell_end(rt, status, words, outside, &out);
+    status
+}
+
+/// Prints the line of the status, and what is known beside it.
+fn tell_end(
+    rt: &HostRuntime,
+    status: Status,
+    words: &List<Text>,
+    outside: &Outside<'_>,
+    out: &Noting<StdSink<'_, HostRuntime>>,
+) {
+    let fault = fault_behind(status, outside, &out.sink);
     let _ = tell(rt, status, fault);
-    if fault.is_none() && keeper.faults() > 0 {
-        tell_bad_image(rt, &root);
+    if fault.is_none() && outside.keeper.faults() > 0 {
+        tell_bad_image(rt, words);
     }
-    tell_cause(rt, status, &words, out.first());
+    tell_cause(rt, status, words, out.first());
     if status == Status::Usage {
-        let _ = tell_usage(rt, &words);
+        let _ = tell_usage(rt, words);
     }
-    Ok(status)
 }
 
 /// Prints what is wrong with the words, or help where they ask for it.
@@ -88,20 +152,17 @@ fn tell_usage(rt: &HostRuntime, words: &List<Text>) -> std::io::Result<()> {
 /// What the system said where the status comes of it.
 fn fault_behind<'a>(
     status: Status,
-    script: &'a StdSource<'_, HostRuntime>,
-    trace: &'a StdSource<'_, HostRuntime>,
-    files: &'a StdFiles<'_, HostRuntime>,
-    keeper: &'a TreeStore<'_>,
+    outside: &'a Outside<'_>,
     out: &'a StdSink<'_, HostRuntime>,
 ) -> Option<&'a Fault> {
-    let has_script_failed = script.faults() > 0;
-    let has_trace_failed = trace.faults() > 0;
-    let has_keeper_failed = keeper.faults() > 0;
+    let has_script_failed = outside.script.faults() > 0;
+    let has_trace_failed = outside.trace.faults() > 0;
+    let has_keeper_failed = outside.keeper.faults() > 0;
     match status {
-        Status::ReadFault if has_script_failed => script.last_fault(),
-        Status::ReadFault if has_trace_failed => trace.last_fault(),
-        Status::ReadFault if has_keeper_failed => last_fault(keeper),
-        Status::ReadFault | Status::NoInit => files.last_fault(),
+        Status::ReadFault if has_script_failed => outside.script.last_fault(),
+        Status::ReadFault if has_trace_failed => outside.trace.last_fault(),
+        Status::ReadFault if has_keeper_failed => last_fault(&outside.keeper),
+        Status::ReadFault | Status::NoInit => outside.files.last_fault(),
         Status::WriteFault => out.last_fault(),
         _ => None,
     }

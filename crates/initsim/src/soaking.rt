@@ -3,14 +3,14 @@
 ghost use Rattle.std.specs.Prelude.{◌≡◌, ◌≤◌, ℕ, [], IfOk, Some};
 ghost use Rattle.init_base.specs.Faults.{Counted, write_failed};
 ghost use Rattle.init_trace.specs.Written.{Writes};
-ghost use Rattle.job_reader.specs.Counts.{AreCounted, IsDoneUnlessRisen, counts_of};
-ghost use Rattle.job_reader.specs.Endings.{IsRunStatus};
 ghost use Rattle.initsim.specs.Outcome.{TellRun, Told, generated_sources};
-ghost use Rattle.job_reader.specs.Prepared.{IsFit, WritesText, course_of};
 ghost use Rattle.initsim.specs.Seats.{GivesOwn, IsGiven, RunGives};
 ghost use Rattle.initsim.specs.SoakEnds.{EndsSoak};
 ghost use Rattle.initsim.specs.Soaking.{generated_script, generated_tree, soak_text};
 ghost use Rattle.initsim.specs.Top.{CanRun, CanSoak, IsAsBefore};
+ghost use Rattle.job_reader.specs.Counts.{AreCounted, IsDoneUnlessRisen, counts_of};
+ghost use Rattle.job_reader.specs.Endings.{IsRunStatus};
+ghost use Rattle.job_reader.specs.Prepared.{IsFit, WritesText, course_of};
 ghost use Rattle.job_reader.specs.Tree.{IsWorldOf};
 ghost use Rattle.rc_import.specs.World.{World};
 ghost use Rattle.soak_summary.specs.Summary.{SummaryText};

@@ -2,21 +2,21 @@
 
 ghost use Rattle.std.specs.Prelude.{◌≡◌, ℕ, IfSome, List as Items, Option, Some};
 ghost use Rattle.init_driver.specs.Keeper.{seen_by};
-ghost use Rattle.job_reader.specs.Check.{CheckWrites, IsCheckStatus};
 ghost use Rattle.init_trace.specs.Report.{DiagnosticsText};
-ghost use Rattle.job_reader.specs.Counts.{AreCounted, counts_of};
-ghost use Rattle.job_reader.specs.Endings.{IsRunStatus};
-ghost use Rattle.initsim.specs.Outcome.{Ends, TellRun, Told, shown_as, sources_of};
-ghost use Rattle.job_reader.specs.Prepared.{IsFit, Performs, WritesText, course_of};
-ghost use Rattle.initsim.specs.Promise.{Promise, objects_of};
-ghost use Rattle.job_reader.specs.Script.{ScriptSays};
-ghost use Rattle.initsim.specs.Seats.{GivesSeat, Records, RunGives};
-ghost use Rattle.job_reader.specs.Store.{StoreSays};
-ghost use Rattle.initsim.specs.Top.{IsAsBefore};
-ghost use Rattle.job_reader.specs.Tree.{IsWorldOf, TreeSays};
-ghost use Rattle.job_reader.specs.Tree.Purpose.{ToCheck, ToRun};
 ghost use Rattle.init_words.specs.Form as spec;
 ghost use Rattle.init_words.specs.declared.form.Form.TheVariants as Form;
+ghost use Rattle.initsim.specs.Outcome.{Ends, TellRun, Told, shown_as, sources_of};
+ghost use Rattle.initsim.specs.Promise.{Promise, objects_of};
+ghost use Rattle.initsim.specs.Seats.{GivesSeat, Records, RunGives};
+ghost use Rattle.initsim.specs.Top.{IsAsBefore};
+ghost use Rattle.job_reader.specs.Check.{CheckWrites, IsCheckStatus};
+ghost use Rattle.job_reader.specs.Counts.{AreCounted, counts_of};
+ghost use Rattle.job_reader.specs.Endings.{IsRunStatus};
+ghost use Rattle.job_reader.specs.Prepared.{IsFit, Performs, WritesText, course_of};
+ghost use Rattle.job_reader.specs.Script.{ScriptSays};
+ghost use Rattle.job_reader.specs.Store.{StoreSays};
+ghost use Rattle.job_reader.specs.Tree.{IsWorldOf, TreeSays};
+ghost use Rattle.job_reader.specs.Tree.Purpose.{ToCheck, ToRun};
 ghost use Rattle.rc_import.specs.World.{World};
 
 use crate::auditing::audit_trace;

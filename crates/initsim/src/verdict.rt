@@ -3,9 +3,9 @@
 ghost use Rattle.std.specs.Prelude.{◌≡◌, ℕ, ◌++◌, IfOk, OnOk};
 ghost use Rattle.init_base.specs.Faults.{Counted, write_failed};
 ghost use Rattle.init_trace.specs.Written.{Writes};
+ghost use Rattle.initsim.specs.Verdict.{verdict_text, why_text};
 ghost use Rattle.job_reader.specs.Counts.{AreCounted, counts_of};
 ghost use Rattle.job_reader.specs.Prepared.{WritesText};
-ghost use Rattle.initsim.specs.Verdict.{verdict_text, why_text};
 
 use init_base::{IoRefusal, NoMemory, Sink};
 use init_trace::{put, put_number, send};

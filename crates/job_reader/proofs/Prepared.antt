@@ -10,8 +10,8 @@ use Rattle.job_reader.specs.Prepared.{IsJobFor, IsSetupOf, IsTree}
 use Rattle.job_reader.specs.Stops.{is_read_fault, status_of}
 use Rattle.job_reader.specs.Tree.{IsFitFor}
 use Rattle.job_reader.specs.Tree.Purpose.{ToRun}
-use Rattle.job_reader.specs.declared.prepare.Job.{Job}
-use Rattle.job_reader.specs.declared.prepare.TreeParts.{TreeParts}
+use Rattle.job_reader.specs.declared.preparing.Job.{Job}
+use Rattle.job_reader.specs.declared.preparing.TreeParts.{TreeParts}
 use Rattle.job_reader.specs.declared.stop.Stop.{Stop}
 use Rattle.job_reader.specs.declared.stop.Stop.TheVariants as stop
 

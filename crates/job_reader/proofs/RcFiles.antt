@@ -2,22 +2,20 @@
 use Rattle.std.proofs.Common.{◌≡◌, ℕ, Bool, true, false, List, [], ◌∷◌, ◌++◌, Option, Some, None, Result, Ok, Err, refl, subst, inr, ap, ◌∙◌}
 use Rattle.std.specs.Prelude.{if◌then◌else◌}
 use Rattle.init_base.specs.Tree.{file_at}
-use Rattle.init_machine.specs.declared.config.Pair.{Pair}
 use Rattle.init_machine.specs.declared.diagnostic.Diagnostic.{Diagnostic}
 use Rattle.init_machine.specs.declared.limit.Limit.{Limit}
 use Rattle.init_machine.specs.declared.limit.Limit.TheVariants as limits
-use Rattle.prop_rules.specs.View.{view}
 use Rattle.prop_rules.specs.declared.build.BuildProps.{BuildProps}
 use Rattle.rc_import.specs.Answers.{IsAnswer}
 use Rattle.rc_import.specs.BuildFiles.{behind_build_files}
 use Rattle.rc_import.specs.Limits.{SoFar, diagnostics_of, loaded as rc_files_of, loaded_from, loaded_of, nothing, onward, with_all, with_bytes, with_met}
 use Rattle.rc_import.specs.Order.{Met, Listing, File, Fault, order, root_file}
-use Rattle.rc_import.specs.World.{IsWorld, World}
-use Rattle.rc_import.specs.declared.loaded.Loaded.{Loaded}
+use Rattle.rc_import.specs.World.{World}
 use Rattle.rc_import.specs.declared.loaded.LoadLimit.{LoadLimit}
 use Rattle.rc_import.specs.declared.loaded.LoadLimit.TheVariants as load_limits
 use Rattle.rc_import.specs.declared.loaded.LoadRefusal.{LoadRefusal}
 use Rattle.rc_import.specs.declared.loaded.LoadRefusal.TheVariants as refusal
+use Rattle.rc_import.specs.declared.loaded.Loaded.{Loaded}
 use Rattle.job_reader.specs.Check.{IsCheckStatus, IsTreeLimit}
 use Rattle.job_reader.specs.Stops.{AreBuildFiles, GivesDiagnostics, GivesLoad, load_stop, status_of}
 use Rattle.job_reader.specs.Texts.{Tree, pairs_of}

@@ -1,6 +1,5 @@
 -- What the stops of one reader say of the objects of the others.
-use Rattle.std.proofs.Common.{◌≡◌, ℕ, List, Option, Some, None, Result, Ok, Err, refl, sym, subst, inl, inr}
-use Rattle.std.specs.Prelude.{IfSome, IsErr, IsErrAnd}
+use Rattle.std.proofs.Common.{ℕ, List, Option, inl, inr}
 use Rattle.init_machine.specs.declared.limit.Limit.{Limit}
 use Rattle.init_machine.specs.declared.limit.Limit.TheVariants as limits
 use Rattle.rc_import.specs.World.{World}

@@ -2,11 +2,11 @@
 use Rattle.std.proofs.Common.{◌≡◌, ◌≤◌, ◌∙◌, ℕ, List, Option, Some, None, Ok, length, subst}
 use Rattle.std.specs.Prelude.{IfSome}
 use Rattle.init_base.specs.Keeping.{LoadsHeld}
-use Rattle.job_reader.specs.Stops.{status_of, store_stop}
-use Rattle.job_reader.specs.Store.{StoreSays}
 use Rattle.persist_file.specs.Causes.{IsRefused}
 use Rattle.persist_file.specs.declared.refusal.StoreRefusal.{StoreRefusal}
 use Rattle.persist_file.specs.declared.refusal.StoreRefusal.TheVariants as refusal
+use Rattle.job_reader.specs.Stops.{status_of, store_stop}
+use Rattle.job_reader.specs.Store.{StoreSays}
 
 pub store_refused : (held : List ℕ) (why : StoreRefusal) → length held ≤ 33554432 → IsRefused held why → StoreSays held (status_of (store_stop why))
 store_refused held (refusal.BadLine line cause) short refused = (short, refused)

@@ -8,13 +8,13 @@ use Rattle.init_base.specs.declared.outside.refusal.ReadRefusal.TheVariants as r
 use Rattle.init_machine.specs.Policy.{PolicyLines}
 use Rattle.init_machine.specs.declared.limit.Limit.{Limit}
 use Rattle.init_machine.specs.declared.limit.Limit.TheVariants as limits
-use Rattle.prop_rules.specs.Build.{IsBuildFile}
-use Rattle.prop_rules.specs.declared.build.BuildProps.{BuildProps}
 use Rattle.prop_contexts.specs.Grammar.{IsPolicy, IsRefused}
 use Rattle.prop_contexts.specs.declared.refusal.PolicyRefusal.{PolicyRefusal}
 use Rattle.prop_contexts.specs.declared.refusal.PolicyRefusal.TheVariants as policy
-use Rattle.rc_import.specs.World.{World}
+use Rattle.prop_rules.specs.Build.{IsBuildFile}
+use Rattle.prop_rules.specs.declared.build.BuildProps.{BuildProps}
 use Rattle.rc_import.proofs.BuildFiles.{both_read}
+use Rattle.rc_import.specs.World.{World}
 use Rattle.job_reader.specs.Check.{IsCheckStatus}
 use Rattle.job_reader.specs.Stops.{AreBuildFiles, GivesBuildFile, GivesBuildFiles, GivesPolicy, GivesText, IsOfTree, policy_stop, reading_stop, status_of}
 use Rattle.job_reader.specs.Texts.{Tree, allow_text, build_text, bytes_or, contexts_text, system_path, vendor_path}

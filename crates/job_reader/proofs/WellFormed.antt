@@ -17,8 +17,8 @@ use Rattle.script_lang.specs.Laws.{Differ, IsMoment, MeetsConditions}
 use Rattle.script_lang.specs.declared.script.Client.{Client}
 use Rattle.script_lang.specs.declared.script.Script.{Script}
 use Rattle.job_reader.specs.Prepared.{IsFit, IsJobFor}
-use Rattle.job_reader.specs.declared.prepare.Job.{Job}
-use Rattle.job_reader.specs.declared.prepare.TreeParts.{TreeParts}
+use Rattle.job_reader.specs.declared.preparing.Job.{Job}
+use Rattle.job_reader.specs.declared.preparing.TreeParts.{TreeParts}
 
 -- ---- both of two tests
 

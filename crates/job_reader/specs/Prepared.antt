@@ -20,8 +20,8 @@ use Rattle.job_reader.specs.Stops.{status_of}
 use Rattle.job_reader.specs.Store.{IsStoreOf, StoreSays}
 use Rattle.job_reader.specs.Tree.{IsLoadOf, TreeSays}
 use Rattle.job_reader.specs.Tree.Purpose.{ToRun}
-use Rattle.job_reader.specs.declared.prepare.Job.{Job}
-use Rattle.job_reader.specs.declared.prepare.TreeParts.{TreeParts}
+use Rattle.job_reader.specs.declared.preparing.Job.{Job}
+use Rattle.job_reader.specs.declared.preparing.TreeParts.{TreeParts}
 use Rattle.job_reader.specs.declared.status.Status.{Status}
 use Rattle.job_reader.specs.declared.status.Status.TheVariants as status
 use Rattle.job_reader.specs.declared.stop.Stop.{Stop}

@@ -4,9 +4,9 @@ use Rattle.init_driver.specs.Run.{Due, due_of, report_of}
 use Rattle.init_machine.specs.State.{Opening}
 use Rattle.init_machine.specs.declared.diagnostic.Diagnostic.{Diagnostic}
 use Rattle.init_trace.specs.Report.{TextOf}
+use Rattle.rc_import.specs.World.{World}
 use Rattle.script_lang.specs.Script.{IsScript}
 use Rattle.script_lang.specs.declared.script.Script.{Script}
-use Rattle.rc_import.specs.World.{World}
 use Rattle.job_reader.specs.Policy.{IsPolicyOf}
 use Rattle.job_reader.specs.Store.{IsStoreOf}
 use Rattle.job_reader.specs.Tree.{IsLoadOf}

@@ -12,15 +12,18 @@ use Rattle.persist_file.specs.declared.refusal.StoreRefusal.{StoreRefusal}
 use Rattle.persist_file.specs.declared.refusal.StoreRefusal.TheVariants as store
 use Rattle.prop_contexts.specs.declared.refusal.PolicyRefusal.{PolicyRefusal}
 use Rattle.prop_contexts.specs.declared.refusal.PolicyRefusal.TheVariants as policy
-use Rattle.rc_import.specs.declared.loaded.LoadRefusal.{LoadRefusal}
-use Rattle.rc_import.specs.declared.loaded.LoadRefusal.TheVariants as load
 use Rattle.prop_rules.specs.Build.{IsBuildFile}
 use Rattle.prop_rules.specs.declared.build.BuildProps.{BuildProps}
+use Rattle.rc_import.specs.World.{World}
+use Rattle.rc_import.specs.declared.loaded.LoadRefusal.{LoadRefusal}
+use Rattle.rc_import.specs.declared.loaded.LoadRefusal.TheVariants as load
+use Rattle.rc_import.specs.declared.loaded.Loaded.{Loaded}
 use Rattle.script_lang.specs.Script.{IsScript}
+use Rattle.script_lang.specs.declared.fault.Fault.{Fault}
+use Rattle.script_lang.specs.declared.fault.Fault.TheVariants as fault
 use Rattle.script_lang.specs.declared.refusal.ScriptRefusal.{ScriptRefusal}
 use Rattle.script_lang.specs.declared.refusal.ScriptRefusal.TheVariants as script
 use Rattle.script_lang.specs.declared.script.Script.{Script}
-use Rattle.rc_import.specs.World.{World}
 use Rattle.job_reader.specs.Check.{IsTreeLimit}
 use Rattle.job_reader.specs.Policy.{IsPolicyOf}
 use Rattle.job_reader.specs.Script.{ScriptSays}
@@ -29,13 +32,10 @@ use Rattle.job_reader.specs.Texts.{Tree, faults_of, pairs_of}
 use Rattle.job_reader.specs.Trace.{TraceSays}
 use Rattle.job_reader.specs.Tree.{AreBuildFilesShort, AreBuildFilesTooLarge, IsLoadOf, TreeSays, limit_of}
 use Rattle.job_reader.specs.Tree.Purpose.{ToRun, ToCheck}
-use Rattle.rc_import.specs.declared.loaded.Loaded.{Loaded}
 use Rattle.job_reader.specs.declared.status.Status.{Status}
 use Rattle.job_reader.specs.declared.status.Status.TheVariants as status
 use Rattle.job_reader.specs.declared.stop.Stop.{Stop}
 use Rattle.job_reader.specs.declared.stop.Stop.TheVariants as stop
-use Rattle.script_lang.specs.declared.fault.Fault.{Fault}
-use Rattle.script_lang.specs.declared.fault.Fault.TheVariants as fault
 
 abbrev pub status_of : Stop → Status
 status_of stop.ReadFault = status.ReadFault

@@ -1,5 +1,5 @@
 -- What a status says of the tree that files tell.
-use Rattle.std.specs.Prelude.{◌≡◌, ℕ, ◌⊎◌, ⊤, Bool, List, ◌++◌, Option, None, Ok, Err}
+use Rattle.std.specs.Prelude.{◌≡◌, ℕ, ◌⊎◌, ⊤, Bool, List, ◌++◌, None, Ok, Err}
 use Rattle.init_base.specs.Tree.{file_at}
 use Rattle.init_machine.specs.declared.config.Config.{Config}
 use Rattle.init_machine.specs.declared.diagnostic.Diagnostic.{Diagnostic}
@@ -8,11 +8,11 @@ use Rattle.init_machine.specs.declared.limit.Limit.TheVariants as limits
 use Rattle.rc_import.specs.Limits.{loaded as rc_files_of}
 use Rattle.rc_import.specs.Order.{root_file}
 use Rattle.rc_import.specs.World.{World}
-use Rattle.rc_import.specs.declared.loaded.Loaded.{Loaded}
 use Rattle.rc_import.specs.declared.loaded.LoadLimit.{LoadLimit}
 use Rattle.rc_import.specs.declared.loaded.LoadLimit.TheVariants as load_limits
 use Rattle.rc_import.specs.declared.loaded.LoadRefusal.{LoadRefusal}
 use Rattle.rc_import.specs.declared.loaded.LoadRefusal.TheVariants as refusal
+use Rattle.rc_import.specs.declared.loaded.Loaded.{Loaded}
 use Rattle.job_reader.specs.Policy.{HasPolicy, IsBadPolicyAt, IsPolicyTooLarge}
 use Rattle.job_reader.specs.Texts.{AreShort, IsOneLong, Tree, build_text, faults_of, pairs_of, system_path, vendor_path}
 use Rattle.job_reader.specs.declared.status.Status.{Status}

@@ -6,14 +6,14 @@
 #![tactic(auto)]
 
 mod loading;
-mod prepare;
+mod preparing;
 mod reading;
 mod status;
 mod stop;
 mod texts;
 
 pub use loading::diagnose;
-pub use prepare::{Job, prepare};
+pub use preparing::{Job, prepare};
 pub use reading::read_trace;
 pub use status::Status;
 pub use stop::Stop;

@@ -3,13 +3,13 @@ use Rattle.init_driver.specs.Keeper.{seen_by}
 use Rattle.job_reader.specs.Endings.{IsAuditStatus}
 use Rattle.job_reader.specs.Script.{ScriptSays}
 use Rattle.job_reader.specs.Store.{StoreSays}
-use Rattle.initsim.specs.Top.{IsAsBefore}
 use Rattle.job_reader.specs.Trace.{TraceSays}
 use Rattle.job_reader.specs.Tree.{TreeSays}
 use Rattle.job_reader.specs.Tree.Purpose.{ToRun}
+use Rattle.rc_import.proofs.Outcomes.{if_told, told as told_of}
+use Rattle.initsim.specs.Top.{IsAsBefore}
 use Rattle.initsim.proofs.Ends.{audit_stop_ends, judged_ends}
 use Rattle.initsim.proofs.Judged.{counts_written, same_as_before, stop_of_audit, written_status}
-use Rattle.rc_import.proofs.Outcomes.{if_told, told as told_of}
 use Rattle.initsim.proofs.auditing.audit_trace.Goals as goal
 
 pub returns-in-Ok-clause-script : goal.returns-in-Ok-clause-script

@@ -1,13 +1,13 @@
 use Rattle.std.proofs.Common.{Ok}
 use Rattle.std.proofs.lemmas.Result.{IfOk-weaker}
 use Rattle.init_driver.specs.Keeper.{seen_by}
-use Rattle.initsim.specs.Judging.{ending_of}
+use Rattle.job_reader.proofs.Says.{run_stop_trace}
 use Rattle.job_reader.specs.Prepared.{GivesSaved, ScriptOfJob, course_of}
 use Rattle.job_reader.specs.Trace.{TraceSays}
+use Rattle.rc_import.proofs.Outcomes.{err_is, if_told, told as told_of}
+use Rattle.initsim.specs.Judging.{ending_of}
 use Rattle.initsim.proofs.Judged.{asked_alone, judged_counts, judged_script, judged_store, judged_tree}
 use Rattle.initsim.proofs.Performed.{course_is, setup_fits}
-use Rattle.rc_import.proofs.Outcomes.{err_is, if_told, told as told_of}
-use Rattle.job_reader.proofs.Says.{run_stop_trace}
 use Rattle.initsim.proofs.auditing.judge.Goals as goal
 
 pub returns-in_err-job-clause-trace : goal.returns-in_err-job-clause-trace

@@ -1,13 +1,13 @@
 use Rattle.std.proofs.Common.{Ok, ap}
 use Rattle.init_driver.specs.Keeper.{seen_by}
+use Rattle.init_words.specs.declared.form.Form.TheVariants.{Race}
 use Rattle.job_reader.specs.Counts.{Counts}
 use Rattle.job_reader.specs.Endings.{IsRunStatus}
-use Rattle.init_words.specs.declared.form.Form.TheVariants.{Race}
 use Rattle.job_reader.specs.Prepared.{GivesSaved, ScriptOfJob, course_of}
+use Rattle.rc_import.proofs.Outcomes.{told as told_of}
 use Rattle.initsim.proofs.Ends.{stop_ends}
 use Rattle.initsim.proofs.Performed.{counts_after, course_is, setup_fits}
 use Rattle.initsim.proofs.Raced.{raced_as_before, raced_ends, raced_status, raced_tree}
-use Rattle.rc_import.proofs.Outcomes.{told as told_of}
 use Rattle.initsim.proofs.Seated.{race_is_given, race_records}
 use Rattle.initsim.proofs.racing.race_script.Goals as goal
 

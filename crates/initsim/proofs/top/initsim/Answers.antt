@@ -5,9 +5,9 @@ use Rattle.init_words.specs.declared.form.Form.{Form}
 use Rattle.init_words.specs.declared.form.Form.TheVariants.{Run, Race, Check, Audit, Soak}
 use Rattle.init_words.specs.declared.reading.WordsRefusal.TheVariants as why
 use Rattle.job_reader.specs.Counts.{counts_of}
+use Rattle.job_reader.specs.declared.status.Status.TheVariants as status
 use Rattle.initsim.specs.Promise.{Promise, objects_of, told_by}
 use Rattle.initsim.specs.Top.{CanSoak}
-use Rattle.job_reader.specs.declared.status.Status.TheVariants as status
 use Rattle.initsim.proofs.Complete.{complete_audit, complete_check, complete_run}
 use Rattle.initsim.proofs.Ends.{check_ends}
 use Rattle.initsim.proofs.Judged.{same_as_before}

@@ -1,11 +1,11 @@
 use Rattle.std.proofs.Common.{Ok, ap}
 use Rattle.init_driver.specs.Keeper.{seen_by}
-use Rattle.job_reader.specs.Counts.{Counts}
 use Rattle.init_words.specs.declared.form.Form.TheVariants.{Run}
+use Rattle.job_reader.specs.Counts.{Counts}
 use Rattle.job_reader.specs.Prepared.{GivesSaved, ScriptOfJob, course_of}
+use Rattle.rc_import.proofs.Outcomes.{told as told_of}
 use Rattle.initsim.proofs.Ends.{performed_ends, stop_ends}
 use Rattle.initsim.proofs.Performed.{counts_after, course_is, performed_as_before, performed_status, performed_tree}
-use Rattle.rc_import.proofs.Outcomes.{told as told_of}
 use Rattle.initsim.proofs.Seated.{run_given, run_records}
 use Rattle.initsim.proofs.top.run_script.Goals as goal
 

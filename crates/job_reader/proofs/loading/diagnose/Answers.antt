@@ -1,10 +1,10 @@
 use Rattle.std.proofs.Common.{refl, ◌∙◌, rules}
 use Rattle.init_base.specs.Faults.{Counted}
+use Rattle.rc_import.proofs.BuildFiles.{world_viewed}
+use Rattle.rc_import.proofs.Outcomes.{err_is, told}
 use Rattle.job_reader.specs.Stops.{GivesDiagnostics, has_read_fault}
 use Rattle.job_reader.specs.declared.stop.Stop.TheVariants.{NoMemory}
-use Rattle.rc_import.proofs.BuildFiles.{world_viewed}
 use Rattle.job_reader.proofs.RcFiles.{told_alone, untold}
-use Rattle.rc_import.proofs.Outcomes.{err_is, told}
 use Rattle.job_reader.proofs.loading.diagnose.Goals as goal
 
 pub returns-in_err-found-clause-diagnostics : goal.returns-in_err-found-clause-diagnostics

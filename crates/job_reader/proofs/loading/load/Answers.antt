@@ -1,10 +1,10 @@
 use Rattle.std.proofs.Common.{◌∙◌}
 use Rattle.init_base.specs.Faults.{Counted}
+use Rattle.rc_import.proofs.BuildFiles.{world_viewed}
+use Rattle.rc_import.proofs.Outcomes.{err_is, told}
 use Rattle.job_reader.specs.Stops.{GivesLoad, has_read_fault}
 use Rattle.job_reader.specs.declared.stop.Stop.TheVariants.{NoMemory}
-use Rattle.rc_import.proofs.BuildFiles.{world_viewed}
 use Rattle.job_reader.proofs.RcFiles.{load_read, load_refused}
-use Rattle.rc_import.proofs.Outcomes.{err_is, told}
 use Rattle.job_reader.proofs.loading.load.Goals as goal
 
 pub returns-in_err-loaded-clause-load : goal.returns-in_err-loaded-clause-load

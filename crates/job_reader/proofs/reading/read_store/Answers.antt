@@ -1,7 +1,7 @@
-use Rattle.persist_file.proofs.Printed.{stored_are_saved}
 use Rattle.std.specs.Prelude.{IfSome}
-use Rattle.job_reader.specs.Stops.{GivesStore}
+use Rattle.persist_file.proofs.Printed.{stored_are_saved}
 use Rattle.rc_import.proofs.Outcomes.{err_is}
+use Rattle.job_reader.specs.Stops.{GivesStore}
 use Rattle.job_reader.proofs.Stores.{read_refused}
 use Rattle.job_reader.proofs.reading.read_store.Goals as goal
 

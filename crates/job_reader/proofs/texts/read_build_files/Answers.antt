@@ -1,6 +1,6 @@
 use Rattle.std.proofs.Common.{◌∙◌}
-use Rattle.job_reader.specs.Stops.{GivesBuildFiles}
 use Rattle.rc_import.proofs.Outcomes.{err_is, if_told, told}
+use Rattle.job_reader.specs.Stops.{GivesBuildFiles}
 use Rattle.job_reader.proofs.TreeTexts.{build_files_read, unread_vendor}
 use Rattle.job_reader.proofs.texts.read_build_files.Goals as goal
 

@@ -1,6 +1,6 @@
 use Rattle.std.proofs.Common.{◌∙◌}
-use Rattle.job_reader.specs.Stops.{GivesPolicy}
 use Rattle.rc_import.proofs.Outcomes.{err_is, told}
+use Rattle.job_reader.specs.Stops.{GivesPolicy}
 use Rattle.job_reader.proofs.TreeTexts.{policy_read, policy_refused, read_as, unread_allow, unread_contexts}
 use Rattle.job_reader.proofs.texts.read_policy.Goals as goal
 

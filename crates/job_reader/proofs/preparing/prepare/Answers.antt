@@ -1,15 +1,15 @@
 use Rattle.std.specs.Prelude.{IfErr}
 use Rattle.init_driver.specs.Keeper.{seen_by}
+use Rattle.rc_import.proofs.Outcomes.{err_is, if_told, told}
 use Rattle.job_reader.specs.Counts.{counts_of}
 use Rattle.job_reader.specs.Endings.{IsRunStatus}
 use Rattle.job_reader.specs.Stops.{status_of}
 use Rattle.job_reader.specs.Prepared.{ArePrepared, GivesSaved, GivesSetup, IsAsked, ScriptOfJob}
+use Rattle.job_reader.specs.Tree.Purpose.{ToRun}
 use Rattle.job_reader.proofs.Prepared.{setup_of_job, store_stop_counts, tree_fits}
-use Rattle.rc_import.proofs.Outcomes.{err_is, if_told, told}
 use Rattle.job_reader.proofs.Says.{script_stop_of_run, store_stop_of_run, store_stop_script, store_stop_tree, tree_stop_of_run}
 use Rattle.job_reader.proofs.WellFormed.{job_is_fit}
-use Rattle.job_reader.proofs.prepare.prepare.Goals as goal
-use Rattle.job_reader.specs.Tree.Purpose.{ToRun}
+use Rattle.job_reader.proofs.preparing.prepare.Goals as goal
 
 pub returns-in_err-saved-clause-script : goal.returns-in_err-saved-clause-script
 returns-in_err-saved-clause-script g c =

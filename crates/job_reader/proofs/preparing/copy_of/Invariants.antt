@@ -1,5 +1,5 @@
 use Rattle.std.proofs.Common.{◌≡◌, ◌++◌, drop}
-use Rattle.job_reader.proofs.prepare.copy_of.Given as goal
+use Rattle.job_reader.proofs.preparing.copy_of.Given as goal
 
 -- what is left decides
 abbrev pub invariant-loop-plan : goal.invariant-loop-plan

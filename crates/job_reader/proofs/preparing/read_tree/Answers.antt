@@ -1,15 +1,15 @@
 use Rattle.std.proofs.Common.{subst}
 use Rattle.std.specs.Prelude.{IfErr}
 use Rattle.init_base.specs.Faults.{Counted}
+use Rattle.rc_import.proofs.Outcomes.{err_is}
 use Rattle.job_reader.specs.Check.{IsCheckStatus}
 use Rattle.job_reader.specs.Stops.{IsOfTree, has_read_fault, is_read_fault, status_of}
 use Rattle.job_reader.specs.declared.stop.Stop.{Stop}
 use Rattle.job_reader.specs.declared.stop.Stop.TheVariants as stop
 use Rattle.job_reader.specs.Prepared.{GivesTree}
 use Rattle.job_reader.proofs.RcFiles.{world_later}
-use Rattle.rc_import.proofs.Outcomes.{err_is}
 use Rattle.job_reader.proofs.Says.{with_policy}
-use Rattle.job_reader.proofs.prepare.read_tree.Goals as goal
+use Rattle.job_reader.proofs.preparing.read_tree.Goals as goal
 
 -- what a check is refused by is of the tree
 of_tree : (why : Stop) → IsCheckStatus (status_of why) → IsOfTree why
