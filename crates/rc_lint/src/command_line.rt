@@ -44,38 +44,50 @@ fn word_at<R: Env>(env: &R, alloc: Global, place: usize) -> Result<Option<Vec<u8
     Err(NoMemory)
 }
 
-/// The words that the program takes.
+/// The words that the program takes. Each is made where it is added: nothing but the command is kept over an early end.
 fn command<'a>(alloc: Global) -> Result<Command<'a>, Error> {
-    let allow = Arg::new(alloc, "allow")
-        .long("allow")
-        .value_name("WORD")
-        .action(ArgAction::Append)
-        .value_parser(value_parser!(String))
-        .help("Take a vendor's command or option as one that isn't modelled");
-    let no_warn = Arg::new(alloc, "no-warn")
-        .long("no-warn")
-        .action(ArgAction::SetTrue)
-        .help("Write errors alone");
-    let root = Arg::new(alloc, "root")
-        .value_name("ROOT")
-        .required(true)
-        .action(ArgAction::Set)
-        .help("The folder in which the device's tree lies");
-    let command = Command::new(alloc, "rc-lint")
+    let most = Command::new(alloc, "rc-lint")
         .version("0.1.0")
         .about("Checks the rc files and build files of a device's tree")
         .after_help(
             "The status is 0 without errors, 1 with errors, and 2 where the words are wrong or a file can't be read or written.",
         )
-        .arg(allow)?
-        .arg(no_warn)?
+        .arg(allow(alloc))?
+        .arg(no_warn(alloc))?
         .arg(werror(alloc))?
         .arg(absolute(alloc))?
         .arg(format(alloc))?
-        .arg(baseline(alloc))?
-        .arg(write_baseline(alloc)?)?
-        .arg(root)?;
-    Ok(command)
+        .arg(baseline(alloc))?;
+    Ok(with_arg(most, write_baseline(alloc))?.arg(root(alloc))?)
+}
+
+/// Adds an argument, where there was memory for it.
+fn with_arg<'a>(command: Command<'a>, arg: Result<Arg<'a>, Error>) -> Result<Command<'a>, Error> {
+    Ok(command.arg(arg?)?)
+}
+
+fn allow<'a>(alloc: Global) -> Arg<'a> {
+    Arg::new(alloc, "allow")
+        .long("allow")
+        .value_name("WORD")
+        .action(ArgAction::Append)
+        .value_parser(value_parser!(String))
+        .help("Take a vendor's command or option as one that isn't modelled")
+}
+
+fn no_warn<'a>(alloc: Global) -> Arg<'a> {
+    Arg::new(alloc, "no-warn")
+        .long("no-warn")
+        .action(ArgAction::SetTrue)
+        .help("Write errors alone")
+}
+
+fn root<'a>(alloc: Global) -> Arg<'a> {
+    Arg::new(alloc, "root")
+        .value_name("ROOT")
+        .required(true)
+        .action(ArgAction::Set)
+        .help("The folder in which the device's tree lies")
 }
 
 fn werror<'a>(alloc: Global) -> Arg<'a> {
@@ -167,13 +179,18 @@ pub struct Asked {
 /// What is asked for, by the words of the command line.
 pub fn asked_by(alloc: Global, words: &[String]) -> Result<Asked, WordsRefusal> {
     let matches = command(alloc)?.try_get_matches_from(words)?;
+    asked_of(alloc, &matches)
+}
+
+/// What is asked for, by the words as they were matched.
+fn asked_of(alloc: Global, matches: &ArgMatches<'_>) -> Result<Asked, WordsRefusal> {
     let root = matches.get_str("root").unwrap_or("").as_bytes();
     if root.is_empty() {
         return Err(WordsRefusal::EmptyRoot);
     }
     let request = Request {
-        style: style(alloc, &matches, root)?,
-        allowed: allowed(alloc, &matches)?,
+        style: style(alloc, matches, root)?,
+        allowed: allowed(alloc, matches)?,
         warns: !matches.get_flag("no-warn"),
         baseline: Baseline {
             rows: List::new(alloc),

@@ -82,12 +82,28 @@ fn write_known(
         return Ok(REFUSED);
     }
     let alloc = rt.alloc();
-    let mut files = Watched::new(alloc, StdFiles::at(rt, alloc, root)?, request.warns);
-    let mut keeper = StdKeeper::at(rt, alloc, path)?;
-    let status = keep_known(alloc, request, &mut files, &mut keeper);
+    match (
+        StdFiles::at(rt, alloc, root),
+        StdKeeper::at(rt, alloc, path),
+    ) {
+        (Ok(files), Ok(mut keeper)) => {
+            let mut files = Watched::new(alloc, files, request.warns);
+            Ok(put_known(rt, request, &mut files, &mut keeper))
+        }
+        _ => Err(NoMemory),
+    }
+}
+
+fn put_known(
+    rt: &HostRuntime,
+    request: &Request,
+    files: &mut Watched<StdFiles<'_, HostRuntime>>,
+    keeper: &mut StdKeeper<'_, HostRuntime>,
+) -> u8 {
+    let status = keep_known(rt.alloc(), request, files, keeper);
     let fault = fault_behind(&status, &files.files, keeper.last_fault());
     let _ = tell(rt, &status, fault);
-    Ok(status.code())
+    status.code()
 }
 
 /// The findings that a file knows, where it is one. Else it is said why not.
@@ -105,7 +121,7 @@ fn known_by(rt: &HostRuntime, path: &Text) -> Result<Option<Baseline>, NoMemory>
 }
 
 /// Does what is asked for.
-fn answer_asked(rt: &HostRuntime, mut asked: Asked) -> Result<u8, NoMemory> {
+fn answer_asked(rt: &HostRuntime, asked: &mut Asked) -> Result<u8, NoMemory> {
     if let Some(path) = &asked.known {
         match known_by(rt, path)? {
             Some(baseline) => asked.request.baseline = baseline,
@@ -156,7 +172,7 @@ fn run(rt: &HostRuntime) -> Result<u8, NoMemory> {
         return Ok(REFUSED);
     };
     match asked_by(alloc, words.as_slice()) {
-        Ok(asked) => answer_asked(rt, asked),
+        Ok(mut asked) => answer_asked(rt, &mut asked),
         Err(refusal) => answer(rt, refusal),
     }
 }
