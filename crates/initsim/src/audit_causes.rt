@@ -107,12 +107,12 @@ fn job_of(rt: &HostRuntime, words: &List<Text>) -> Option<Job>
     let script = StdSource::at(rt, rt.alloc(), path);
     let keeper = store_below(rt, root);
     match (files, script, keeper) {
-        (Ok(mut files), Ok(mut script), Ok(mut keeper)) => prepare(
-            rt.alloc(),
-            &mut files,
-            &mut script,
-            &mut keeper,
-        ).ok(),
+        (Ok(mut files), Ok(mut script), Ok(mut keeper)) => {
+            match prepare(rt.alloc(), &mut files, &mut script, &mut keeper) {
+                Ok(job) => Some(job),
+                Err(_) => None,
+            }
+        }
         _ => None,
     }
 }

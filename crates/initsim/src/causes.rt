@@ -126,7 +126,9 @@ fn bad_store(rt: &HostRuntime, root: &Text, line: u32) -> Option<String> {
 }
 
 /// The text that the store holds, and the path below the root at which it was read.
-fn stored(rt: &HostRuntime, root: &Text) -> Option<(Text, &'static [u8])> {
+fn stored(rt: &HostRuntime, root: &Text) -> Option<(Text, &'static [u8])>
+    ensures { IfSome result (λ found. length found.0 ≤ 33554432) }
+{
     let mut store = store_below(rt, root).ok()?;
     match store.load(rt.alloc(), MOST_STORE_BYTES) {
         Ok(text) if store.store().is_open() => Some((text, IMAGE)),
@@ -135,7 +137,9 @@ fn stored(rt: &HostRuntime, root: &Text) -> Option<(Text, &'static [u8])> {
     }
 }
 
-fn store_line(rt: &HostRuntime, path: &Text, bytes: &[u8], line: u32) -> Option<String> {
+fn store_line(rt: &HostRuntime, path: &Text, bytes: &[u8], line: u32) -> Option<String>
+    requires { length bytes.now ≤ 33554432 }
+{
     let cause = store_cause(rt.alloc(), bytes, line).ok()??;
     said(rt, path, line, &cause)
 }
