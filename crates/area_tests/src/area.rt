@@ -216,6 +216,11 @@ fn fill_the_rest(rt: &impl Abort, alloc: Global, writer: &mut AreaWriter<'_>) ->
     Ok(())
 }
 
+fn fill_whole(rt: &impl Abort, alloc: Global, writer: &mut AreaWriter<'_>) -> Result<(), Fail> {
+    fill_to_the_end(rt, alloc, writer)?;
+    fill_the_rest(rt, alloc, writer)
+}
+
 /// The area is filled by long values to its last word. A node of `ro` takes 6 words, and one of `kNN` 6. With 8,191 bytes a cell takes
 /// 2 + 1,024 = 1,026 words, so each such name takes 1,032: 63 of them and the node take 65,022 of the 65,520 words behind the
 /// head. What is left, 498, is a node and a cell of 492 words, which has 490 words of value: 3,920 bytes. Then `ro.z` with 92
@@ -224,9 +229,7 @@ fn fill_the_rest(rt: &impl Abort, alloc: Global, writer: &mut AreaWriter<'_>) ->
 fn long_values_to_the_last_word(rt: HostRuntime) -> Result<(), Fail> {
     let (area, seat) = Area::new(rt.alloc(), 65_536).ok().ok_or("no area")?;
     let mut writer = AreaWriter::new(&area, seat);
-    let filled = fill_to_the_end(&rt, rt.alloc(), &mut writer);
-    assert!(rt; filled.is_ok());
-    fill_the_rest(&rt, rt.alloc(), &mut writer)
+    fill_whole(&rt, rt.alloc(), &mut writer)
 }
 
 fn read_and_catch_up(
