@@ -3,6 +3,7 @@
 
 ghost use Rattle.std.specs.Prelude.{◌≡◌, IsTrue};
 ghost use Rattle.init_machine.specs.Props.{MayBeSet};
+ghost use Rattle.property_area.specs.Area.{begins};
 ghost use Rattle.property_area.specs.Seats.{store_of};
 
 use init_base::{ClientId, PropName, PropValue};
@@ -152,7 +153,7 @@ fn read_long(
     area: &Area,
     writer: &mut AreaWriter<'_>,
 ) -> Result<(), Fail>
-    requires { writer.old.table ≡ area.now }
+    requires { (writer.old.table ≡ area.now) × (writer.old.view ≡ begins 64) }
 {
     let mut reader = writer.hand_out(ClientId(1)).ok().ok_or("no memory")?;
     let value = [b'x'; 92];
@@ -238,7 +239,7 @@ fn read_and_catch_up(
     area: &Area,
     writer: &mut AreaWriter<'_>,
 ) -> Result<(), Fail>
-    requires { writer.old.table ≡ area.now }
+    requires { (writer.old.table ≡ area.now) × (writer.old.view ≡ begins 64) }
 {
     let name = PropName::of(b"a").ok_or("no name")?;
     let mut reader = writer.hand_out(ClientId(1)).ok().ok_or("no memory")?;
