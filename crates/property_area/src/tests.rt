@@ -1,4 +1,5 @@
-//! The words of an area, which no public call shows.
+//! The words of an area, which no public call shows. A test makes the area, and what is asked of it stands in a function that borrows
+//! it: so only one end lets an area go, which is dear to prove.
 
 ghost use Rattle.std.specs.Prelude.{◌≡◌, ◌<◌, IsTrue};
 ghost use Rattle.init_machine.specs.Props.{MayBeSet};
@@ -74,35 +75,44 @@ fn has_words(rt: &impl Abort, area: &Area, words: &[(usize, u64)]) {
     }
 }
 
-#[test]
-fn area_words(rt: HostRuntime) -> Result<(), Fail> {
-    let alloc = rt.alloc();
-    let (area, seat) = Area::new(alloc, 64).ok().ok_or("no area")?;
-    let mut writer = AreaWriter::new(&area, seat);
+fn fill_short_cells(
+    rt: &impl Abort,
+    alloc: Global,
+    area: &Area,
+    writer: &mut AreaWriter<'_>,
+) -> Result<(), Fail> {
     assert_eq!(rt; writer.used(), 16);
-    assert_eq!(rt; set(&mut writer, alloc, "a", b"1")?, 1);
+    assert_eq!(rt; set(writer, alloc, "a", b"1")?, 1);
     let node = [(16, 1), (17, 0), (18, 0), (19, 0), (20, 22), (21, 0x61)];
-    has_words(&rt, &area, &node);
+    has_words(rt, area, &node);
     let cell = [(0, 1), (1, 16), (22, 0x0100_0000_0000_0002), (23, 0x31)];
-    has_words(&rt, &area, &cell);
+    has_words(rt, area, &cell);
     assert_eq!(rt; writer.used(), 35);
-    assert_eq!(rt; set(&mut writer, alloc, "b", b"2")?, 2);
+    assert_eq!(rt; set(writer, alloc, "b", b"2")?, 2);
     let second = [(0, 2), (18, 35), (41, 0x0100_0000_0000_0004)];
-    has_words(&rt, &area, &second);
+    has_words(rt, area, &second);
     assert_eq!(rt; writer.used(), 54);
     let full = Full::Words { used: 54, need: 19 };
-    assert_eq!(rt; room(&mut writer, "aa", 1)?, Err(full));
-    assert_eq!(rt; room(&mut writer, "a", 91)?, Ok(()));
+    assert_eq!(rt; room(writer, "aa", 1)?, Err(full));
+    assert_eq!(rt; room(writer, "a", 91)?, Ok(()));
     Ok(())
 }
 
-/// A value of 92 bytes `x` has a long cell of 14 words: its serial, 92, and twelve words, the last of which has four bytes.
 #[test]
-fn words_of_a_long_cell(rt: HostRuntime) -> Result<(), Fail> {
-    let alloc = rt.alloc();
-    let (area, seat) = Area::new(alloc, 64).ok().ok_or("no area")?;
+fn area_words(rt: HostRuntime) -> Result<(), Fail> {
+    let (area, seat) = Area::new(rt.alloc(), 64).ok().ok_or("no area")?;
     let mut writer = AreaWriter::new(&area, seat);
-    assert_eq!(rt; set(&mut writer, alloc, "ro.a", &[b'x'; 92])?, 1);
+    fill_short_cells(&rt, rt.alloc(), &area, &mut writer)
+}
+
+/// Of a value of 92 bytes `x`: it has a long cell of 14 words, its serial, 92, and twelve words, the last of which has four bytes.
+fn fill_long_cell(
+    rt: &impl Abort,
+    alloc: Global,
+    area: &Area,
+    writer: &mut AreaWriter<'_>,
+) -> Result<(), Fail> {
+    assert_eq!(rt; set(writer, alloc, "ro.a", &[b'x'; 92])?, 1);
     let nodes = [
         (1, 16),
         (16, 2),
@@ -113,23 +123,30 @@ fn words_of_a_long_cell(rt: HostRuntime) -> Result<(), Fail> {
         (26, 28),
         (27, 0x61),
     ];
-    has_words(&rt, &area, &nodes);
+    has_words(rt, area, &nodes);
     let cell = [
         (28, 0xff00_0000_0000_0002),
         (29, 92),
         (30, 0x7878_7878_7878_7878),
     ];
-    has_words(&rt, &area, &cell);
+    has_words(rt, area, &cell);
     has_words(
-        &rt,
-        &area,
+        rt,
+        area,
         &[(40, 0x7878_7878_7878_7878), (41, 0x7878_7878), (42, 0)],
     );
     assert_eq!(rt; writer.used(), 42);
-    assert_eq!(rt; set(&mut writer, alloc, "b", b"1")?, 2);
+    assert_eq!(rt; set(writer, alloc, "b", b"1")?, 2);
     assert_eq!(rt; writer.used(), 61);
     let full = Full::Words { used: 61, need: 19 };
-    assert_eq!(rt; room(&mut writer, "c", 1)?, Err(full));
-    assert_eq!(rt; room(&mut writer, "ro.a", 92)?, Ok(()));
+    assert_eq!(rt; room(writer, "c", 1)?, Err(full));
+    assert_eq!(rt; room(writer, "ro.a", 92)?, Ok(()));
     Ok(())
+}
+
+#[test]
+fn words_of_a_long_cell(rt: HostRuntime) -> Result<(), Fail> {
+    let (area, seat) = Area::new(rt.alloc(), 64).ok().ok_or("no area")?;
+    let mut writer = AreaWriter::new(&area, seat);
+    fill_long_cell(&rt, rt.alloc(), &area, &mut writer)
 }
