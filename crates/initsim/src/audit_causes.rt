@@ -8,10 +8,10 @@ ghost use Rattle.job_reader.specs.Prepared.{IsFit};
 
 use crate::causes::text_at;
 use crate::store::store_below;
-use init_base::{List, MemSink, StdFiles, StdSource, Text};
+use init_base::{IoRefusal, List, MemSink, StdFiles, StdSource, Text};
 use init_core::Core;
 use init_driver::Setup;
-use init_machine::{ClientPart, Diagnostic, Entry, Input, ListStore, Report};
+use init_machine::{ClientPart, Diagnostic, Entry, Input, ListStore, Output, Report};
 use init_trace::{Printer, print, print_diagnostics};
 use job_reader::{Job, prepare};
 use refusal_causes::ShownPath;
@@ -194,12 +194,13 @@ fn machine_of(alloc: Global, job: Job) -> Option<(Core<ListStore>, usize)>
     requires { IsFit job }
     ensures { IfSome result (λ machine. length machine.0.config.domains ≡ machine.1) }
 {
-    let Job { setup, script } = job;
-    let Setup { config, policy, .. } = setup;
+    let store = ListStore::new(alloc, job.script.words).ok()?;
+    let Setup { config, policy, .. } = job.setup;
     let clients = config.domains.len();
-    let store = ListStore::new(alloc, script.words).ok()?;
-    let core = Core::new(alloc, config, policy, store).ok()?;
-    Some((core, clients))
+    match Core::new(alloc, config, policy, store) {
+        Ok(core) => Some((core, clients)),
+        Err(_) => None,
+    }
 }
 
 /// Whether an input is one of a machine of so many clients.
@@ -248,13 +249,27 @@ fn entry_page(
         take_next(alloc, core, clients, &mut pieces)?;
     }
     let entry = take_next(alloc, core, clients, &mut pieces)?;
+    page_of(alloc, &entry.input, core.outputs())
+}
+
+/// The text of an entry.
+fn page_of(alloc: Global, input: &Input, outputs: &List<Output>) -> Option<MemSink> {
     let mut page = MemSink::new(alloc, List::new(alloc));
+    match print_entry(alloc, input, outputs, &mut page) {
+        Ok(()) => Some(page),
+        Err(_) => None,
+    }
+}
+
+fn print_entry(
+    alloc: Global,
+    input: &Input,
+    outputs: &List<Output>,
+    page: &mut MemSink,
+) -> Result<(), IoRefusal> {
     let mut printer = Printer::new(alloc);
-    printer
-        .print_entry(&entry.input, core.outputs(), &mut page)
-        .ok()?;
-    printer.flush(&mut page).ok()?;
-    Some(page)
+    printer.print_entry(input, outputs, page)?;
+    printer.flush(page)
 }
 
 /// The line of the machine that should stand in an entry.

@@ -6,7 +6,7 @@ ghost use Rattle.std.specs.Prelude.{◌≤◌, IfSome, length};
 use crate::audit_causes::{bad_trace, bad_verdict};
 use crate::store::{IMAGE, TEXT, store_below};
 use init_base::{Files, Keeper, List, NoMemory, ReadRefusal, StdFiles, StdSource, Text, read_all};
-use init_machine::Limit;
+use init_machine::{Limit, ListStore};
 use job_reader::{Status, read_build_files};
 use persist_disk::OpenRefusal;
 use prop_rules::boot_view;
@@ -250,7 +250,16 @@ fn unloaded(rt: &HostRuntime, root: &Text, limit: Limit, told: u64) -> Option<St
 
 fn refusal_of(rt: &HostRuntime, root: &Text) -> Option<LoadRefusal> {
     let mut files = StdFiles::at(rt, rt.alloc(), root).ok()?;
-    let props = read_build_files(rt.alloc(), &mut files).ok()?;
-    let mut view = boot_view(rt.alloc(), &props.pairs).ok()?;
-    rc_import::load(rt.alloc(), &mut files, &mut view).err()
+    refusal_in(rt, &mut files)
+}
+
+fn refusal_in<F: Files>(rt: &HostRuntime, files: &mut F) -> Option<LoadRefusal> {
+    let mut view = boot_props(rt, files)?;
+    rc_import::load(rt.alloc(), files, &mut view).err()
+}
+
+/// The properties that the build files set, by which imports are expanded.
+fn boot_props<F: Files>(rt: &HostRuntime, files: &mut F) -> Option<ListStore> {
+    let props = read_build_files(rt.alloc(), files).ok()?;
+    boot_view(rt.alloc(), &props.pairs).ok()
 }

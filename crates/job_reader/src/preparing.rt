@@ -74,23 +74,30 @@ fn job_of(
 ) -> Result<Job, NoMemory>
     ensures { IfOk result (IsJobFor script parts saved) }
 {
-    let plans = copy_of(alloc, script.plans.items())?;
-    let domains = domains_of(alloc, script.clients.items())?;
-    let Loaded {
-        config,
-        diagnostics,
-    } = parts.loaded;
-    let setup = Setup {
-        config: Config {
-            plans,
-            saved,
-            domains,
-            ..config
-        },
-        policy: parts.policy,
-        diagnostics,
-    };
-    Ok(Job { setup, script })
+    let plans = copy_of(alloc, script.plans.items());
+    let domains = domains_of(alloc, script.clients.items());
+    match (plans, domains) {
+        (Ok(plans), Ok(domains)) => {
+            let Loaded {
+                config,
+                diagnostics,
+            } = parts.loaded;
+            let config = Config {
+                plans,
+                saved,
+                domains,
+                ..config
+            };
+            let policy = parts.policy;
+            let setup = Setup {
+                config,
+                policy,
+                diagnostics,
+            };
+            Ok(Job { setup, script })
+        }
+        _ => Err(NoMemory),
+    }
 }
 
 /// Reads the script, the tree and the store.

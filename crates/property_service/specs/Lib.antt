@@ -3,3 +3,4 @@ pub mod Service
 pub mod Desk
 pub mod Back
 pub mod Ending
+pub mod Settings

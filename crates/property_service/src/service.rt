@@ -6,19 +6,18 @@ ghost use Rattle.init_core.specs.Core.{opening_of};
 ghost use Rattle.init_core.specs.declared.machine.CoreStop.TheVariants as stop;
 ghost use Rattle.init_machine.specs.History.{Legal, sets_of};
 ghost use Rattle.init_machine.specs.Orderly.{ListStands};
-ghost use Rattle.init_machine.specs.Setting.{is_control};
-ghost use Rattle.init_machine.specs.Step.{answer_line};
 ghost use Rattle.init_machine.specs.WellFormed.{IsWellFormed};
 ghost use Rattle.init_machine.specs.declared.client.ClientItem.TheVariants.{Told};
 ghost use Rattle.init_machine.specs.declared.output.SetRefusal.TheVariants as refusal;
 ghost use Rattle.init_machine.specs.declared.report.Reading.TheVariants.{Synced};
 ghost use Rattle.property_area.specs.Area.{list_in};
-ghost use Rattle.property_area.specs.Readers.{asker_of, handed, last_of, IsAnswer};
+ghost use Rattle.property_area.specs.Readers.{asker_of, handed};
 ghost use Rattle.property_area.specs.Seats.{sets_in};
-ghost use Rattle.property_service.specs.Back.{ComesBack, ComesBackFrom, has_entry, line_of};
+ghost use Rattle.property_service.specs.Back.{ComesBack, ComesBackFrom, has_entry};
 ghost use Rattle.property_service.specs.Record.{recorded};
 ghost use Rattle.property_service.specs.Service.{Agrees, DeclaredIn, IsNoSet, MayAsk, has_seat};
-ghost use Rattle.property_service.specs.Service.{last_outputs, next_entry, refusal_now, set_by, state_after};
+ghost use Rattle.property_service.specs.Service.{last_outputs, next_entry, state_after};
+ghost use Rattle.property_service.specs.Settings.{HasSet};
 
 use crate::answer::{Accepted, last_answer};
 use crate::area_name::AreaName;
@@ -167,19 +166,7 @@ impl<'a, N: AreaName> Service<'a, N> {
     ) -> (Option<Reader>, Result<Accepted, SetRefusal>)
         requires area { reader.table ≡ N.area }
         requires client { DeclaredIn reader.view.opening reader.view.who }
-        ensures history { has_entry result.1 ≡ true
-            → self.new.history ≡ self.old.history ++ next_entry self.old (set_by reader.view.who name.now value.now) ∷ [] }
-        ensures opening { has_entry result.1 ≡ true → self.new.opening ≡ self.old.opening }
-        ensures answer { has_entry result.1 ≡ true
-            → last_of (next_entry self.old (set_by reader.view.who name.now value.now)).outputs ≡ Some (line_of result.1) }
-        ensures judged { has_entry result.1 ≡ true → line_of result.1
-            ≡ answer_line (refusal_now self.old reader.view.who name.now value.now) (is_control name.now)
-            (length (sets_of self.new.history)) }
-        ensures reader { has_entry result.1 ≡ true
-            → IsSomeAnd result.0 (λ back. ComesBackFrom self.old.history
-            (next_entry self.old (set_by reader.view.who name.now value.now)) reader back) }
-        ensures seats { has_entry result.1 ≡ true → (who : ℕ) → has_seat self.new.seat who ≡ has_seat self.old.seat who }
-        ensures ready { has_entry result.1 ≡ true → self.new.spent ≡ false }
+        ensures set { has_entry result.1 ≡ true → HasSet self.old self.new reader result.0 name.now value.now result.1 }
         ensures spent { (result.1 ≡ Err refusal.Spent) ↔ (self.old.spent ≡ true) }
         ensures unchanged { result.1 ≡ Err refusal.Spent → (self.new ≡ self.old) × (result.0 ≡ Some reader) }
         ensures no_memory { result.1 ≡ Err refusal.NoMemory → self.new.spent ≡ true }
@@ -198,19 +185,7 @@ impl<'a, N: AreaName> Service<'a, N> {
     ) -> (Option<Reader>, Result<Accepted, SetRefusal>)
         requires area { reader.table ≡ N.area }
         requires client { DeclaredIn reader.view.opening reader.view.who }
-        ensures history { has_entry result.1 ≡ true
-            → self.new.history ≡ self.old.history ++ next_entry self.old (set_by reader.view.who pair.name pair.value) ∷ [] }
-        ensures opening { has_entry result.1 ≡ true → self.new.opening ≡ self.old.opening }
-        ensures answer { has_entry result.1 ≡ true
-            → last_of (next_entry self.old (set_by reader.view.who pair.name pair.value)).outputs ≡ Some (line_of result.1) }
-        ensures judged { has_entry result.1 ≡ true → line_of result.1
-            ≡ answer_line (refusal_now self.old reader.view.who pair.name pair.value) (is_control pair.name)
-            (length (sets_of self.new.history)) }
-        ensures reader { has_entry result.1 ≡ true
-            → IsSomeAnd result.0 (λ back. ComesBackFrom self.old.history
-            (next_entry self.old (set_by reader.view.who pair.name pair.value)) reader back) }
-        ensures seats { has_entry result.1 ≡ true → (who : ℕ) → has_seat self.new.seat who ≡ has_seat self.old.seat who }
-        ensures ready { has_entry result.1 ≡ true → self.new.spent ≡ false }
+        ensures set { has_entry result.1 ≡ true → HasSet self.old self.new reader result.0 pair.name pair.value result.1 }
         ensures spent { (result.1 ≡ Err refusal.Spent) ↔ (self.old.spent ≡ true) }
         ensures unchanged { result.1 ≡ Err refusal.Spent → (self.new ≡ self.old) × (result.0 ≡ Some reader) }
         ensures no_memory { result.1 ≡ Err refusal.NoMemory → self.new.spent ≡ true }
