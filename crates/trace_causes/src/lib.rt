@@ -3,9 +3,10 @@
 //!
 //! `fault_in` finds the first line of a text that no report has there, by the reader that judged the text. The others find
 //! the lines of a trace that was read: where an entry begins, or a client's part, and where the lines of an entry part from
-//! those that the machine writes.
+//! those that the machine writes. What each of them answers is in `specs/`.
 #![tactic(auto)]
 
+mod bad_line;
 mod fault;
 mod lines;
 mod place;
