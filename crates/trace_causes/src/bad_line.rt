@@ -1,9 +1,9 @@
 //! The first line of a trace that can't stand behind those before it.
 
-ghost use Rattle.std.specs.Prelude.{◌≡◌, ◌≤◌, ◌<◌, ◌+◌, IfOk, MatchOption, codes, length, slice_get};
+ghost use Rattle.std.specs.Prelude.{◌≡◌, ◌<◌, ◌+◌, IfOk, MatchOption, true};
 ghost use Rattle.init_base.specs.Lines.{lines_of};
 ghost use Rattle.trace_causes.specs.Faults as spec;
-ghost use Rattle.trace_causes.specs.Faults.{IsBadUpTo, IsNoReports, IsReports};
+ghost use Rattle.trace_causes.specs.Faults.{IsFirstBad, IsNoReports, IsReports, has_title};
 
 use crate::lines::number_at;
 use init_base::{NoMemory, first_line};
@@ -64,14 +64,12 @@ fn stop_line(alloc: Global, text: &[u8], count: u64) -> Result<Option<u64>, NoMe
     }
 }
 
-/// The first line among the first lines of a text, so many, that can't stand behind those before it. None exactly where they begin
-/// a trace.
+/// The first line among the first ones, so many, with which no trace goes on. None exactly where a trace may begin with them.
 pub fn bad_line(alloc: Global, text: &[u8], count: u64) -> Result<Option<u64>, NoMemory>
-    requires title { slice_get (lines_of text.now) 0 ≡ Some (codes "initsim 1") }
+    requires title { has_title (lines_of text.now) ≡ true }
     requires some { 0 < count }
-    requires there { count ≤ length (lines_of text.now) }
     ensures { IfOk result (λ line. MatchOption line (IsReports (spec.ended_front (lines_of text.now) count))
-        (IsBadUpTo (lines_of text.now) count)) }
+        (IsFirstBad (lines_of text.now) count)) }
 {
     match stop_line(alloc, text, count)? {
         None => Ok(None),
@@ -79,14 +77,13 @@ pub fn bad_line(alloc: Global, text: &[u8], count: u64) -> Result<Option<u64>, N
     }
 }
 
-/// The first bad line of a text, the first line of which is good, and so many of which aren't. The line at which the reader
-/// stopped is tried first.
+/// The first bad line among the first ones, so many, where they aren't all good. The line at which the reader stopped is tried
+/// first, so that two more readings are enough.
 fn bad_up_to(alloc: Global, text: &[u8], count: u64, near: u64) -> Result<u64, NoMemory>
-    requires good { IsReports (spec.ended_front (lines_of text.now) 1) }
+    requires title { has_title (lines_of text.now) ≡ true }
     requires bad { IsNoReports (spec.ended_front (lines_of text.now) count) }
     requires more { 1 < count }
-    requires there { count ≤ length (lines_of text.now) }
-    ensures { IfOk result (IsBadUpTo (lines_of text.now) count) }
+    ensures { IfOk result (IsFirstBad (lines_of text.now) count) }
 {
     let mut good: u64 = 1;
     let mut bad = count;

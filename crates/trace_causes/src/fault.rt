@@ -1,8 +1,9 @@
 //! The first line of a text that no report has there. What a fault says is in `specs/Faults.antt`.
 
-ghost use Rattle.std.specs.Prelude.{◌≡◌, ◌<◌, ◌↔◌, ◌-◌, IfOk, IsTrue, MatchOption, codes, length, slice_get};
+ghost use Rattle.std.specs.Prelude.{◌≡◌, ◌≤◌, IfOk, MatchOption, length, true};
 ghost use Rattle.init_base.specs.Lines.{lines_of};
-ghost use Rattle.trace_causes.specs.Faults.{IsFirstBad, IsNoReports, IsReports, Says, Shows, ended_front};
+ghost use Rattle.trace_causes.specs.Faults as spec;
+ghost use Rattle.trace_causes.specs.Faults.{IsNoReports, IsReports, OneFault, Says, Shows, ended_front, has_title};
 
 use crate::bad_line::{bad_line, stop_in};
 use crate::lines::{count_lines, line_at};
@@ -39,6 +40,11 @@ pub fn fault_in(alloc: Global, text: &[u8]) -> Result<Option<TextFault>, NoMemor
     Ok(Some(fault_of(alloc, text)?))
 }
 
+/// No text has two faults.
+pub fn a_text_has_one_fault()
+    ensures { OneFault }
+{}
+
 /// What is wrong first with a text that is no report's.
 fn fault_of(alloc: Global, text: &[u8]) -> Result<TextFault, NoMemory>
     requires { IsNoReports text.now }
@@ -57,53 +63,50 @@ fn fault_of(alloc: Global, text: &[u8]) -> Result<TextFault, NoMemory>
 /// What is wrong first with a text that is no report's, whose first line is that of a trace.
 fn fault_behind(alloc: Global, text: &[u8]) -> Result<TextFault, NoMemory>
     requires none { IsNoReports text.now }
-    requires title { slice_get (lines_of text.now) 0 ≡ Some (codes "initsim 1") }
+    requires title { has_title (lines_of text.now) ≡ true }
     ensures { IfOk result (λ fault. Says fault.what text.now fault.line) }
+{
+    match bad_line(alloc, text, inner_count(text))? {
+        Some(bad) => Ok(TextFault {
+            line: told_number(text, bad),
+            what: LineFault::NoForm,
+        }),
+        None => Ok(end_fault(text)),
+    }
+}
+
+/// How many lines stand before a last line `end`; all where the last one is another.
+fn inner_count(text: &[u8]) -> u64
+    ensures { result ≡ spec.inner_count (lines_of text.now) }
 {
     let count = count_lines(text);
     if is_line(text, count, b"end") {
-        match bad_line(alloc, text, count - 1)? {
-            Some(line) => Ok(bad_fault(text, count, line)),
-            None => Ok(TextFault {
-                line: count,
-                what: LineFault::NoLineFeed,
-            }),
-        }
+        count - 1
     } else {
-        match bad_line(alloc, text, count)? {
-            Some(line) => Ok(bad_fault(text, count, line)),
-            None => Ok(end_fault(text, count)),
-        }
+        count
     }
 }
 
-/// The fault of the first bad line of a text with so many: where it is that of an end, nothing may stand behind it.
-fn bad_fault(text: &[u8], count: u64, line: u64) -> TextFault
-    requires all { count ≡ length (lines_of text.now) }
-    requires bad { IsFirstBad (lines_of text.now) line }
-    requires room { slice_get (lines_of text.now) (line - 1) ≡ Some (codes "end") → line < count }
-    ensures { Says result.what text.now result.line }
+/// The number that is told of a bad line.
+fn told_number(text: &[u8], bad: u64) -> u64
+    requires { bad ≤ length (lines_of text.now) }
+    ensures { result ≡ spec.told_number (lines_of text.now) bad }
 {
-    if is_line(text, line, b"end") {
-        TextFault {
-            line: line + 1,
-            what: LineFault::NoForm,
-        }
+    if is_line(text, bad, b"end") {
+        bad + 1
     } else {
-        TextFault {
-            line,
-            what: LineFault::NoForm,
-        }
+        bad
     }
 }
 
-/// What is wrong with the end of a text in whose lines, so many, nothing is wrong.
-fn end_fault(text: &[u8], count: u64) -> TextFault
-    requires title { slice_get (lines_of text.now) 0 ≡ Some (codes "initsim 1") }
-    requires all { count ≡ length (lines_of text.now) }
-    requires good { IsReports (ended_front (lines_of text.now) count) }
+/// What is wrong with the end of a text that is no report's, in whose lines nothing is wrong.
+fn end_fault(text: &[u8]) -> TextFault
+    requires none { IsNoReports text.now }
+    requires title { has_title (lines_of text.now) ≡ true }
+    requires good { IsReports (ended_front (lines_of text.now) (spec.inner_count (lines_of text.now))) }
     ensures { Says result.what text.now result.line }
 {
+    let count = count_lines(text);
     if text.ends_with(b"\n") {
         TextFault {
             line: count + 1,
@@ -119,7 +122,7 @@ fn end_fault(text: &[u8], count: u64) -> TextFault
 
 /// Whether the line with this number stands in a text, and is this one.
 fn is_line(text: &[u8], number: u64, wanted: &[u8]) -> bool
-    ensures { IsTrue result ↔ slice_get (lines_of text.now) (number - 1) ≡ Some wanted.now }
+    ensures { result ≡ spec.has_line (lines_of text.now) number wanted.now }
 {
     match line_at(text, number) {
         Some(line) => line == wanted,

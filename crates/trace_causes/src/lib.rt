@@ -12,7 +12,7 @@ mod lines;
 mod place;
 mod said;
 
-pub use fault::{LineFault, TextFault, fault_in};
+pub use fault::{LineFault, TextFault, a_text_has_one_fault, fault_in};
 pub use lines::{line_at, lines_from};
 pub use place::{Place, client_line, entry_line, first_difference};
 pub use said::Wanted;

@@ -1,9 +1,6 @@
 use Rattle.init_base.specs.Lines.{lines_of}
-use Rattle.trace_causes.proofs.Readings.{behind_first, first_good}
+use Rattle.trace_causes.proofs.Shorter.{behind_first}
 use Rattle.trace_causes.proofs.bad_line.bad_line.Goals as goal
-
-pub bad_up_to-requires-clause-good : goal.bad_up_to-requires-clause-good
-bad_up_to-requires-clause-good c = first_good (lines_of c.args.text.now) c.requires.title
 
 pub bad_up_to-requires-clause-more : goal.bad_up_to-requires-clause-more
 bad_up_to-requires-clause-more c =

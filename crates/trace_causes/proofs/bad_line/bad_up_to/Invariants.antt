@@ -6,7 +6,6 @@ use Rattle.trace_causes.proofs.bad_line.bad_up_to.Given as goal
 -- the first bad line is between
 abbrev pub invariant-loop-good : goal.invariant-loop-good
 invariant-loop-good l = record {
-  some : 0 < l.good;
   order : l.good < l.bad;
   among : l.bad ≤ l.count;
   good : IsReports (ended_front (lines_of l.text) l.good);
