@@ -72,12 +72,13 @@ pub record LacksTitle (text : List ℕ) (number : ℕ) : Type 0 where
   pub title : has_title (lines_of text) ≡ false
   pub line : number ≡ 1
 
--- a line is bad
+-- a line is bad, and the one that is told stands there
 pub record HasBad (text : List ℕ) (number : ℕ) : Type 0 where
   pub title : has_title (lines_of text) ≡ true
   pub bad : ℕ
   pub is : IsFirstBad (lines_of text) (inner_count (lines_of text)) bad
   pub line : number ≡ told_number (lines_of text) bad
+  pub there : number ≤ length (lines_of text)
 
 -- all lines are good and end with LF, and the last line of a trace should stand behind them
 pub record LacksEnd (text : List ℕ) (number : ℕ) : Type 0 where

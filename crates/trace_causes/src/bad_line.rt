@@ -35,7 +35,7 @@ pub fn stop_in(alloc: Global, text: &[u8]) -> Result<Option<usize>, NoMemory>
 fn ended_front(alloc: Global, text: &[u8], count: u64) -> Result<Vec<u8>, NoMemory>
     ensures { IfOk result (λ page. page.items ≡ spec.ended_front (lines_of text.now) count) }
 {
-    let mut page = Vec::new(alloc);
+    let mut page = Vec::with_capacity(alloc, text.len() + 1 + END.len())?;
     let mut rest = text;
     let mut left = count;
     while left > 0 && !rest.is_empty() {
