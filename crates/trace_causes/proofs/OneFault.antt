@@ -1,5 +1,5 @@
 -- A text has at most one fault.
-use Rattle.std.proofs.Common.{◌≡◌, ℕ, ◌<◌, List, ◌++◌, length, inl, inr, refl, sym, ap, subst, ◌∙◌, arith}
+use Rattle.std.proofs.Common.{◌≡◌, ℕ, ◌<◌, List, [], ◌++◌, length, inl, inr, refl, sym, ap, subst, ◌∙◌, arith}
 use Rattle.std.proofs.lemmas.Bool.{cases_lt}
 use Rattle.init_base.specs.Lines.{lines_of}
 use Rattle.trace_reader.specs.Drafts.{end_line}
@@ -13,7 +13,7 @@ use Rattle.trace_causes.proofs.Readings.{not_both}
 use Rattle.trace_causes.proofs.Shorter.{shorter}
 
 not_below : (lines : List (List ℕ)) (count a b : ℕ) → IsFirstBad lines count a → IsFirstBad lines count b → a < b → ⊥
-not_below lines count a b h k less = not_both (ended_front lines a) (k.before a h.some less) h.bad
+not_below lines count a b h k less = not_both (ended_front lines a) (k.before a h.some less) (h.bad [])
 
 one_bad : (lines : List (List ℕ)) (count a b : ℕ) → IsFirstBad lines count a → IsFirstBad lines count b → a ≡ b
 one_bad lines count a b h k = elim (cases_lt a b) [
@@ -28,13 +28,13 @@ one_bad lines count a b h k = elim (cases_lt a b) [
 good_before_end : (text : List ℕ) (number : ℕ) → LacksEnd text number → IsReports (ended_front (lines_of text) (inner_count (lines_of text)))
 good_before_end text number h =
     let lines = lines_of text in
-    shorter text (inner_count lines) (length lines) h.title (inner_some lines h.title) (inner_few lines)
+    shorter text (inner_count lines) (length lines) [] h.title (inner_some lines h.title) (inner_few lines)
     (subst IsReports (ap (λ t. t ++ end_line) (sym (whole_front text h.line_end))) h.good)
 
 not_bad : (text : List ℕ) (number : ℕ) → HasBad text number → IsReports (ended_front (lines_of text) (inner_count (lines_of text))) → ⊥
 not_bad text number h good =
     let lines = lines_of text in
-    not_both (ended_front lines h.bad) (shorter text h.bad (inner_count lines) h.title h.is.some h.is.among good) h.is.bad
+    not_both (ended_front lines h.bad) (shorter text h.bad (inner_count lines) [] h.title h.is.some h.is.among good) (h.is.bad [])
 
 not_bad_end : (text : List ℕ) (m n : ℕ) → HasBad text m → LacksEnd text n → ⊥
 not_bad_end text m n h k = not_bad text m h (good_before_end text n k)

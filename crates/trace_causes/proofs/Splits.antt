@@ -40,12 +40,15 @@ line_split (b ∷ line) rest h =
     let other : (b == 10) ≡ false = is_false (b == 10) inner in
     rw other (ap (onto_first b) (line_split line rest p.1))
 
-all_split : (lines : List (List ℕ)) → AllByRecursion IsPlain lines → slice_split is_line_feed (flat_map with_end lines) ≡ lines ++ [] ∷ []
-all_split [] h = refl
-all_split (line ∷ lines) h =
-    ap (slice_split is_line_feed) (append_assoc line (10 ∷ []) (flat_map with_end lines))
-    ∙ line_split line (flat_map with_end lines) h.0
-    ∙ ap (λ parts. line ∷ parts) (all_split lines h.1)
+all_split : (lines : List (List ℕ)) (rest : List ℕ) → AllByRecursion IsPlain lines
+    → slice_split is_line_feed (flat_map with_end lines ++ rest) ≡ lines ++ slice_split is_line_feed rest
+all_split [] rest h = refl
+all_split (line ∷ lines) rest h =
+    ap (slice_split is_line_feed)
+    (append_assoc (with_end line) (flat_map with_end lines) rest ∙ append_assoc line (10 ∷ []) (flat_map with_end lines ++ rest))
+    ∙ line_split line (flat_map with_end lines ++ rest) h.0
+    ∙ ap (λ parts. line ∷ parts) (all_split lines rest h.1)
 
-pub front_split : (lines : List (List ℕ)) (k : ℕ) → AllByRecursion IsPlain lines → slice_split is_line_feed (front lines k) ≡ take k lines ++ [] ∷ []
-front_split lines k h = all_split (take k lines) (take_plain lines k h)
+pub front_split : (lines : List (List ℕ)) (k : ℕ) (rest : List ℕ) → AllByRecursion IsPlain lines
+    → slice_split is_line_feed (front lines k ++ rest) ≡ take k lines ++ slice_split is_line_feed rest
+front_split lines k rest h = all_split (take k lines) rest (take_plain lines k h)

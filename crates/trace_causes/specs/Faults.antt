@@ -44,13 +44,17 @@ inner_count lines = if has_end lines (length lines) then length lines - 1 else l
 abbrev pub ended_front : List (List ℕ) → ℕ → List ℕ
 ended_front lines count = front lines count ++ end_line
 
--- Among the first lines, so many, this is the first one with which no trace goes on: a trace may begin with those before it, so
--- many or fewer, and none with those up to it.
+-- the first lines, so many, a text, and the last line of each trace
+abbrev pub going_on : List (List ℕ) → ℕ → List ℕ → List ℕ
+going_on lines count more = front lines count ++ (more ++ end_line)
+
+-- Among the first lines, so many, this is the first one with which no trace goes on: the lines before it, so many or fewer, are
+-- those of a trace that ends behind them, and no trace begins with those up to it and ends behind them, whatever stands between.
 pub record IsFirstBad (lines : List (List ℕ)) (count number : ℕ) : Type 0 where
   pub some : 0 < number
   pub among : number ≤ count
   pub before : (fewer : ℕ) → 0 < fewer → fewer < number → IsReports (ended_front lines fewer)
-  pub bad : IsNoReports (ended_front lines number)
+  pub bad : (more : List ℕ) → IsNoReports (going_on lines number more)
 
 -- the number that is told of a bad line: where it is `end`, a trace ends with it, so it is that of the line behind it
 abbrev pub told_number : List (List ℕ) → ℕ → ℕ
