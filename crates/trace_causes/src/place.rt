@@ -34,13 +34,13 @@ fn is_client(line: &[u8]) -> bool
     line.starts_with(b"client ")
 }
 
-pub fn is_title(line: &[u8]) -> bool
+fn is_title(line: &[u8]) -> bool
     ensures { result ≡ spec.is_title line.now }
 {
     line == b"initsim 1".as_slice()
 }
 
-pub fn is_end(line: &[u8]) -> bool
+fn is_end(line: &[u8]) -> bool
     ensures { result ≡ spec.is_end line.now }
 {
     line == b"end".as_slice()
