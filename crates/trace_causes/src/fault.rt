@@ -1,17 +1,14 @@
-//! The first line of a text that no report has there.
+//! The first line of a text that no report has there. What a fault says is in `specs/Faults.antt`.
 
-ghost use Rattle.std.specs.Prelude.{◌<◌, ◌≤◌, length};
+ghost use Rattle.std.specs.Prelude.{◌≡◌, ◌≤◌, IfOk, MatchOption, length, true};
+ghost use Rattle.init_base.specs.Lines.{lines_of};
+ghost use Rattle.trace_causes.specs.Faults as spec;
+ghost use Rattle.trace_causes.specs.Faults.{IsNoReports, IsReports, OneFault, Says, Shows, ended_front, has_title};
 
-use crate::lines::number_at;
+use crate::bad_line::{bad_line, stop_in};
+use crate::lines::{count_lines, line_at};
 use init_base::NoMemory;
 use std::alloc::Global;
-use trace_reader::{Fault, Piece, Pieces};
-
-/// The first line of each trace, with its end.
-const TITLE: &[u8] = b"initsim 1\n";
-
-/// The last line of each trace, with its end.
-const END: &[u8] = b"end\n";
 
 /// What is wrong with a line.
 #[derive(Clone, Copy, Debug, PartialEq, Eq)]
@@ -33,69 +30,102 @@ pub struct TextFault {
     pub what: LineFault,
 }
 
-/// The first line of a text that no report has there. None where the text is a report's.
-pub fn fault_in(alloc: Global, text: &[u8]) -> Result<Option<TextFault>, NoMemory> {
-    if text.ends_with(b"\n") {
-        return whole_fault(alloc, text);
+/// The first line of a text that no report has there. None exactly where the text is a report's.
+pub fn fault_in(alloc: Global, text: &[u8]) -> Result<Option<TextFault>, NoMemory>
+    ensures { IfOk result (λ fault. MatchOption fault (IsReports text.now) (Shows text.now)) }
+{
+    if stop_in(alloc, text)?.is_none() {
+        return Ok(None);
     }
-    let mut whole = Vec::from_slice(alloc, text)?;
-    whole.push(b'\n')?;
-    let last = number_at(text, text.len());
-    match whole_fault(alloc, &whole)? {
-        Some(fault) if fault.line <= last => Ok(Some(fault)),
-        _ => Ok(Some(TextFault {
-            line: last,
-            what: LineFault::NoLineFeed,
-        })),
-    }
+    Ok(Some(fault_of(alloc, text)?))
 }
 
-/// The same, of a text whose last line ends with LF.
-fn whole_fault(alloc: Global, text: &[u8]) -> Result<Option<TextFault>, NoMemory> {
-    if !text.starts_with(TITLE) {
-        return Ok(Some(TextFault {
+/// No text has two faults.
+pub fn a_text_has_one_fault()
+    ensures { OneFault }
+{}
+
+/// What is wrong first with a text that is no report's.
+fn fault_of(alloc: Global, text: &[u8]) -> Result<TextFault, NoMemory>
+    requires { IsNoReports text.now }
+    ensures { IfOk result (λ fault. Says fault.what text.now fault.line) }
+{
+    if is_line(text, 1, b"initsim 1") {
+        fault_behind(alloc, text)
+    } else {
+        Ok(TextFault {
             line: 1,
             what: LineFault::NoTitle,
-        }));
-    }
-    if text.ends_with(END) {
-        return line_fault(alloc, text);
-    }
-    let mut ended = Vec::from_slice(alloc, text)?;
-    ended.extend_from_slice(END)?;
-    match line_fault(alloc, &ended)? {
-        Some(fault) => Ok(Some(fault)),
-        None => Ok(Some(TextFault {
-            line: number_at(text, text.len()),
-            what: LineFault::NoEnd,
-        })),
+        })
     }
 }
 
-/// The first line between the first one and the last one that is in no form.
-fn line_fault(alloc: Global, text: &[u8]) -> Result<Option<TextFault>, NoMemory> {
-    let Some(mut pieces) = Pieces::of(alloc, text) else {
-        return Ok(None);
-    };
-    // No text has more entries than bytes.
-    for _ in 0..text.len() {
-        match pieces.next(alloc) {
-            Ok(Piece::Entry(_)) => {}
-            Ok(Piece::Rest(_)) => return Ok(None),
-            Err(Fault::NoMemory) => return Err(NoMemory),
-            Err(Fault::Bad) => return Ok(Some(fault_before(text, pieces.left()))),
+/// What is wrong first with a text that is no report's, whose first line is that of a trace.
+fn fault_behind(alloc: Global, text: &[u8]) -> Result<TextFault, NoMemory>
+    requires none { IsNoReports text.now }
+    requires title { has_title (lines_of text.now) ≡ true }
+    ensures { IfOk result (λ fault. Says fault.what text.now fault.line) }
+{
+    match bad_line(alloc, text, inner_count(text))? {
+        Some(bad) => Ok(TextFault {
+            line: told_number(text, bad),
+            what: LineFault::NoForm,
+        }),
+        None => Ok(end_fault(text)),
+    }
+}
+
+/// How many lines stand before a last line `end`; all where the last one is another.
+fn inner_count(text: &[u8]) -> u64
+    ensures { result ≡ spec.inner_count (lines_of text.now) }
+{
+    let count = count_lines(text);
+    if is_line(text, count, b"end") {
+        count - 1
+    } else {
+        count
+    }
+}
+
+/// The number that is told of a bad line.
+fn told_number(text: &[u8], bad: u64) -> u64
+    requires { bad ≤ length (lines_of text.now) }
+    ensures { result ≡ spec.told_number (lines_of text.now) bad }
+{
+    if is_line(text, bad, b"end") {
+        bad + 1
+    } else {
+        bad
+    }
+}
+
+/// What is wrong with the end of a text that is no report's, in whose lines nothing is wrong.
+fn end_fault(text: &[u8]) -> TextFault
+    requires none { IsNoReports text.now }
+    requires title { has_title (lines_of text.now) ≡ true }
+    requires good { IsReports (ended_front (lines_of text.now) (spec.inner_count (lines_of text.now))) }
+    ensures { Says result.what text.now result.line }
+{
+    let count = count_lines(text);
+    if text.ends_with(b"\n") {
+        TextFault {
+            line: count + 1,
+            what: LineFault::NoEnd,
+        }
+    } else {
+        TextFault {
+            line: count,
+            what: LineFault::NoLineFeed,
         }
     }
-    Ok(None)
 }
 
-/// The line in no form behind which so many bytes are left, with the last line's: the one behind the end, where that stands there.
-fn fault_before(text: &[u8], left: usize) -> TextFault {
-    let at = text.len().saturating_sub(left.saturating_add(END.len()));
-    let number = number_at(text, at);
-    let is_end = text.get(at..).unwrap_or(&[]).starts_with(END);
-    TextFault {
-        line: number.saturating_add(u64::from(is_end)),
-        what: LineFault::NoForm,
+/// Whether the line with this number stands in a text, and is this one.
+fn is_line(text: &[u8], number: u64, wanted: &[u8]) -> bool
+    ensures { result ≡ spec.has_line (lines_of text.now) number wanted.now }
+{
+    match line_at(text, number) {
+        Some(line) => line == wanted,
+        None => false,
     }
 }

@@ -1,43 +1,54 @@
 //! The lines of a text, which count from 1.
 
-ghost use Rattle.std.specs.Prelude.{◌<◌, ◌≤◌, length};
+ghost use Rattle.std.specs.Prelude.{◌≡◌, ◌-◌, drop, length, slice_get};
+ghost use Rattle.std.specs.Option.{option_copied};
+ghost use Rattle.init_base.specs.Lines.{lines_of};
+ghost use Rattle.trace_causes.specs.Lines as spec;
 
-/// The first line of a text, without the LF that ends it, and what stands behind it.
-pub fn cut_line(text: &[u8]) -> (&[u8], &[u8])
-    ensures shorter { 0 < length text.entry.now → length result.1.now < length text.entry.now }
-    ensures no_longer { length result.1.now ≤ length text.entry.now }
+use init_base::first_line;
+
+/// A text from its line with this number on. Empty where it has fewer lines. The number 0 is as 1.
+pub fn lines_from(text: &[u8], number: u64) -> &[u8]
+    ensures { lines_of result.now ≡ drop (number - 1) (lines_of text.entry.now) }
 {
-    match text.iter().position(|byte| *byte == b'\n') {
-        Some(end) => (&text[..end], &text[end + 1..]),
-        None => (text, &[]),
-    }
-}
-
-/// A text from its line with this number on. Empty where it has fewer lines.
-pub fn lines_from(text: &[u8], number: u64) -> &[u8] {
     let mut rest = text;
-    for _ in 1..number {
-        if rest.is_empty() {
-            return rest;
-        }
-        rest = cut_line(rest).1;
+    let mut left = number.saturating_sub(1);
+    while left > 0 && !rest.is_empty() {
+        rest = first_line(rest).1;
+        left -= 1;
     }
     rest
 }
 
-/// The line with this number, without its LF. None where the text has fewer lines.
-pub fn line_at(text: &[u8], number: u64) -> Option<&[u8]> {
+/// The line with this number, without its LF. None exactly where the text has fewer lines. The number 0 is as 1.
+pub fn line_at(text: &[u8], number: u64) -> Option<&[u8]>
+    ensures { option_copied result ≡ slice_get (lines_of text.entry.now) (number - 1) }
+{
     let rest = lines_from(text, number);
     if rest.is_empty() {
         None
     } else {
-        Some(cut_line(rest).0)
+        Some(first_line(rest).0)
     }
 }
 
+/// How many lines a text has.
+pub fn count_lines(text: &[u8]) -> u64
+    ensures { result ≡ length (lines_of text.now) }
+{
+    let mut rest = text;
+    let mut count: u64 = 0;
+    while !rest.is_empty() {
+        rest = first_line(rest).1;
+        count += 1;
+    }
+    count
+}
+
 /// The number of the line that begins at a place of a text.
-pub fn number_at(text: &[u8], at: usize) -> u64 {
-    let before = text.get(..at).unwrap_or(text);
-    let ends = before.iter().filter(|byte| **byte == b'\n').count() as u64;
-    ends.saturating_add(1)
+pub fn number_at(text: &[u8], at: usize) -> u64
+    ensures { result ≡ spec.number_at text.now at }
+{
+    let before = &text[..at.min(text.len())];
+    before.iter().filter(|byte| **byte == b'\n').count() as u64 + 1
 }
