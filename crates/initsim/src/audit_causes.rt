@@ -194,8 +194,9 @@ fn machine_of(alloc: Global, job: Job) -> Option<(Core<ListStore>, usize)>
     requires { IsFit job }
     ensures { IfSome result (λ machine. length machine.0.config.domains ≡ machine.1) }
 {
-    let store = ListStore::new(alloc, job.script.words).ok()?;
-    let Setup { config, policy, .. } = job.setup;
+    let Job { setup, script } = job;
+    let store = ListStore::new(alloc, script.words).ok()?;
+    let Setup { config, policy, .. } = setup;
     let clients = config.domains.len();
     match Core::new(alloc, config, policy, store) {
         Ok(core) => Some((core, clients)),
