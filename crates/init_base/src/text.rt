@@ -14,6 +14,9 @@ use std::sync::Arc;
 /// The most bytes that a text holds in place.
 const MAX_INLINE: usize = 22;
 
+/// The most bytes that stand in one block with the count of those who share them.
+const MAX_BLOCK: usize = 56;
+
 /// A text: bytes of any value. A short one holds them in place; the others share them, so that another text of the
 /// same bytes, or of a part of them, copies none.
 #[derive(Debug, Drop)]
@@ -27,6 +30,11 @@ enum Form {
     Inline {
         len: u8,
         bytes: [u8; 22],
+    },
+    Block {
+        owner: Arc<[u8; 56]>,
+        from: u8,
+        to: u8,
     },
     Shared {
         owner: Arc<Vec<u8>>,
@@ -55,7 +63,11 @@ impl Text {
         if bytes.len() <= MAX_INLINE {
             return Ok(Text::inline(bytes));
         }
-        Text::from_vec(Vec::from_slice(alloc, bytes)?)
+        if bytes.len() <= MAX_BLOCK {
+            return Text::block(alloc, bytes);
+        }
+        let to = bytes.len();
+        Text::shared(Arc::new(alloc, Vec::from_slice(alloc, bytes)?)?, 0, to)
     }
 
     /// A text of these bytes, in place.
@@ -73,15 +85,31 @@ impl Text {
         }
     }
 
+    /// A text of these bytes, in a block of its own.
+    fn block(alloc: Global, bytes: &[u8]) -> Result<Text, NoMemory>
+        requires { length bytes.now ≤ 56 }
+        ensures { IfOk result (λ t. t ≡ bytes.now) }
+    {
+        let mut kept = [0; 56];
+        kept[..bytes.len()].copy_from_slice(bytes);
+        Ok(Text {
+            form: Form::Block {
+                owner: Arc::new(alloc, kept)?,
+                from: 0,
+                to: bytes.len() as u8,
+            },
+        })
+    }
+
     /// A text of the bytes of a vector, of which it copies at most a few. Those of 4 GiB or more are want of memory.
     pub fn from_vec(bytes: Vec<u8>) -> Result<Text, NoMemory>
         ensures { IfOk result (λ t. t ≡ bytes.items) }
     {
-        if bytes.len() <= MAX_INLINE {
-            return Ok(Text::inline(bytes.as_slice()));
+        let alloc = *bytes.allocator();
+        if bytes.len() <= MAX_BLOCK {
+            return Text::of(alloc, bytes.as_slice());
         }
         let to = bytes.len();
-        let alloc = *bytes.allocator();
         Text::shared(Arc::new(alloc, bytes)?, 0, to)
     }
 
@@ -138,6 +166,11 @@ impl Text {
                 len: *len,
                 bytes: *bytes,
             },
+            Form::Block { owner, from, to } => Form::Block {
+                owner: Arc::try_clone(owner)?,
+                from: *from,
+                to: *to,
+            },
             Form::Shared { owner, from, to } => Form::Shared {
                 owner: Arc::try_clone(owner)?,
                 from: *from,
@@ -171,7 +204,18 @@ impl Text {
                 let start = *start as usize;
                 Ok(Text::part(owner.as_slice(), start + from, start + to))
             }
-            Form::Inline { .. } => Ok(Text::inline(&self.bytes()[from..to])),
+            Form::Block {
+                owner,
+                from: start,
+                ..
+            } if to - from > MAX_INLINE => Ok(Text {
+                form: Form::Block {
+                    owner: Arc::try_clone(owner)?,
+                    from: *start + from as u8,
+                    to: *start + to as u8,
+                },
+            }),
+            _ => Ok(Text::inline(&self.bytes()[from..to])),
         }
     }
 
@@ -180,6 +224,7 @@ impl Text {
     {
         match &self.form {
             Form::Inline { len, bytes } => &bytes[..*len as usize],
+            Form::Block { owner, from, to } => &owner[*from as usize..*to as usize],
             Form::Shared { owner, from, to } => &owner.as_slice()[*from as usize..*to as usize],
         }
     }

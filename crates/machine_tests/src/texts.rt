@@ -65,14 +65,20 @@ fn long_values(rt: HostRuntime) -> Result<(), Fail> {
     Ok(())
 }
 
+/// A text that stands in one block, and one that is a vector of its own.
 #[test]
 fn texts_are_shared_by_threads(rt: HostRuntime) -> Result<(), Fail> {
-    let text = Text::of(rt.alloc(), b"one text of more than thirty bytes, shared")?;
-    let shared = text.share()?;
-    let first = thread::spawn(&rt, move || shared.len())?;
-    let (second, third) = thread::join(&rt, || text.len(), || text.is_utf8());
-    assert_eq!(rt; first.join(&rt), second);
-    assert!(rt; third);
-    assert!(rt; text.slice(4, 41)?.slice(5, 7)?.is(b"of"));
+    let block = b"one text of more than thirty bytes, shared".as_slice();
+    let vector = b"one text of more than fifty-six bytes, which are shared by threads".as_slice();
+    for bytes in [block, vector] {
+        let text = Text::of(rt.alloc(), bytes)?;
+        let shared = text.share()?;
+        let first = thread::spawn(&rt, move || shared.len())?;
+        let (second, third) = thread::join(&rt, || text.len(), || text.is_utf8());
+        assert_eq!(rt; first.join(&rt), second);
+        assert!(rt; third);
+        assert!(rt; text.slice(4, 41)?.slice(5, 7)?.is(b"of"));
+        assert!(rt; text.slice(4, text.len())?.is(&bytes[4..]));
+    }
     Ok(())
 }

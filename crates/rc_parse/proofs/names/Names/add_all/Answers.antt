@@ -15,6 +15,13 @@ loop-service-preserved-in_ok-add c = λ next all more.
     c.loop-service.service-iterator.rest.items c.next.new.self.rest.items (search rules)
     (λ before read are is. (c.in_ok-add.ensures.names before read are is, c.in_ok-add.ensures.diagnostics before read are is)) more)
 
+pub loop-service-preserved-in_ok-add-2 : goal.loop-service-preserved-in_ok-add-2
+loop-service-preserved-in_ok-add-2 c = λ next all more.
+    c.loop-service.invariant next all
+    (one_more c.loop-service.self c.add.new.self next c.loop-service.diagnostics c.add.new.diagnostics all c.in-Some.service
+    c.loop-service.service-iterator.rest.items c.next.new.self.rest.items (search rules)
+    (λ before read are is. (c.in_ok-add.ensures.names before read are is, c.in_ok-add.ensures.diagnostics before read are is)) more)
+
 pub loop-service-preserved : goal.loop-service-preserved
 loop-service-preserved c = λ next all more.
     c.loop-service.invariant next all
