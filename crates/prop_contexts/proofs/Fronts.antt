@@ -285,14 +285,14 @@ known_first name front lines is none = record {
 }
 
 -- the front that a walk tells of
-pub walked_first : (name : List ℕ) (digest : ℕ) (front : Front) (lines : List ContextLine) → IsWalked lines name digest front → IsLeft name lines (take front.len name)
-walked_first name digest front lines walked =
+pub walked_first : (name : List ℕ) (digest : ℕ) (rest : List ℕ) (front : Front) (lines : List ContextLine) → IsWalked lines name digest rest front → IsLeft name lines (take front.len name)
+walked_first name digest rest front lines walked =
     let long : length (take front.len name) ≡ front.len = omega (arith, length-take front.len name, walked.within) in
     known_first name (take front.len name) lines (ap (λ n. take n name) (sym long)) (λ n more less. walked.longer n (omega (arith, long, more)) less)
 
-pub nothing_known : (name : List ℕ) (digest : ℕ) (front : Front) (lines : List ContextLine) → IsWalked lines name digest front → front.place ≡ None
+pub nothing_known : (name : List ℕ) (digest : ℕ) (rest : List ℕ) (front : Front) (lines : List ContextLine) → IsWalked lines name digest rest front → front.place ≡ None
     → None ≡ option_map (λ line. line.context) (longest (filter (is_prefix_for name) lines))
-nothing_known name digest front lines walked none =
+nothing_known name digest rest front lines walked none =
     let nothing = walked.none none in
-    let left : IsLeft name lines [] = subst (λ n. IsLeft name lines (take n name)) nothing.0 (walked_first name digest front lines walked) in
+    let left : IsLeft name lines [] = subst (λ n. IsLeft name lines (take n name)) nothing.0 (walked_first name digest rest front lines walked) in
     none_left name [] lines left (ap (option_map (λ line. line.context)) (none_for lines [] nothing.1)) refl

@@ -8,3 +8,4 @@ pub mod LookUps
 pub mod Readers
 pub mod Pairs
 pub mod Digests
+pub mod Lengths

@@ -10,3 +10,4 @@ pub mod Allows
 pub mod Grammar
 pub mod Examples
 pub mod Walks
+pub mod Lengths

@@ -13,6 +13,7 @@ mod contexts;
 mod digest_set;
 mod laws;
 mod line;
+mod name_lengths;
 mod names;
 mod policy;
 mod refusal;

@@ -1,10 +1,10 @@
 //! Contexts by the names of their lines, and the longest line for a front of a name.
 //!
-//! One walk over a name makes the digests of its fronts, so that a long name isn't hashed at each of its lengths. A front
-//! whose digest is none of the lines' has no line; else the digest stands at the place of a line, which is looked at
-//! before any other.
+//! One walk over a name makes the digests of its fronts, so that a long name isn't hashed at each of its lengths. It ends where
+//! no line's name is longer. A front whose digest is none of the lines' has no line; else the digest stands at the place of a
+//! line, which is looked at before any other.
 
-ghost use Rattle.std.specs.Prelude.{◌≡◌, ◌++◌, ◌∷◌, [], ◌||◌, ℕ, List, filter, if◌then◌else◌, is_some, not, IsTrue, IfOk, OnOk, OnErr};
+ghost use Rattle.std.specs.Prelude.{◌≡◌, ◌++◌, ◌∷◌, [], ◌||◌, ℕ, List, filter, fold, if◌then◌else◌, is_some, not, IsTrue, IfOk, OnOk, OnErr};
 ghost use Rattle.std.specs.Option.{option_copied, option_map};
 ghost use Rattle.std.specs.Str.{bytes_eq};
 ghost use Rattle.init_machine.specs.Policy.{is_prefix_for, longest};
@@ -13,6 +13,7 @@ ghost use Rattle.prop_contexts.specs.Digests as spec;
 ghost use Rattle.prop_contexts.specs.Walks.{IsWalked};
 
 use crate::digest_set::DigestSet;
+use crate::name_lengths::NameLengths;
 use indexmap::IndexMap;
 use init_base::NoMemory;
 use init_machine::Context;
@@ -26,6 +27,7 @@ pub struct Names {
     contexts: IndexMap<TextKey, Context>,
     /// The digests of the names. That of a name stands at the place of its line, while no two names have one digest.
     digests: DigestSet,
+    lengths: NameLengths,
 }
 
 impl Model for Names {
@@ -33,12 +35,13 @@ impl Model for Names {
     ghost use Rattle.init_machine.specs.Policy.{ContextLine};
     ghost use Rattle.prop_contexts.specs.NameLines.{lines_in};
     ghost use Rattle.prop_contexts.specs.Digests.{HaveDigests};
+    ghost use Rattle.prop_contexts.specs.Lengths.{HaveLengths};
 
     ghost Value = { List ContextLine };
 
     ghost view = { λ n. lines_in n.contexts };
 
-    ghost invariant = { λ n. HaveDigests (lines_in n.contexts) n.digests };
+    ghost invariant = { λ n. HaveDigests (lines_in n.contexts) n.digests × HaveLengths (lines_in n.contexts) n.lengths };
 }
 
 /// How many bytes of a name a line may be for, and where their digest stands, if it does.
@@ -52,7 +55,10 @@ pub struct Front {
 #[derive(Clone, Copy)]
 pub struct Walked<'a> {
     pub name: &'a [u8],
+    /// The digest of the bytes before the rest.
     pub digest: u64,
+    /// The bytes behind those that were walked over.
+    pub rest: &'a [u8],
     /// The longest front that a line may be for.
     pub front: Front,
 }
@@ -64,6 +70,7 @@ impl Names {
         Names {
             contexts: IndexMap::new(alloc),
             digests: DigestSet::new(alloc),
+            lengths: NameLengths::new(),
         }
     }
 
@@ -73,15 +80,19 @@ impl Names {
         ensures added { IfOk result (λ fresh. IsTrue fresh → self.new ≡ self.old ++ named name.items context ∷ []) }
     {
         self.digests.insert(digest_of(name.as_slice()))?;
+        self.lengths.add(name.as_slice().len());
         put(&mut self.contexts, name, context)
     }
 
-    /// The context of the line for a name that has this digest. It takes no memory.
-    pub fn get(&self, name: &[u8], digest: u64) -> Option<&Context>
-        requires { digest ≡ spec.digest_of name.now }
+    /// The context of the line for a name of which a walk has this digest and this rest. It takes no memory.
+    pub fn get(&self, name: &[u8], digest: u64, rest: &[u8]) -> Option<&Context>
+        requires { fold spec.with_byte digest rest.now ≡ spec.digest_of name.now }
         ensures { option_copied result ≡ context_in self.now name.now }
     {
-        let place = self.digests.place(digest)?;
+        if !self.lengths.may_have(name.len()) {
+            return None;
+        }
+        let place = self.digests.place(with_bytes(digest, rest))?;
         self.at(place, name)
     }
 
@@ -95,10 +106,30 @@ impl Names {
         }
     }
 
-    /// Walks over a name.
+    /// Walks over a name, as far as a line's name may be.
     pub fn walk<'a>(&self, name: &'a [u8]) -> Walked<'a>
         ensures name { result.name ≡ name.entry }
-        ensures walked { IsWalked self.now result.name.now result.digest result.front }
+        ensures walked { IsWalked self.now result.name.now result.digest result.rest.now result.front }
+    {
+        let most = self.lengths.most;
+        if name.len() <= most {
+            return self.walk_over(name);
+        }
+        let (seen, rest) = name.split_at(most);
+        let Walked { digest, front, .. } = self.walk_over(seen);
+        Walked {
+            name,
+            digest,
+            rest,
+            front,
+        }
+    }
+
+    /// Walks over all bytes of a name.
+    fn walk_over<'a>(&self, name: &'a [u8]) -> Walked<'a>
+        ensures name { result.name ≡ name.entry }
+        ensures rest { result.rest.now ≡ [] }
+        ensures walked { IsWalked self.now result.name.now result.digest [] result.front }
     {
         let digests = &self.digests;
         let mut digest = 0;
@@ -117,13 +148,14 @@ impl Names {
         Walked {
             name,
             digest,
+            rest: &[],
             front,
         }
     }
 
     /// The context of the longest line for a front of a name that was walked over. It takes no memory.
     pub fn longest(&self, walked: Walked<'_>) -> Option<&Context>
-        requires { IsWalked self.now walked.name.now walked.digest walked.front }
+        requires { IsWalked self.now walked.name.now walked.digest walked.rest.now walked.front }
         ensures { option_copied result
             ≡ option_map (λ line. line.context) (longest (filter (is_prefix_for walked.entry.name.now) self.now)) }
     {
@@ -168,8 +200,15 @@ fn later_front(known: Front, len: usize, place: Option<usize>) -> Front
 fn digest_of(text: &[u8]) -> u64
     ensures { result ≡ spec.digest_of text.now }
 {
-    let mut digest = 0;
-    for byte in text {
+    with_bytes(0, text)
+}
+
+/// The digest of a text with bytes more behind it.
+fn with_bytes(known: u64, bytes: &[u8]) -> u64
+    ensures { result ≡ fold spec.with_byte known bytes.now }
+{
+    let mut digest = known;
+    for byte in bytes {
         digest = with_byte(digest, *byte);
     }
     digest

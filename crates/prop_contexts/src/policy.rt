@@ -68,7 +68,7 @@ impl Policy {
         ensures { result.now ≡ context_of self.now name.entry.bytes.now }
     {
         let walked = self.prefixes.walk(name.bytes());
-        if let Some(context) = self.exact.get(walked.name, walked.digest) {
+        if let Some(context) = self.exact.get(walked.name, walked.digest, walked.rest) {
             return context;
         }
         match self.prefixes.longest(walked) {

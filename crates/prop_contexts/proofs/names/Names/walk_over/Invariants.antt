@@ -2,7 +2,7 @@
 use Rattle.std.proofs.Common.{◌≡◌, ◌≤◌, take}
 use Rattle.prop_contexts.specs.Digests.{digest_of}
 use Rattle.prop_contexts.proofs.Digests.{IsLongest, IsNone}
-use Rattle.prop_contexts.proofs.names.Names.walk.Given as goal
+use Rattle.prop_contexts.proofs.names.Names.walk_over.Given as goal
 
 abbrev pub invariant-loop-at : goal.invariant-loop-at
 invariant-loop-at l = record {
