@@ -1,6 +1,6 @@
 //! Sets by clients, each judged by the domain of its client.
 
-ghost use Rattle.std.specs.Prelude.{◌≡◌, ◌≤◌, IfOk, OnOk, length};
+ghost use Rattle.std.specs.Prelude.{◌≡◌, ◌≤◌, OnOk, length};
 ghost use Rattle.init_machine.specs.Setting as setting_spec;
 ghost use Rattle.init_machine.specs.Step as step_spec;
 ghost use Rattle.machine_parts.specs.Parts.{Does, rules_of, state_of};
@@ -17,13 +17,12 @@ fn is_control(name: &[u8]) -> bool
 }
 
 /// The domain of a client. The clients are numbered from 1.
-fn domain_of(domains: &List<Text>, who: ClientId) -> Result<Text, NoMemory>
+fn domain_of(domains: &List<Text>, who: ClientId) -> &Text
     requires from { 1 ≤ who.0 }
     requires to { who.0 ≤ length domains.now }
-    ensures { IfOk result (λ domain. domain ≡ step_spec.domain_of domains.now who) }
+    ensures { result.now ≡ step_spec.domain_of domains.now who }
 {
-    let place = who.0 as usize - 1;
-    domains.items()[place].share()
+    &domains.items()[who.0 as usize - 1]
 }
 
 fn answer_line(refused: Option<SetRefusal>, is_control: bool, count: u64) -> Output
@@ -70,6 +69,5 @@ pub fn set_of_client<S: PropStore>(
         (step_spec.ask (rules_of parts.old) (step_spec.domain_of domains.now who) name.now value.now (state_of S.meaning parts.old))) }
     ensures beside { S.Beside parts.old.store parts.new.store }
 {
-    let domain = domain_of(domains, who)?;
-    ask(alloc, parts, &domain, name, value)
+    ask(alloc, parts, domain_of(domains, who), name, value)
 }

@@ -11,6 +11,7 @@ mod area_name;
 mod desk;
 mod ending;
 mod leaving;
+mod request;
 mod service;
 mod shared;
 

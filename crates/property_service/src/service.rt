@@ -22,9 +22,10 @@ ghost use Rattle.property_service.specs.Settings.{HasSet};
 use crate::answer::{Accepted, last_answer};
 use crate::area_name::AreaName;
 use crate::desk::Desk;
-use init_base::{ClientId, List, NoMemory, Text};
+use crate::request::Request;
+use init_base::{ClientId, List, NoMemory};
 use init_core::CoreStop;
-use init_machine::{Config, Entry, Input, Pair, SetRefusal};
+use init_machine::{Config, Entry, Input, Output, Pair, SetRefusal};
 use prop_contexts::Policy;
 use property_area::{AreaWriter, Reader};
 use std::alloc::Global;
@@ -48,16 +49,6 @@ impl<'a, N: AreaName> Model for Service<'a, N> {
     ghost view = { λ s. record { opening = s.desk.opening; history = s.history; seat = s.desk.seat; spent = s.spent } };
 
     ghost invariant = { λ s. s.spent ≡ false → (s.desk.spent ≡ false) × (s.history ≡ s.desk.history) };
-}
-
-/// A property's name and a value, as texts of the machine's.
-pub(crate) fn pair_of(alloc: Global, name: &[u8], value: &[u8]) -> Result<Pair, NoMemory>
-    ensures { IfOk result (λ pair. (pair.name ≡ name.now) × (pair.value ≡ value.now)) }
-{
-    Ok(Pair {
-        name: Text::of(alloc, name)?,
-        value: Text::of(alloc, value)?,
-    })
 }
 
 impl<'a, N: AreaName> Service<'a, N> {
@@ -171,14 +162,40 @@ impl<'a, N: AreaName> Service<'a, N> {
         ensures unchanged { result.1 ≡ Err refusal.Spent → (self.new ≡ self.old) × (result.0 ≡ Some reader) }
         ensures no_memory { result.1 ≡ Err refusal.NoMemory → self.new.spent ≡ true }
     {
-        match pair_of(self.alloc, name, value) {
-            Ok(pair) => self.set_pair(reader, pair),
+        match Request::of(self.alloc, name, value) {
+            Ok(request) => self.set_request(reader, request),
             Err(NoMemory) => self.run_out(reader),
         }
     }
 
-    /// `set`, by texts that were made before.
-    pub(crate) fn set_pair(
+    /// `set`, by a request that was made before.
+    pub(crate) fn set_request(
+        &mut self,
+        reader: Reader,
+        request: Request,
+    ) -> (Option<Reader>, Result<Accepted, SetRefusal>)
+        requires area { reader.table ≡ N.area }
+        requires client { DeclaredIn reader.view.opening reader.view.who }
+        ensures set { has_entry result.1 ≡ true
+            → HasSet self.old self.new reader result.0 request.pair.name request.pair.value result.1 }
+        ensures spent { (result.1 ≡ Err refusal.Spent) ↔ (self.old.spent ≡ true) }
+        ensures unchanged { result.1 ≡ Err refusal.Spent → (self.new ≡ self.old) × (result.0 ≡ Some reader) }
+        ensures no_memory { result.1 ≡ Err refusal.NoMemory → self.new.spent ≡ true }
+    {
+        let Request { pair, outputs } = request;
+        self.give(outputs);
+        self.set_pair(reader, pair)
+    }
+
+    /// Gives memory for the next outputs.
+    fn give(&mut self, outputs: List<Output>)
+        ensures { self.new ≡ self.old }
+    {
+        self.desk.reuse(outputs);
+    }
+
+    /// `set`, of a pair.
+    fn set_pair(
         &mut self,
         reader: Reader,
         pair: Pair,

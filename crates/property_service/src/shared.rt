@@ -10,7 +10,8 @@ ghost use Rattle.property_service.specs.Service.{DeclaredIn, IsNoSet, set_by};
 
 use crate::answer::Accepted;
 use crate::area_name::AreaName;
-use crate::service::{Service, pair_of};
+use crate::request::Request;
+use crate::service::Service;
 use init_base::NoMemory;
 use init_core::CoreStop;
 use init_machine::{Input, SetRefusal};
@@ -34,7 +35,7 @@ impl<'a, N: AreaName> Shared<'a, N> {
         }
     }
 
-    /// `Service::set`, behind the lock. Its texts are made before the lock is taken, so that other clients don't wait for that.
+    /// `Service::set`, behind the lock. What it needs is made before the lock is taken, so that other clients don't wait for that.
     pub fn set<R: Wait>(
         &self,
         rt: &R,
@@ -48,8 +49,8 @@ impl<'a, N: AreaName> Shared<'a, N> {
             → IsSomeAnd result.0 (ComesBackWith (set_by reader.view.who name.now value.now) (Some (line_of result.1)) reader) }
         ensures unchanged { result.1 ≡ Err refusal.Spent → result.0 ≡ Some reader }
     {
-        match pair_of(self.alloc, name, value) {
-            Ok(pair) => self.lock.lock(rt).set_pair(reader, pair),
+        match Request::of(self.alloc, name, value) {
+            Ok(request) => self.lock.lock(rt).set_request(reader, request),
             Err(NoMemory) => self.lock.lock(rt).run_out(reader),
         }
     }
