@@ -1,6 +1,5 @@
 -- Each tree has a world, since the bytes of each file have a meaning.
 use Rattle.std.proofs.Common.{ℕ, List, ◌++◌, Option, Some, refl}
-use Rattle.std.proofs.Common.{map}
 use Rattle.std.specs.List.{flat_map}
 use Rattle.rc_tokens.specs.Lines.{Line, Tokens, Lines}
 use Rattle.rc_parse.specs.Files.{Reads}

@@ -165,7 +165,7 @@ fn follow_names<F: Files, S: PropStore, G: Gathers>(
 {
     let mut loading = loading;
     for name in names.into_vec() {
-        let path = file_in(alloc, dir.bytes(), name.bytes())?;
+        let path = file_in(alloc, dir, name)?;
         loading = follow_first(alloc, files, props, loading, path)?.0;
     }
     Ok(loading)

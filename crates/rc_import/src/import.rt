@@ -144,7 +144,7 @@ fn follow_names<F: Files, S: PropStore, G: Gathers>(
 {
     let mut loading = loading;
     for name in names.into_vec() {
-        let path = file_in(alloc, dir.bytes(), name.bytes())?;
+        let path = file_in(alloc, dir, name)?;
         loading = follow_target(alloc, files, props, loading, place, line, path)?;
     }
     Ok(loading)

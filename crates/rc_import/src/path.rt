@@ -60,13 +60,13 @@ fn without_last_slashes(text: &[u8]) -> &[u8]
 }
 
 /// The path of a file in a directory.
-pub fn file_in(alloc: Global, dir: &[u8], name: &[u8]) -> Result<Text, NoMemory>
-    ensures { IfOk result (λ path. path ≡ paths_spec.file_in dir.now name.now) }
+pub fn file_in(alloc: Global, dir: &Text, name: Text) -> Result<Text, NoMemory>
+    ensures { IfOk result (λ path. path ≡ paths_spec.file_in dir.now name) }
 {
-    let mut path = Vec::from_slice(alloc, dir)?;
-    if !dir.ends_with(b"/") {
+    let mut path = Vec::from_slice(alloc, dir.bytes())?;
+    if !dir.bytes().ends_with(b"/") {
         path.push(b'/')?;
     }
-    path.extend_from_slice(name)?;
+    path.extend_from_slice(name.bytes())?;
     Text::from_vec(path)
 }

@@ -26,27 +26,6 @@ returns-in_err-loading-clause-order g c =
     (subst (λ file. Follows g.G.Gathers.holds tree look_up c.loop-name.loading (Err refusal) (λ world. at_first world file)) path
     (file_stops g.G.Gathers.holds tree look_up c.loop-name.loading refusal (λ world. at_first world c.in_ok-path.path) c.in_ok-path.path c.in_err-loading.ensures.order)))
 
-pub loop-name-preserved-in_ok-loading : goal.loop-name-preserved-in_ok-loading
-loop-name-preserved-in_ok-loading g c =
-    let i = c.loop-name.invariant in
-    let e = c.in_ok-loading.ensures in
-    let tree = g.F.Files.tree c.loop-name.files in
-    let look_up = value_in (g.S.PropStore.meaning c.loop-name.props) in
-    let next = c.in_ok-loading.field-0 in
-    let path : c.in_ok-path.path ≡ file_in c.args.dir.now c.in-Some.name = search rules in
-    record {
-      next = search rules;
-      finite = search rules;
-      order = list_on g.G.Gathers.holds (g.F.Files.tree c.args.files.now) tree (value_in (g.S.PropStore.meaning c.args.props.now)) look_up c.args.loading c.loop-name.loading next.0
-          (λ world. flat_map (λ name. at_first world (file_in c.args.dir.now name)) c.args.names) (λ world name. at_first world (file_in c.args.dir.now name))
-          c.loop-name.name-iterator.rest.items c.next.new.self.rest.items c.in-Some.name i.tree (ap value_in i.store.same) (search rules) i.order
-          (subst (λ file. Follows g.G.Gathers.holds tree look_up c.loop-name.loading (Ok next.0) (λ world. at_first world file)) path
-          (file_follows g.G.Gathers.holds tree look_up c.loop-name.loading next (λ world. at_first world c.in_ok-path.path) c.in_ok-path.path e.order));
-      tree = e.tree ∙ i.tree;
-      count = e.cause ∙ i.count;
-      store = kept_on _ _ _ _ g.met.S.PropStore.transitive _ _ _ i.store e.store;
-    }
-
 pub loop-name-preserved : goal.loop-name-preserved
 loop-name-preserved g c =
     let i = c.loop-name.invariant in

@@ -116,27 +116,6 @@ follow_names-returns-in_err-loading-clause-order g t c =
     c.loop-name.name-iterator.rest.items c.next.new.self.rest.items c.in-Some.name i.tree (ap value_in i.store.same) (search rules) i.order
     (subst (λ file. Follows g.G.Gathers.holds tree look_up c.loop-name.loading (Err c.in_err-loading.field-0.0) (λ world. reach_from place world c.args.line file)) path c.in_err-loading.ensures.order))
 
-pub follow_names-loop-name-preserved-in_ok-loading : goal.follow_names-loop-name-preserved-in_ok-loading
-follow_names-loop-name-preserved-in_ok-loading g t c =
-    let place = c.args.place.now in
-    let i = c.loop-name.invariant in
-    let e = c.in_ok-loading.ensures in
-    let tree = g.F.Files.tree c.loop-name.files in
-    let look_up = value_in (g.S.PropStore.meaning c.loop-name.props) in
-    let path : c.in_ok-path.path ≡ file_in c.args.dir.now c.in-Some.name = search rules in
-    record {
-      next = search rules;
-      finite = search rules;
-      order = list_on g.G.Gathers.holds (g.F.Files.tree c.args.files.now) tree (value_in (g.S.PropStore.meaning c.args.props.now)) look_up
-          c.args.loading c.loop-name.loading c.in_ok-loading.loading
-          (λ world. flat_map (λ name. reach_from place world c.args.line (file_in c.args.dir.now name)) c.args.names) (λ world name. reach_from place world c.args.line (file_in c.args.dir.now name))
-          c.loop-name.name-iterator.rest.items c.next.new.self.rest.items c.in-Some.name i.tree (ap value_in i.store.same) (search rules) i.order
-          (subst (λ file. Follows g.G.Gathers.holds tree look_up c.loop-name.loading (Ok c.in_ok-loading.loading) (λ world. reach_from place world c.args.line file)) path e.order);
-      tree = e.tree ∙ i.tree;
-      count = e.cause ∙ i.count;
-      store = kept_on _ _ _ _ g.met.S.PropStore.transitive _ _ _ i.store e.store;
-    }
-
 pub follow_names-loop-name-preserved : goal.follow_names-loop-name-preserved
 follow_names-loop-name-preserved g t c =
     let place = c.args.place.now in
