@@ -1,3 +1,5 @@
+pub mod Ascii
+pub mod Blocks
 pub mod ByBytes
 pub mod Digits
 pub mod FirstPlaces
@@ -8,3 +10,4 @@ pub mod Parts
 pub mod LineEnds
 pub mod QForms
 pub mod Walks
+pub mod SameBytes

@@ -5,6 +5,8 @@
 #![tactic(auto)]
 
 mod adapters;
+mod byte_test;
+mod comparing;
 mod fifo;
 mod in_memory;
 mod lines;
@@ -26,6 +28,7 @@ pub use adapters::keeper::StdKeeper;
 pub use adapters::machine::read_some;
 pub use adapters::sink::StdSink;
 pub use adapters::source::StdSource;
+pub use comparing::same_bytes;
 pub use fifo::Fifo;
 pub use in_memory::files::{MemFiles, SteadyFiles};
 pub use in_memory::keeper::{MemKeeper, SteadyKeeper};
@@ -41,7 +44,7 @@ pub use outside::keeper::Keeper;
 pub use outside::refusal::{Failed, Found, IoRefusal, ReadRefusal};
 pub use outside::sink::Sink;
 pub use outside::source::Source;
-pub use q_form::{one_q_form, unquoted};
+pub use q_form::{are_plain, is_plain, one_q_form, unquoted};
 pub use reading::read_all;
 pub use shared_list::SharedList;
 pub use text::Text;

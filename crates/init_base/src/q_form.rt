@@ -6,6 +6,7 @@ ghost use Rattle.std.specs.List.{flat_map, list_all};
 ghost use Rattle.init_base.specs.Quoted.{is_byte, quoted, quoted_byte};
 ghost use Rattle.init_base.specs.Quoted as spec;
 
+use crate::byte_test::{ByteTest, all_hold};
 use crate::memory::NoMemory;
 use crate::text::Text;
 use std::alloc::Global;
@@ -21,7 +22,7 @@ pub fn unquoted(alloc: Global, word: &[u8]) -> Result<Option<Text>, NoMemory>
     if word == b"%".as_slice() {
         return Ok(Some(Text::empty()));
     }
-    if stands_for_itself(word) {
+    if are_plain(word) {
         return Ok(Some(Text::of(alloc, word)?));
     }
     spelled(alloc, word)
@@ -34,14 +35,26 @@ pub fn one_q_form()
     ensures text { (word text : Items ℕ) → spec.unquoted word ≡ Some text → IsTrue (list_all is_byte text) }
 {}
 
-/// Whether no byte of a word must be spelled.
-fn stands_for_itself(word: &[u8]) -> bool
-    ensures { result ≡ list_all spec.is_plain word.now }
-{
-    word.iter().all(|byte| is_plain(*byte))
+/// The bytes that stand for themselves.
+struct Plain;
+
+impl ByteTest for Plain {
+    ghost holds = { spec.is_plain };
+
+    fn holds_of(byte: u8) -> bool {
+        is_plain(byte)
+    }
 }
 
-fn is_plain(byte: u8) -> bool
+/// Whether all bytes stand for themselves in q form.
+pub fn are_plain(bytes: &[u8]) -> bool
+    ensures { result ≡ list_all spec.is_plain bytes.now }
+{
+    all_hold::<Plain>(bytes)
+}
+
+/// Whether a byte stands for itself in q form.
+pub fn is_plain(byte: u8) -> bool
     ensures { result ≡ spec.is_plain byte }
 {
     byte >= 0x21 && byte <= 0x7e && byte != b'%'

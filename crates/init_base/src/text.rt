@@ -5,6 +5,7 @@ ghost use Rattle.std.specs.Arc.{arc_value};
 ghost use Rattle.std.specs.Str.{bytes_eq, is_utf8};
 ghost use Rattle.init_base.specs.Text.{form_bytes, IsForm};
 
+use crate::comparing::same_bytes;
 use crate::memory::NoMemory;
 use crate::value::is_text;
 use std::alloc::Global;
@@ -233,7 +234,7 @@ impl Text {
     pub fn is(&self, bytes: &[u8]) -> bool
         ensures { result ≡ bytes_eq self.now bytes.now }
     {
-        self.bytes() == bytes
+        same_bytes(self.bytes(), bytes)
     }
 
     /// The number of bytes.

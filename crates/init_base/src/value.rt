@@ -2,9 +2,11 @@
 
 ghost use Rattle.std.specs.Prelude.{◌≡◌, ◌<◌, ◌≤◌, IfOk, IfErr, length};
 ghost use Rattle.std.specs.Result.{result_err};
+ghost use Rattle.std.specs.Char.{is_ascii};
 ghost use Rattle.std.specs.Str.{is_utf8};
 ghost use Rattle.init_base.specs.Value.{LegalValue, IsSomeValue, fault_past, short_value_fault, value_fault, value_fault_under};
 
+use crate::byte_test::{ByteTest, all_hold};
 use crate::name::PropName;
 
 /// The most bytes of a value under any name.
@@ -82,8 +84,26 @@ fn check(bytes: &[u8], most: usize) -> Result<(), BadValue>
     }
 }
 
-/// Whether the bytes are UTF-8.
+/// The bytes of ASCII.
+struct Ascii;
+
+impl ByteTest for Ascii {
+    ghost holds = { is_ascii };
+
+    fn holds_of(byte: u8) -> bool {
+        byte < 128
+    }
+}
+
+/// Whether the bytes are UTF-8. Those of ASCII alone, as nearly all are, are told first.
+#[tactic(auto, using(crate::proofs::Ascii::ascii_is_utf8))]
 pub(crate) fn is_text(bytes: &[u8]) -> bool
+    ensures { result ≡ is_utf8 bytes.now }
+{
+    all_hold::<Ascii>(bytes) || is_utf8(bytes)
+}
+
+fn is_utf8(bytes: &[u8]) -> bool
     ensures { result ≡ is_utf8 bytes.now }
 {
     std::str::from_utf8(bytes).is_ok()

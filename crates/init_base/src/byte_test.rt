@@ -1,0 +1,72 @@
+//! Tests of all bytes of a list, many at a time.
+
+ghost use Rattle.std.specs.Prelude.{◌≡◌, ◌+◌, ◌≤◌, ℕ, Bool, length};
+ghost use Rattle.std.specs.List.{list_all};
+
+/// A test of one byte.
+pub(crate) trait ByteTest {
+    ghost holds: { ℕ → Bool };
+
+    fn holds_of(byte: u8) -> bool
+        ensures { result ≡ holds byte };
+}
+
+/// Whether the test holds of all bytes.
+#[tactic(auto, using(crate::proofs::Blocks::all_of_both))]
+pub(crate) fn all_hold<T: ByteTest>(bytes: &[u8]) -> bool
+    ensures { result ≡ list_all T.holds bytes.now }
+{
+    if bytes.len() < 4 {
+        return all_hold_in_turn::<T>(bytes);
+    }
+    if bytes.len() <= 8 {
+        return hold_in_ends::<T, 4>(bytes);
+    }
+    if bytes.len() <= 16 {
+        return hold_in_ends::<T, 8>(bytes);
+    }
+    let mut rest = bytes;
+    while rest.len() > 32 {
+        let (front, behind) = rest.split_at(16);
+        if !hold_in_block::<T, 16>(front) {
+            return false;
+        }
+        rest = behind;
+    }
+    hold_in_ends::<T, 16>(rest)
+}
+
+/// `all_hold`, one after another.
+fn all_hold_in_turn<T: ByteTest>(bytes: &[u8]) -> bool
+    ensures { result ≡ list_all T.holds bytes.now }
+{
+    let mut all = true;
+    for byte in bytes {
+        all = all & T::holds_of(*byte);
+    }
+    all
+}
+
+/// `all_hold`, where the first `N` bytes and the last `N`, which may overlap, are all bytes.
+#[tactic(auto, using(crate::proofs::Blocks::all_of_ends))]
+fn hold_in_ends<T: ByteTest, const N: usize>(bytes: &[u8]) -> bool
+    requires least { N ≤ length bytes.now }
+    requires most { length bytes.now ≤ N + N }
+    ensures { result ≡ list_all T.holds bytes.now }
+{
+    hold_in_block::<T, N>(&bytes[..N]) & hold_in_block::<T, N>(&bytes[bytes.len() - N..])
+}
+
+/// `all_hold`, of `N` bytes. They are tested together.
+fn hold_in_block<T: ByteTest, const N: usize>(bytes: &[u8]) -> bool
+    requires { length bytes.now ≡ N }
+    ensures { result ≡ list_all T.holds bytes.now }
+{
+    let mut block = [0; N];
+    block.copy_from_slice(bytes);
+    let mut all = true;
+    for byte in &block {
+        all = all & T::holds_of(*byte);
+    }
+    all
+}
