@@ -6,7 +6,7 @@ ghost use Rattle.std.specs.Str.{bytes_eq};
 ghost use Rattle.prop_contexts.specs.Allowances.{is_pair_for, is_pair_of, same_words};
 
 use indexmap::{Equivalent, IndexSet};
-use init_base::{List, NoMemory};
+use init_base::{List, NoMemory, same_bytes};
 use init_machine::AllowLine;
 use std::alloc::Global;
 use std::marker::Model;
@@ -36,7 +36,8 @@ impl Equivalent<Pair> for Asked<'_> {
         (λ domain label. bytes_eq domain y.domain && bytes_eq label y.label) asked.domain.bytes.now asked.label.bytes.now x same };
 
     fn equivalent(&self, pair: &Pair) -> bool {
-        self.domain.bytes == pair.domain.bytes() && self.label.bytes == pair.label.bytes()
+        same_bytes(self.domain.bytes, pair.domain.bytes())
+            && same_bytes(self.label.bytes, pair.label.bytes())
     }
 }
 

@@ -15,7 +15,7 @@ ghost use Rattle.prop_contexts.specs.Walks.{IsWalked};
 use crate::digest_set::DigestSet;
 use crate::name_lengths::NameLengths;
 use indexmap::IndexMap;
-use init_base::NoMemory;
+use init_base::{NoMemory, same_bytes};
 use init_machine::Context;
 use std::alloc::Global;
 use std::marker::Model;
@@ -101,7 +101,7 @@ impl Names {
         ensures { option_copied result ≡ context_in self.now name.now }
     {
         match self.contexts.get_index(place) {
-            Some((key, context)) if key.bytes() == name => Some(context),
+            Some((key, context)) if same_bytes(key.bytes(), name) => Some(context),
             _ => self.contexts.get(Spelled { bytes: name }),
         }
     }

@@ -7,7 +7,7 @@ ghost use Rattle.std.specs.Str.{bytes_eq};
 ghost use Rattle.init_base.proofs.ByBytes.{same_input};
 
 use indexmap::Equivalent;
-use init_base::NoMemory;
+use init_base::{NoMemory, same_bytes};
 use std::alloc::Global;
 use std::hash::{Hash, Hasher};
 use std::marker::Model;
@@ -57,7 +57,7 @@ impl PartialEq for TextKey {
     ghost laws = { partial_equiv_from_equiv nat_list_eq_equiv };
 
     fn eq(&self, other: &Self) -> bool {
-        self.bytes() == other.bytes()
+        same_bytes(self.bytes(), other.bytes())
     }
 }
 
@@ -87,7 +87,7 @@ impl PartialEq for Spelled<'_> {
     ghost laws = { partial_equiv_from_equiv (on_equiv (λ one. one.bytes.now) nat_list_eq_equiv) };
 
     fn eq(&self, other: &Self) -> bool {
-        self.bytes == other.bytes
+        same_bytes(self.bytes, other.bytes)
     }
 }
 
@@ -113,6 +113,6 @@ impl Equivalent<TextKey> for Spelled<'_> {
     ghost respects_eq = { λ one x y same. nat_list_eq_equiv.congr one.bytes.now x y same };
 
     fn equivalent(&self, key: &TextKey) -> bool {
-        self.bytes == key.bytes()
+        same_bytes(self.bytes, key.bytes())
     }
 }
