@@ -2,11 +2,11 @@
 
 ghost use Rattle.std.specs.Prelude.{◌≡◌, ◌++◌, ◌∷◌, [], ◌<◌, ◌≤◌, IfOk, OnOk, false, length, drop};
 ghost use Rattle.std.specs.Fmt.{decimal, digit_glyph};
-ghost use Rattle.std.specs.List.{flat_map, list_all, prefix_len};
+ghost use Rattle.std.specs.List.{flat_map, prefix_len};
 ghost use Rattle.init_trace.specs.Quoted.{hex16};
 ghost use Rattle.init_trace.specs.Quoted as spec;
 
-use init_base::NoMemory;
+use init_base::{NoMemory, are_plain, is_plain};
 use itoa::Buffer;
 
 /// Adds bytes as they are.
@@ -50,17 +50,6 @@ fn quoted_bytes(page: &mut Vec<u8>, bytes: &[u8]) -> Result<(), NoMemory>
     Ok(())
 }
 
-/// Whether all bytes are plain. It goes on behind one that isn't, so that many bytes are judged at a time.
-fn are_plain(bytes: &[u8]) -> bool
-    ensures { result ≡ list_all spec.is_plain bytes.now }
-{
-    let mut plain = true;
-    for byte in bytes {
-        plain = plain & is_plain(*byte);
-    }
-    plain
-}
-
 /// Adds the run of plain bytes at the front, as they are, and then the byte that ends it. Answers how many bytes these are.
 #[tactic(auto, using(crate::proofs::Runs::run_left, crate::proofs::Runs::byte_left))]
 fn quoted_run(page: &mut Vec<u8>, bytes: &[u8]) -> Result<usize, NoMemory>
@@ -96,13 +85,6 @@ fn quoted_byte(page: &mut Vec<u8>, byte: u8) -> Result<(), NoMemory>
         put_byte(page, b'%')?;
         hex_byte(page, byte, true)
     }
-}
-
-/// Whether a byte stands for itself in q form.
-fn is_plain(byte: u8) -> bool
-    ensures { result ≡ spec.is_plain byte }
-{
-    byte >= 0x21 && byte <= 0x7e && byte != b'%'
 }
 
 /// Adds a byte as two hexadecimal digits.
