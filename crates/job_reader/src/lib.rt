@@ -1,8 +1,8 @@
 //! What a run, a race or an audit stands on is read, and what a check does: the script, the policy and the rc files of the tree, the
 //! persistent store, a trace. The first refusal ends it.
 //!
-//! Each reader gives what its text says by the definition of the format, or a `Stop` exactly where that definition has none
-//! (`specs/Stops.antt`); the status of the program tells it.
+//! Each reader gives what its text says by the definition of the format, or a `Stop`: where that definition has none, past a limit,
+//! at a read that fails, or for want of memory. `specs/Stops.antt` says when each comes; the status of the program tells it.
 #![tactic(auto)]
 
 mod loading;

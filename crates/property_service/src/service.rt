@@ -194,7 +194,7 @@ impl<'a, N: AreaName> Service<'a, N> {
         self.desk.reuse(outputs);
     }
 
-    /// `set`, of a pair.
+    /// What `set` does, once the name and the value are texts.
     fn set_pair(
         &mut self,
         reader: Reader,
