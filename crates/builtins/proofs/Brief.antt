@@ -11,7 +11,7 @@ use Rattle.init_machine.specs.declared.task.TreeCall.{TreeCall}
 use Rattle.init_machine.specs.declared.task.TreeCall.TheVariants as call
 use Rattle.init_machine.specs.declared.word.Word.{Word}
 use Rattle.init_machine.specs.declared.word.Word.TheVariants as word
-use Rattle.builtins.specs.Asked.{is_brief}
+use Rattle.builtins.specs.Brief.{is_brief}
 
 brief_if : (b : Bool) (one other : Task) → is_brief one ≡ true → is_brief other ≡ true → is_brief (if b then one else other) ≡ true
 brief_if true one other first second = first

@@ -3,7 +3,7 @@
 ghost use Rattle.std.specs.Prelude.{◌≡◌, IfOk, IsTrue, OnOk};
 ghost use Rattle.init_machine.specs.Effect as spec;
 ghost use Rattle.machine_parts.specs.Parts.{Does, rules_of, state_of};
-ghost use Rattle.builtins.specs.Asked.{is_brief};
+ghost use Rattle.builtins.specs.Brief.{is_brief};
 
 use crate::at_once::{export, note, set_property, trigger};
 use crate::on_services::{exec_start, on_class, on_service};

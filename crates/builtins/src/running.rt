@@ -1,36 +1,17 @@
 //! Running a command.
 
-ghost use Rattle.std.specs.Prelude.{◌≡◌, ◌++◌, ◌∷◌, [], IfOk, IsTrue, OnOk};
-ghost use Rattle.init_machine.specs.Effect.{effect, command_line, ending_line, waiting_by};
+ghost use Rattle.std.specs.Prelude.{◌≡◌, ◌++◌, ◌∷◌, [], Ok, Err, IfOk, OnOk};
+ghost use Rattle.init_machine.specs.Effect.{effect, effect_by, command_line, ending_line, waiting_by};
 ghost use Rattle.init_machine.specs.Effect as spec;
-ghost use Rattle.init_machine.specs.declared.action.Command.{Command as CommandLem};
 ghost use Rattle.machine_parts.specs.Parts.{Does, rules_of, state_of};
-ghost use Rattle.builtins.specs.Asked.{asked_by, done_by, is_brief_if_ok, ran_by};
 
-use crate::asked::Asked;
+use crate::expanding::expand_args;
 use crate::performing::perform;
+use crate::task::task_of;
 use init_base::{List, NoMemory};
-use init_machine::{Cause, Command, Done, Output, PropStore, Task, Waiting};
+use init_machine::{Cause, Command, Done, Output, PropStore, Waiting};
 use machine_parts::Parts;
 use std::alloc::Global;
-
-/// Does what a command asks for, where its arguments could be expanded.
-fn perform_asked<S: PropStore>(
-    alloc: Global,
-    parts: &mut Parts<S>,
-    task: Result<Task, Cause>,
-) -> Result<Done, NoMemory>
-    requires { IsTrue (is_brief_if_ok task) }
-    ensures ending { IfOk result (λ ending. ending ≡ (ran_by (rules_of parts.old) task (state_of S.meaning parts.old)).ending) }
-    ensures did { OnOk result
-        (Does S.meaning S.told parts.old parts.new (ran_by (rules_of parts.old) task (state_of S.meaning parts.old)).did) }
-    ensures beside { S.Beside parts.old.store parts.new.store }
-{
-    match task {
-        Ok(task) => perform(alloc, parts, task),
-        Err(why) => Ok(Done::Failed(why)),
-    }
-}
 
 /// The line of a command.
 fn line_of(command: Command) -> Output
@@ -81,29 +62,44 @@ fn end_command(
     }
 }
 
-/// Writes the line of a command, does what it asks for, and writes how it ended.
-fn run_asked<S: PropStore>(
+/// Tells the line of a command whose arguments are expanded, does what it asks for, and tells how it ended.
+fn run_expanded<S: PropStore>(
     alloc: Global,
     parts: &mut Parts<S>,
-    asked: Asked,
+    command: Command,
 ) -> Result<(), NoMemory>
-    ensures done { OnOk result
-        (Does S.meaning S.told parts.old parts.new (done_by (rules_of parts.old) asked (state_of S.meaning parts.old))) }
+    ensures done { OnOk result (Does S.meaning S.told parts.old parts.new
+        (effect_by (rules_of parts.old) command (Ok command.args) (state_of S.meaning parts.old))) }
     ensures beside { S.Beside parts.old.store parts.new.store }
 {
-    let (command, task) = asked.into_parts();
+    let task = task_of(command.word, command.args.items())?;
     parts.outputs.push(line_of(command))?;
-    let ending = perform_asked(alloc, parts, task)?;
+    let ending = perform(alloc, parts, task)?;
     end_command(ending, &mut parts.waits, &mut parts.outputs)
 }
 
-/// Runs a command: its line, what it does, and how it ended.
-pub fn run<S: PropStore>(alloc: Global, parts: &mut Parts<S>, asked: Asked) -> Result<(), NoMemory>
-    ensures done { OnOk result
-        (Does S.meaning S.told parts.old parts.new (done_by (rules_of parts.old) asked (state_of S.meaning parts.old))) }
-    ensures effect { (c : CommandLem) → asked ≡ asked_by c (S.meaning parts.old.store)
-        → OnOk result (Does S.meaning S.told parts.old parts.new (effect (rules_of parts.old) c (state_of S.meaning parts.old))) }
+/// Tells the line of a command, and why its arguments could not be expanded.
+fn refuse<S: PropStore>(parts: &mut Parts<S>, command: Command, why: Cause) -> Result<(), NoMemory>
+    ensures done { OnOk result (Does S.meaning S.told parts.old parts.new
+        (effect_by (rules_of parts.old) command (Err why) (state_of S.meaning parts.old))) }
     ensures beside { S.Beside parts.old.store parts.new.store }
 {
-    run_asked(alloc, parts, asked)
+    parts.outputs.push(line_of(command))?;
+    end_command(Done::Failed(why), &mut parts.waits, &mut parts.outputs)
+}
+
+/// Runs a command: its line, what it does, and how it ended. Its arguments are expanded first.
+pub fn run<S: PropStore>(
+    alloc: Global,
+    parts: &mut Parts<S>,
+    mut command: Command,
+) -> Result<(), NoMemory>
+    ensures done { OnOk result
+        (Does S.meaning S.told parts.old parts.new (effect (rules_of parts.old) command (state_of S.meaning parts.old))) }
+    ensures beside { S.Beside parts.old.store parts.new.store }
+{
+    match expand_args(alloc, &mut parts.store, &mut command.args)? {
+        Ok(()) => run_expanded(alloc, parts, command),
+        Err(why) => refuse(parts, command, why),
+    }
 }

@@ -1,8 +1,10 @@
 //! Tasks: what words ask for with their arguments (AOSP, init's README, "Commands").
 
-ghost use Rattle.std.specs.Prelude.{◌≡◌, IfOk, codes};
+ghost use Rattle.std.specs.Prelude.{◌≡◌, ℕ, List as Items, IfOk, IsTrue, codes};
 ghost use Rattle.init_machine.specs.Tasks.{by_mode, run_once};
 ghost use Rattle.init_machine.specs.Tasks as spec;
+ghost use Rattle.init_machine.specs.declared.word.Word.{Word as WordLem};
+ghost use Rattle.builtins.specs.Brief.{is_brief};
 
 use crate::arguments::{first, optional, program, second};
 use crate::forms::{mode, seconds};
@@ -51,6 +53,12 @@ pub fn task_of(word: Word, args: &[Text]) -> Result<Task, NoMemory>
         Word::Inert(_) => Ok(Task::Note),
     }
 }
+
+/// No command waits for a file longer than 1,000,000,000 milliseconds.
+#[tactic(auto, using(crate::proofs::Brief::brief))]
+pub fn no_long_wait()
+    ensures { (word : WordLem) (args : Items (Items ℕ)) → IsTrue (is_brief (spec.task_of word args)) }
+{}
 
 fn on_class(op: Op, args: &[Text]) -> Result<Task, NoMemory>
     ensures { IfOk result (λ task. task ≡ Task.OnClass op (spec.first args.now)) }

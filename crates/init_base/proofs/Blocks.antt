@@ -1,5 +1,6 @@
 -- What is judged in blocks is judged of all bytes.
-use Rattle.std.proofs.Common.{◌≡◌, ℕ, zero, suc, ◌≤◌, Bool, true, false, ◌&&◌, List, [], ◌∷◌, take, drop, refl, sym, ap, ◌∙◌, arith}
+use Rattle.std.proofs.Common.{◌≡◌, ℕ, zero, suc, ◌≤◌, Bool, true, false, ◌&&◌, List, [], ◌∷◌, take, drop, slice_index, length, ◌<◌, refl, sym, ap, ◌∙◌, arith}
+use Rattle.std.proofs.Math.Bool.{and-true}
 use Rattle.std.proofs.lemmas.List.{take-append-drop}
 use Rattle.std.proofs.lemmas.List.Folds.{list_all-append}
 use Rattle.std.specs.List.{list_all}
@@ -30,3 +31,12 @@ module _ (holds : ℕ → Bool) where
   all_of_ends (b ∷ bytes) (suc front) (suc end) meet =
       and_assoc (holds b) (list_all holds (take front bytes)) (list_all holds (drop end bytes))
       ∙ ap (λ t. holds b && t) (all_of_ends bytes front end (omega (arith, meet)))
+
+  -- of a front and the byte behind it
+  pub all_of_next : (bytes : List ℕ) (place : ℕ) → place < length bytes
+      → (list_all holds (take place bytes) && holds (slice_index bytes place)) ≡ list_all holds (take (suc place) bytes)
+  all_of_next [] place is = absurd (omega (arith, is))
+  all_of_next (b ∷ bytes) zero is = sym (and-true (holds b))
+  all_of_next (b ∷ bytes) (suc place) is =
+      and_assoc (holds b) (list_all holds (take place bytes)) (holds (slice_index bytes place))
+      ∙ ap (λ t. holds b && t) (all_of_next bytes place (omega (arith, is)))

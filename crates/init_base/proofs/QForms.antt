@@ -10,6 +10,7 @@ use Rattle.std.specs.Str.{bytes_eq}
 use Rattle.std.proofs.lemmas.Bool.Decides.{nat_tests}
 use Rattle.std.specs.Cmp.Lexicographic.{same_text, other_text}
 use Rattle.init_base.specs.Quoted.{is_byte, is_plain, hex_byte, quoted_byte, quoted, hex_value, between, spelled_from, spelled, unquoted}
+use Rattle.std.specs.Cmp.{first_so, second_so}
 
 -- ---- what a q form spells
 
@@ -99,14 +100,6 @@ cut (b ∷ bytes) text rest e =
           (e ∙ ap (flat_map quoted_byte) (sym spelling) ∙ flat_map-append quoted_byte (b ∷ bytes) (spelled rest)),
     )
 
-and_right : (a b : Bool) → (a && b) ≡ true → b ≡ true
-and_right true b h = h
-and_right false b h = cc
-
-and_left : (a b : Bool) → (a && b) ≡ true → a ≡ true
-and_left true b h = refl
-and_left false b h = cc
-
 -- no text is spelled where behind the bytes of one no byte is spelled
 pub no_text : (word bytes rest text : List ℕ) → word ≡ flat_map quoted_byte bytes ++ rest → rest ≢ []
     → ((byte : ℕ) (behind : List ℕ) → byte < 256 → rest ≢ quoted_byte byte ++ behind)
@@ -117,9 +110,9 @@ no_text word bytes rest text there some none all e = behind (cut bytes text rest
     behind ([], whole, left) = some left
     behind (b ∷ more, whole, left) =
         let more_bytes : list_all is_byte (b ∷ more) ≡ true =
-        and_right (list_all is_byte bytes) (list_all is_byte (b ∷ more))
+        second_so (list_all is_byte bytes) (list_all is_byte (b ∷ more))
         (sym (list_all-append is_byte bytes (b ∷ more)) ∙ ap (list_all is_byte) (sym whole) ∙ all) in
-        none b (flat_map quoted_byte more) (ltb-true b 256 (and_left (is_byte b) (list_all is_byte more) more_bytes)) left
+        none b (flat_map quoted_byte more) (ltb-true b 256 (first_so (is_byte b) (list_all is_byte more) more_bytes)) left
 
 -- a byte more
 pub one_more : (word bytes rest : List ℕ) (byte : ℕ) (behind : List ℕ) → word ≡ flat_map quoted_byte bytes ++ rest
@@ -139,15 +132,15 @@ more_bytes bytes byte all small =
 pub own_form : (word : List ℕ) → list_all is_plain word ≡ true → flat_map quoted_byte word ≡ word
 own_form [] all = refl
 own_form (b ∷ word) all =
-    let plain : is_plain b ≡ true = and_left (is_plain b) (list_all is_plain word) all in
-    rw plain (ap (λ w. b ∷ w) (own_form word (and_right (is_plain b) (list_all is_plain word) all)))
+    let plain : is_plain b ≡ true = first_so (is_plain b) (list_all is_plain word) all in
+    rw plain (ap (λ w. b ∷ w) (own_form word (second_so (is_plain b) (list_all is_plain word) all)))
 
 plain_bytes : (word : List ℕ) → list_all is_plain word ≡ true → list_all is_byte word ≡ true
 plain_bytes [] all = refl
 plain_bytes (b ∷ word) all =
-    let plain : is_plain b ≡ true = and_left (is_plain b) (list_all is_plain word) all in
+    let plain : is_plain b ≡ true = first_so (is_plain b) (list_all is_plain word) all in
     let small : is_byte b ≡ true = grind (arith, nat_tests) in
-    rw small (plain_bytes word (and_right (is_plain b) (list_all is_plain word) all))
+    rw small (plain_bytes word (second_so (is_plain b) (list_all is_plain word) all))
 
 pub empty_word : (word : List ℕ) → word ≡ [] → unquoted word ≡ None
 unfolding unquoted quoted

@@ -3,7 +3,7 @@ use Rattle.std.proofs.Common.{◌≡◌, ◌≢◌, ℕ, suc, zero, ◌+◌, ◌
 use Rattle.std.specs.Prelude.{reverse, Option, IfSome}
 use Rattle.init_base.specs.declared.adapters.links.Standing.{Standing}
 use Rattle.std.specs.List.{list_all, onto_first, position, position_or_len, slice_split}
-use Rattle.std.proofs.lemmas.Bool.{cases_lt}
+use Rattle.std.proofs.lemmas.Bool.{cases_lt, and_parts}
 use Rattle.std.proofs.lemmas.List.{reverse-append, reverse-reverse, take_rest, take-append-le, take-take}
 use Rattle.std.proofs.Math.Seq.{take-length}
 use Rattle.std.proofs.lemmas.List.Elements.{All-from_get_or}
@@ -58,17 +58,13 @@ parts_whole (byte ∷ path) =
       | false ↦ λ e. onto_whole byte (parts_of path) e (parts_whole path)
     ] refl
 
-both : (a b : Bool) → (a && b) ≡ true → (a ≡ true) × (b ≡ true)
-both true b h = (refl, h)
-both false b h = cc
-
 all_both : (xs ys : List (List ℕ)) → list_all has_no_slash xs ≡ true → list_all has_no_slash ys ≡ true → list_all has_no_slash (xs ++ ys) ≡ true
 all_both xs ys h k = rw (list_all-append has_no_slash xs ys, h) k
 
 all_reversed : (xs : List (List ℕ)) → list_all has_no_slash xs ≡ true → list_all has_no_slash (reverse xs) ≡ true
 all_reversed [] h = refl
 all_reversed (x ∷ xs) h =
-    let p = both (has_no_slash x) (list_all has_no_slash xs) h in
+    let p = and_parts (has_no_slash x) (list_all has_no_slash xs) h in
     rw (reverse-append (x ∷ []) xs) (all_both (reverse xs) (x ∷ []) (all_reversed xs p.1) (rw p.0 refl))
 
 -- the parts that are left, the next one last
@@ -89,7 +85,7 @@ take_below : (n : ℕ) (place : List (List ℕ)) → is_below_root place ≡ tru
 take_below zero place h = refl
 take_below (suc n) [] h = refl
 take_below (suc n) (name ∷ place) h =
-    let p = both (is_name name) (is_below_root place) h in
+    let p = and_parts (is_name name) (is_below_root place) h in
     rw p.0 (take_below n place p.1)
 
 pub above_below : (place : List (List ℕ)) → is_below_root place ≡ true → is_below_root (above place) ≡ true

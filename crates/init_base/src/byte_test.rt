@@ -1,6 +1,6 @@
 //! Tests of all bytes of a list, many at a time.
 
-ghost use Rattle.std.specs.Prelude.{◌≡◌, ◌+◌, ◌≤◌, ℕ, Bool, length};
+ghost use Rattle.std.specs.Prelude.{◌≡◌, ◌+◌, ◌≤◌, ℕ, Bool, length, take};
 ghost use Rattle.std.specs.List.{list_all};
 
 /// A test of one byte.
@@ -27,11 +27,10 @@ pub(crate) fn all_hold<T: ByteTest>(bytes: &[u8]) -> bool
     }
     let mut rest = bytes;
     while rest.len() > 32 {
-        let (front, behind) = rest.split_at(16);
-        if !hold_in_block::<T, 16>(front) {
+        if !hold_in_front::<T, 16>(rest) {
             return false;
         }
-        rest = behind;
+        rest = &rest[16..];
     }
     hold_in_ends::<T, 16>(rest)
 }
@@ -54,19 +53,18 @@ fn hold_in_ends<T: ByteTest, const N: usize>(bytes: &[u8]) -> bool
     requires most { length bytes.now ≤ N + N }
     ensures { result ≡ list_all T.holds bytes.now }
 {
-    hold_in_block::<T, N>(&bytes[..N]) & hold_in_block::<T, N>(&bytes[bytes.len() - N..])
+    hold_in_front::<T, N>(bytes) & hold_in_front::<T, N>(&bytes[bytes.len() - N..])
 }
 
-/// `all_hold`, of `N` bytes. They are tested together.
-fn hold_in_block<T: ByteTest, const N: usize>(bytes: &[u8]) -> bool
-    requires { length bytes.now ≡ N }
-    ensures { result ≡ list_all T.holds bytes.now }
+/// `all_hold`, of the first `N` bytes. They are tested together.
+#[tactic(auto, using(crate::proofs::Blocks::all_of_next))]
+fn hold_in_front<T: ByteTest, const N: usize>(bytes: &[u8]) -> bool
+    requires { N ≤ length bytes.now }
+    ensures { result ≡ list_all T.holds (take N bytes.now) }
 {
-    let mut block = [0; N];
-    block.copy_from_slice(bytes);
     let mut all = true;
-    for byte in &block {
-        all = all & T::holds_of(*byte);
+    for place in 0..N {
+        all = all & T::holds_of(bytes[place]);
     }
     all
 }

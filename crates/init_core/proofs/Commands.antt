@@ -1,9 +1,8 @@
--- Commands that are found, expanded, and run.
-use Rattle.std.proofs.Common.{◌≡◌, ℕ, true, false, List, Option, Some, None, Result, OnOk, refl, sym, ap, ◌∙◌, subst, append-nil, codes}
+-- Commands that are found, and run.
+use Rattle.std.proofs.Common.{◌≡◌, ℕ, true, false, List, Option, Some, None, Result, OnOk, sym, ap, ◌∙◌, subst, codes}
 use Rattle.std.specs.List.{slice_get}
 use Rattle.std.specs.Option.{is_some}
-use Rattle.std.proofs.lemmas.Result.{on_ok_weaker}
-use Rattle.init_machine.specs.Changes.{nothing, each}
+use Rattle.init_machine.specs.Changes.{each}
 use Rattle.init_machine.specs.Effect.{effect}
 use Rattle.init_machine.specs.Props.{Props}
 use Rattle.init_machine.specs.Reaping.{restarting}
@@ -13,9 +12,8 @@ use Rattle.init_machine.specs.declared.action.Command.{Command}
 use Rattle.init_machine.specs.declared.service.ServiceDef.{ServiceDef}
 use Rattle.machine_parts.specs.Parts.{Does, state_of, rules_of}
 use Rattle.machine_parts.specs.declared.parts.Parts.{Parts}
-use Rattle.builtins.specs.Asked.{AskedView, asked_by}
 use Rattle.init_core.specs.Reaped.{onrestart_of}
-use Rattle.machine_parts.proofs.Doing.{does_plain, does_both, does_then, does_no_more}
+use Rattle.machine_parts.proofs.Doing.{does_then, does_no_more}
 
 pub same_some : {T : Type 0} (found : Option T) (a b : T) → Some a ≡ found → found ≡ Some b → a ≡ b
 same_some found a b first second = cc
@@ -24,10 +22,6 @@ pub not_both : {T : Type 0} (found : Option T) (a : T) → None ≡ found → fo
 not_both found a first second = cc
 
 module _ {S : Type 0} {meaning : S → Props} {told : S → Option (List (List ℕ × List ℕ))} where
-  -- a store that was read means the same
-  pub does_read : (p : Parts S) (s : S) → meaning s ≡ meaning p.store → told s ≡ told p.store → Does meaning told p (record p { store = s }) (nothing (state_of meaning p))
-  does_read p s same tells = does_plain (ap (λ (props : Props). record (state_of meaning p) { props = props }) same) (sym (append-nil p.outputs)) tells refl refl refl
-
   -- the state of a service was told
   tells_it : (old mid : Parts S) (name other word : List ℕ) → name ≡ other → Does meaning told old mid (tell (rules_of old) name word (state_of meaning old))
       → Does meaning told old mid (tell (rules_of old) other word (state_of meaning old))
@@ -51,11 +45,9 @@ module _ {S : Type 0} {meaning : S → Props} {told : S → Option (List (List �
       (tells_it old new name service.name (codes "restarting") (named ∙ ap (λ (s : ServiceDef). s.name) is) first) (sym over)
 
 module _ {S : Type 0} (meaning : S → Props) (told : S → Option (List (List ℕ × List ℕ))) where
-  -- a command that was found and expanded runs
-  pub runs_found : {T E : Type 0} (p new : Parts S) (s : S) (r : Result T E) (asked : AskedView) (found command : Command)
-      → found ≡ command → meaning s ≡ meaning p.store → told s ≡ told p.store → asked ≡ asked_by found (meaning p.store)
-      → ((c : Command) → asked ≡ asked_by c (meaning s) → OnOk r (Does meaning told (record p { store = s }) new (effect (rules_of p) c (state_of meaning (record p { store = s })))))
+  -- a command that was found runs, by another owner of it
+  pub runs_found : {T E : Type 0} (p new : Parts S) (r : Result T E) (shared found command : Command) → shared ≡ found → found ≡ command
+      → OnOk r (Does meaning told p new (effect (rules_of p) shared (state_of meaning p)))
       → OnOk r (Does meaning told p new (effect (rules_of p) command (state_of meaning p)))
-  runs_found p new s r asked found command is same tells asks runs =
-      let asks_it : asked ≡ asked_by command (meaning s) = asks ∙ ap (λ (c : Command). asked_by c (meaning p.store)) is ∙ ap (asked_by command) (sym same) in
-      on_ok_weaker r (λ done. does_both (λ rules now. effect rules command now) (does_read p s same tells) done) (runs command asks_it)
+  runs_found p new r shared found command same is =
+      subst (λ (c : Command). OnOk r (Does meaning told p new (effect (rules_of p) c (state_of meaning p)))) (same ∙ is)

@@ -4,7 +4,7 @@ ghost use Rattle.std.specs.Prelude.{◌≡◌, OnOk};
 ghost use Rattle.init_machine.specs.Step as spec;
 ghost use Rattle.machine_parts.specs.Parts.{Does, actions_of, rules_of, state_of};
 
-use builtins::{ask, run};
+use builtins::run;
 use init_base::NoMemory;
 use init_machine::{Output, PropStore};
 use machine_parts::Parts;
@@ -22,8 +22,8 @@ fn take_and_run<S: PropStore>(alloc: Global, parts: &mut Parts<S>) -> Result<(),
     let Some(place) = next else {
         return parts.outputs.push(Output::Idle);
     };
-    let asked = ask(alloc, &mut parts.store, parts.queue.command(place))?;
-    run(alloc, parts, asked)
+    let command = parts.queue.command(place).share()?;
+    run(alloc, parts, command)
 }
 
 /// One command runs, unless the machine waits.

@@ -31,16 +31,15 @@ impl<S: PropStore> Core<S> {
         &mut parts.store
     }
 
-    /// The outputs of the last input, which leave the core. It takes no memory.
-    pub fn take_outputs(&mut self) -> List<Output>
-        ensures outputs { result ≡ self.old.outputs }
-        ensures same { self.new ≡ record self.old { outputs = [] } }
+    /// Exchanges the outputs of the last input for others that nobody needs any more: those of the next input take their memory.
+    pub fn swap_outputs(&mut self, outputs: &mut List<Output>)
+        ensures outputs { outputs.new ≡ self.old.outputs }
+        ensures same { self.new ≡ record self.old { outputs = outputs.old } }
     {
-        let none = List::new(self.alloc);
-        mem::replace(&mut self.parts.outputs, none)
+        mem::swap(&mut self.parts.outputs, outputs);
     }
 
-    /// Gives back outputs that nobody needs any more: those of the next input take their memory.
+    /// Gives outputs that nobody needs any more: those of the next input take their memory.
     pub fn reuse(&mut self, mut outputs: List<Output>)
         ensures { self.new ≡ record self.old { outputs = [] } }
     {

@@ -10,7 +10,7 @@ ghost use Rattle.init_machine.specs.declared.service.ServiceDef.{ServiceDef as S
 ghost use Rattle.machine_parts.specs.Parts.{Does, rules_of, state_of};
 ghost use Rattle.init_core.specs.Reaped.{onrestart_of};
 
-use builtins::{ask, run};
+use builtins::run;
 use init_base::NoMemory;
 use init_machine::{Command, PropStore};
 use machine_parts::{Parts, tell};
@@ -51,8 +51,8 @@ fn run_at<S: PropStore>(
     let Some(command) = onrestart_command(&parts.services, at, place) else {
         return Ok(());
     };
-    let asked = ask(alloc, &mut parts.store, command)?;
-    run(alloc, parts, asked)
+    let command = command.share()?;
+    run(alloc, parts, command)
 }
 
 /// The commands of the `onrestart` of the service at a place run, until the machine is over.

@@ -25,7 +25,6 @@ use property_service::{AreaName, Closed, Desk, FinishRefusal};
 use script_lang::Ask;
 use std::alloc::Global;
 use std::marker::Model;
-use std::mem;
 
 /// The machine. After a call that answers `NoMemory` each later one does.
 #[derive(Drop)]
@@ -128,13 +127,9 @@ impl<'a, N: AreaName> Machine<'a, N> {
         self.spent = true;
         let place = asker(&input).0 as usize;
         let reader = lend(&mut self.readers, place)?;
-        let (reader, entry) = take_entry(&mut self.desk, reader, input)?;
+        self.last.input = input;
+        let reader = take_entry(&mut self.desk, reader, &mut self.last)?;
         self.readers[place] = Some(reader);
-        let Entry {
-            input: _input,
-            outputs,
-        } = mem::replace(&mut self.last, entry);
-        self.desk.reuse(outputs);
         self.spent = false;
         Ok(())
     }
@@ -258,26 +253,26 @@ fn asker(input: &Input) -> ClientId
     }
 }
 
-/// Takes an input of the reader's client.
+/// Takes the input of an entry, of the reader's client. Its outputs take the place of the entry's.
 fn take_entry<N: AreaName>(
     desk: &mut Desk<'_, N>,
     reader: Reader,
-    input: Input,
-) -> Result<(Reader, Entry), NoMemory>
+    entry: &mut Entry,
+) -> Result<Reader, NoMemory>
     requires area { reader.table ≡ N.area }
-    requires asker { reader.view.who ≡ asker_of input }
-    requires declared { MayAsk reader.view.opening input }
-    ensures taken { IfOk result (λ taken. (taken.1 ≡ next_entry desk.old input)
-        × ComesBackFrom desk.old.history (next_entry desk.old input) reader taken.0) }
-    ensures history { OnOk result (desk.new.history ≡ desk.old.history ++ next_entry desk.old input ∷ []) }
+    requires asker { reader.view.who ≡ asker_of entry.old.input }
+    requires declared { MayAsk reader.view.opening entry.old.input }
+    ensures entry { OnOk result (entry.new ≡ next_entry desk.old entry.old.input) }
+    ensures reader { IfOk result (λ back. ComesBackFrom desk.old.history (next_entry desk.old entry.old.input) reader back) }
+    ensures history { OnOk result (desk.new.history ≡ desk.old.history ++ next_entry desk.old entry.old.input ∷ []) }
     ensures opening { OnOk result (desk.new.opening ≡ desk.old.opening) }
     ensures ready { OnOk result (desk.new.spent ≡ false) }
 {
-    let (back, entry) = desk.take(reader, input);
-    let Ok(entry) = entry else {
+    let (back, taken) = desk.take(reader, entry);
+    let Ok(()) = taken else {
         return Err(NoMemory);
     };
-    Ok((back.ok_or(NoMemory)?, entry))
+    back.ok_or(NoMemory)
 }
 
 /// Takes a client's reader out of its place. It isn't there where memory ran out while it was away.

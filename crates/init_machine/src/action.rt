@@ -1,7 +1,9 @@
 //! Actions of rc files: what triggers them, and their commands (AOSP, init's README, "Actions").
 
+ghost use Rattle.std.specs.Prelude.{◌≡◌, IfOk};
+
 use crate::word::Word;
-use init_base::{List, SharedList, Text};
+use init_base::{List, NoMemory, SharedList, Text};
 
 /// A property trigger `property:NAME=VALUE`. No value stands for `*`.
 #[derive(Debug, Drop)]
@@ -17,6 +19,20 @@ pub struct Command {
     pub line: u32,
     pub word: Word,
     pub args: SharedList<Text>,
+}
+
+impl Command {
+    /// The same command for another owner. It takes no memory, and fails only where as many owners share a part of it as can be counted.
+    pub fn share(&self) -> Result<Command, NoMemory>
+        ensures { IfOk result (λ shared. shared ≡ self.now) }
+    {
+        Ok(Command {
+            file: self.file.share()?,
+            line: self.line,
+            word: self.word,
+            args: self.args.share()?,
+        })
+    }
 }
 
 /// An `on` section, at the line of its header.

@@ -1,6 +1,6 @@
 -- Where an entry of a legal history stores a property, the saved pairs have a text at its end.
 use Rattle.std.proofs.Common.{◌≡◌, ℕ, Bool, true, false, ◌&&◌, ◌||◌, IsTrue, List, [], ◌∷◌, refl, sym, ap, ◌∙◌, subst, ⊎_elim}
-use Rattle.std.proofs.lemmas.Bool.{cases_Bool}
+use Rattle.std.proofs.lemmas.Bool.{cases_Bool, and_from}
 use Rattle.std.specs.List.{list_all}
 use Rattle.init_machine.specs.History.{LegalFrom, Legal, after, after_from, inputs_of}
 use Rattle.init_machine.specs.Pairs.{is_before}
@@ -94,17 +94,13 @@ same_order [] = refl
 same_order (p ∷ []) = refl
 same_order (p ∷ q ∷ rest) = ap (λ b. is_before p.name q.name && b) (same_order (q ∷ rest))
 
-both : (a b : Bool) → a ≡ true → b ≡ true → (a && b) ≡ true
-both true b h k = k
-both false b h k = h
-
 pub stored_are_saved : (o : Opening) (history : List Entry) (saved : List Pair) → IsWellFormed o.config → Legal o history
     → saved ≡ (after o (inputs_of history)).saved → IsTrue (stored_in history) → IsTrue (are_saved saved)
 stored_are_saved o history saved well legal same stored =
     let all = (after o (inputs_of history)).saved in
     let saving = saving_from o.config o.policy (first_state o) history legal stored in
     subst (λ (pairs : List Pair). IsTrue (are_saved pairs)) (sym same)
-    (both (list_all is_saved all) (names_ascend all) (saved_pairs_print o history well legal saving)
+    (and_from (list_all is_saved all) (names_ascend all) (saved_pairs_print o history well legal saving)
     (same_order all ∙ saved_pairs_ascend o history well legal))
 
 pub stored_are_typed : (o : Opening) (history : List Entry) (policy : PolicyLines) (saved : List Pair) → IsWellFormed o.config → Legal o history

@@ -1,7 +1,7 @@
 -- The lines of a text, and their fields: what a text of lines is split into again.
 use Rattle.std.proofs.Common.{◌≡◌, ℕ, Bool, true, false, not, ◌&&◌, ◌==◌, cond, List, [], ◌∷◌, ◌++◌, append_assoc, refl, ap, ◌∙◌}
 use Rattle.std.specs.List.{list_all, AllByRecursion}
-use Rattle.std.proofs.lemmas.Bool.{false≢true}
+use Rattle.std.proofs.lemmas.Bool.{false≢true, and_parts}
 use Rattle.init_trace.specs.Line.{spaced, line_text, lines_text}
 
 -- a byte of a field: neither a space nor an LF
@@ -37,17 +37,13 @@ abbrev pub split : List ℕ → List (List (List ℕ))
 split [] = []
 split (byte ∷ rest) = onto byte (split rest)
 
-both : (a b : Bool) → (a && b) ≡ true → (a ≡ true) × (b ≡ true)
-both true b h = (refl, h)
-both false b h = absurd (false≢true h)
-
 is_false : (a : Bool) → not a ≡ true → a ≡ false
 is_false true h = absurd (false≢true h)
 is_false false h = refl
 
 onto_inner : (byte : ℕ) (field : List ℕ) (line : List (List ℕ)) (lines : List (List (List ℕ))) → is_inner byte ≡ true → onto byte ((field ∷ line) ∷ lines) ≡ ((byte ∷ field) ∷ line) ∷ lines
 onto_inner byte field line lines h =
-    let p = both (not (byte == 10)) (not (byte == 32)) h in
+    let p = and_parts (not (byte == 10)) (not (byte == 32)) h in
     let lf : (byte == 10) ≡ false = is_false (byte == 10) p.0 in
     let space : (byte == 32) ≡ false = is_false (byte == 32) p.1 in
     rw (lf, space) refl
@@ -55,20 +51,20 @@ onto_inner byte field line lines h =
 split_field : (field rest : List ℕ) (line : List (List ℕ)) (lines : List (List (List ℕ))) → is_field field ≡ true → split rest ≡ ([] ∷ line) ∷ lines → split (field ++ rest) ≡ (field ∷ line) ∷ lines
 split_field [] rest line lines h e = e
 split_field (byte ∷ field) rest line lines h e =
-    let p = both (is_inner byte) (is_field field) h in
+    let p = and_parts (is_inner byte) (is_field field) h in
     ap (onto byte) (split_field field rest line lines p.1 e) ∙ onto_inner byte field line lines p.0
 
 split_spaced : (fields : List (List ℕ)) (rest : List ℕ) → are_fields fields ≡ true → split (spaced fields ++ 10 ∷ rest) ≡ ([] ∷ fields) ∷ split rest
 split_spaced [] rest h = refl
 split_spaced (field ∷ fields) rest h =
-    let p = both (is_field field) (are_fields fields) h in
+    let p = and_parts (is_field field) (are_fields fields) h in
     ap (λ t. new_field (split t)) (append_assoc field (spaced fields) (10 ∷ rest))
     ∙ ap new_field (split_field field (spaced fields ++ 10 ∷ rest) fields (split rest) p.0 (split_spaced fields rest p.1))
 
 split_line : (line : List (List ℕ)) (rest : List ℕ) → IsLine line → split (line_text line ++ rest) ≡ line ∷ split rest
 split_line [] rest h = absurd h
 split_line (field ∷ fields) rest h =
-    let p = both (is_field field) (are_fields fields) h in
+    let p = and_parts (is_field field) (are_fields fields) h in
     ap split (append_assoc (field ++ spaced fields) (10 ∷ []) rest ∙ append_assoc field (spaced fields) (10 ∷ rest))
     ∙ split_field field (spaced fields ++ 10 ∷ rest) fields (split rest) p.0 (split_spaced fields rest p.1)
 

@@ -3,7 +3,7 @@ use Rattle.std.proofs.Common.{◌≡◌, ◌≢◌, ℕ, suc, ◌≤◌, Bool, t
 use Rattle.std.specs.Prelude.{IsTrue, nat_le}
 use Rattle.std.specs.List.{list_all, list_any}
 use Rattle.std.specs.Str.{bytes_eq}
-use Rattle.std.proofs.lemmas.Bool.{le-leb}
+use Rattle.std.proofs.lemmas.Bool.{le-leb, and_from}
 use Rattle.std.proofs.lemmas.List.Sums.{list_all-from_AllPass}
 use Rattle.std.proofs.lemmas.Slice.Eq.{bytes_eq-Decides}
 use native.Mathlib.Omega.{arith}
@@ -19,20 +19,7 @@ use Rattle.script_lang.specs.declared.script.Script.{Script}
 use Rattle.job_reader.specs.Prepared.{IsFit, IsJobFor}
 use Rattle.job_reader.specs.declared.preparing.Job.{Job}
 use Rattle.job_reader.specs.declared.preparing.TreeParts.{TreeParts}
-
--- ---- both of two tests
-
-and_left : (a b : Bool) → (a && b) ≡ true → a ≡ true
-and_left true b holds = refl
-and_left false b holds = cc
-
-and_right : (a b : Bool) → (a && b) ≡ true → b ≡ true
-and_right true b holds = holds
-and_right false b holds = cc
-
-both : (a b : Bool) → a ≡ true → b ≡ true → (a && b) ≡ true
-both true b one other = other
-both false b one other = cc
+use Rattle.std.specs.Cmp.{first_so, second_so}
 
 -- ---- texts that differ
 
@@ -70,7 +57,7 @@ not_false false is = refl
 distinct : {X : Type 0} (text_of : X → List ℕ) (xs : List X) → Differ text_of xs → are_distinct (map text_of xs) ≡ true
 distinct text_of [] differ = refl
 distinct text_of (x ∷ xs) differ =
-    both _ _ (not_false _ (none_same text_of (text_of x) xs (pairs_first (λ a b. text_of a ≢ text_of b) x xs differ)))
+    and_from _ _ (not_false _ (none_same text_of (text_of x) xs (pairs_first (λ a b. text_of a ≢ text_of b) x xs differ)))
     (distinct text_of xs (pairs_rest (λ a b. text_of a ≢ text_of b) x xs differ))
 
 -- ---- plans
@@ -84,15 +71,15 @@ moments plans all =
 saved_names : (saved : List Pair) → list_all is_saved saved ≡ true → list_all (λ p. is_persistent p.name) saved ≡ true
 saved_names [] all = refl
 saved_names (pair ∷ rest) all =
-    both _ _ (and_right _ _ (and_left _ _ (and_left _ (list_all is_saved rest) all)))
-    (saved_names rest (and_right (is_saved pair) _ all))
+    and_from _ _ (second_so _ _ (first_so _ _ (first_so _ (list_all is_saved rest) all)))
+    (saved_names rest (second_so (is_saved pair) _ all))
 
 saved_ascend : (saved : List Pair) → names_ascend saved ≡ true → ascend saved ≡ true
 saved_ascend [] all = refl
 saved_ascend (pair ∷ []) all = refl
 saved_ascend (pair ∷ next ∷ rest) all =
-    both _ _ (and_left (is_before pair.name next.name) _ all)
-    (saved_ascend (next ∷ rest) (and_right (is_before pair.name next.name) _ all))
+    and_from _ _ (first_so (is_before pair.name next.name) _ all)
+    (saved_ascend (next ∷ rest) (second_so (is_before pair.name next.name) _ all))
 
 -- ---- the configuration of a job
 
@@ -112,8 +99,8 @@ well_formed script parts saved job is config conditions pairs = record {
   names = ap (λ s. are_distinct (map (λ service. service.name) s)) is.services ∙ config.names;
   plans = ap (λ p. list_all is_well_formed_plan p) is.plans ∙ moments script.plans conditions.moments;
   paths = ap (λ p. are_distinct (map (λ plan. plan.path) p)) is.plans ∙ distinct (λ plan. plan.path) script.plans conditions.plans_differ;
-  saved = ap (λ s. list_all (λ p. is_persistent p.name) s) is.saved_is ∙ saved_names saved (and_left _ (names_ascend saved) pairs);
-  order = ap ascend is.saved_is ∙ saved_ascend saved (and_right (list_all is_saved saved) _ pairs);
+  saved = ap (λ s. list_all (λ p. is_persistent p.name) s) is.saved_is ∙ saved_names saved (first_so _ (names_ascend saved) pairs);
+  order = ap ascend is.saved_is ∙ saved_ascend saved (second_so (list_all is_saved saved) _ pairs);
   domains = ap (λ d. nat_le (length d) 64) is.domains ∙ few script.clients conditions.few_clients;
 }
 

@@ -14,22 +14,19 @@ use Rattle.lint_findings.specs.declared.finding.HintKind.TheVariants as hint
 use Rattle.lint_findings.specs.declared.finding.WarningKind.{WarningKind}
 use Rattle.lint_findings.specs.declared.finding.WarningKind.TheVariants as warning
 use Rattle.lint_findings.specs.declared.name.TheConstants.{KINDS}
+use Rattle.std.proofs.lemmas.Bool.{and_parts}
 
 if_some : (test : Bool) (first second : Option About) (value : About) → cond test first second ≡ Some value
     → ((test ≡ true) × (first ≡ Some value)) ⊎ ((test ≡ false) × (second ≡ Some value))
 if_some true first second value e = inl (refl, e)
 if_some false first second value e = inr (refl, e)
 
-both : (a b : Bool) → (a && b) ≡ true → (a ≡ true) × (b ≡ true)
-both true b h = (refl, h)
-both false b h = cc
-
 -- what stands beside a name is what has the name
 chosen : (table : List (List ℕ × About)) (name : List ℕ) (a : About)
     → list_all (λ row. bytes_eq row.0 (about_text row.1)) table ≡ true → choose table name ≡ Some a → name ≡ about_text a
 chosen [] name a h e = cc
 chosen (row ∷ rows) name a h e =
-    let p = both (bytes_eq row.0 (about_text row.1)) (list_all (λ row. bytes_eq row.0 (about_text row.1)) rows) h in
+    let p = and_parts (bytes_eq row.0 (about_text row.1)) (list_all (λ row. bytes_eq row.0 (about_text row.1)) rows) h in
     elim (if_some (bytes_eq row.0 name) (Some row.1) (choose rows name) a e) [
       | inl is ↦
           let same : row.1 ≡ a = let found = is.1 in cc in

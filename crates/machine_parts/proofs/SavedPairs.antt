@@ -1,7 +1,7 @@
 -- Pairs that are put in their places, or taken away.
 use Rattle.std.proofs.Common.{◌≡◌, ℕ, ◌+◌, Bool, true, false, not, ◌&&◌, ◌||◌, cond, List, [], ◌∷◌, set, Some, Result, Ok, Err, OnOk, OnErr, refl, sym, ap, ◌∙◌, slice_get, if◌then◌else◌}
 use Rattle.std.proofs.Math.Numerals.{one-add}
-use Rattle.std.proofs.lemmas.Bool.{and_parts}
+use Rattle.std.proofs.lemmas.Bool.{and_parts, and_from}
 use Rattle.std.specs.List.{insert, list_all, position_or_len}
 use Rattle.std.specs.Str.{bytes_eq}
 use Rattle.init_machine.specs.Pairs.{is_before, pair, with_saved, without_name}
@@ -54,21 +54,18 @@ inserted (p ∷ rest) name value other = by (bytes_eq p.name name) (is_before na
 abbrev pub are_persistent : List Pair → Bool
 are_persistent pairs = list_all (λ p. is_persistent p.name) pairs
 
-both : (a b : Bool) → a ≡ true → b ≡ true → (a && b) ≡ true
-both a b is also = rw is also
-
 -- what is saved stays persistent
 pub put_persistent : (pairs : List Pair) (name value : List ℕ) → are_persistent pairs ≡ true → is_persistent name ≡ true → are_persistent (with_saved pairs name value) ≡ true
-put_persistent [] name value all this = both (is_persistent name) true this refl
+put_persistent [] name value all this = and_from (is_persistent name) true this refl
 put_persistent (p ∷ rest) name value all this =
     let parts = and_parts (is_persistent p.name) (are_persistent rest) all in
     by (bytes_eq p.name name) (is_before name p.name) parts.1
-    (both (is_persistent p.name) (are_persistent (with_saved rest name value)) parts.0 (put_persistent rest name value parts.1 this))
+    (and_from (is_persistent p.name) (are_persistent (with_saved rest name value)) parts.0 (put_persistent rest name value parts.1 this))
   where
     by : (has before : Bool) → are_persistent rest ≡ true → are_persistent (p ∷ with_saved rest name value) ≡ true
         → are_persistent (if has then pair name value ∷ rest else (if before then pair name value ∷ p ∷ rest else p ∷ with_saved rest name value)) ≡ true
-    by true before others more = both (is_persistent name) (are_persistent rest) this others
-    by false true others more = both (is_persistent name) (are_persistent (p ∷ rest)) this all
+    by true before others more = and_from (is_persistent name) (are_persistent rest) this others
+    by false true others more = and_from (is_persistent name) (are_persistent (p ∷ rest)) this all
     by false false others more = more
 
 pub without_persistent : (pairs : List Pair) (name : List ℕ) → are_persistent pairs ≡ true → are_persistent (without_name pairs name) ≡ true
@@ -76,7 +73,7 @@ without_persistent [] name all = refl
 without_persistent (p ∷ rest) name all =
     let parts = and_parts (is_persistent p.name) (are_persistent rest) all in
     let others = without_persistent rest name parts.1 in
-    by (bytes_eq p.name name) others (both (is_persistent p.name) (are_persistent (without_name rest name)) parts.0 others)
+    by (bytes_eq p.name name) others (and_from (is_persistent p.name) (are_persistent (without_name rest name)) parts.0 others)
   where
     by : (has : Bool) → are_persistent (without_name rest name) ≡ true → are_persistent (p ∷ without_name rest name) ≡ true
         → are_persistent (cond (not has) (p ∷ without_name rest name) (without_name rest name)) ≡ true

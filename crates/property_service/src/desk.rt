@@ -19,7 +19,7 @@ ghost use Rattle.property_service.specs.Service.{Agrees, MayAsk, has_seat, next_
 use crate::area_name::AreaName;
 use init_base::{ClientId, List, NoMemory};
 use init_core::{Core, CoreStop};
-use init_machine::{Config, Entry, Input, Output, Pair};
+use init_machine::{Config, Entry, Output, Pair};
 use prop_contexts::Policy;
 use property_area::{AreaWriter, Reader};
 use std::alloc::Global;
@@ -94,61 +94,62 @@ impl<'a, N: AreaName> Desk<'a, N> {
         self.core.store_mut().hand_out(who)
     }
 
-    /// Takes an input of the reader's client: what the documented step does. Its entry is the answer.
+    /// Takes the input of an entry, of the reader's client: what the documented step does. Its outputs take the place of the entry's,
+    /// which nobody needs any more.
     pub fn take(
         &mut self,
         reader: Reader,
-        input: Input,
-    ) -> (Option<Reader>, Result<Entry, CoreStop>)
+        entry: &mut Entry,
+    ) -> (Option<Reader>, Result<(), CoreStop>)
         requires area { reader.table ≡ N.area }
-        requires asker { reader.view.who ≡ asker_of input }
-        requires declared { MayAsk reader.view.opening input }
-        ensures entry { IfOk result.1 (λ entry. entry ≡ next_entry self.old input) }
-        ensures history { OnOk result.1 (self.new.history ≡ self.old.history ++ next_entry self.old input ∷ []) }
+        requires asker { reader.view.who ≡ asker_of entry.old.input }
+        requires declared { MayAsk reader.view.opening entry.old.input }
+        ensures entry { OnOk result.1 (entry.new ≡ next_entry self.old entry.old.input) }
+        ensures history { OnOk result.1 (self.new.history ≡ self.old.history ++ next_entry self.old entry.old.input ∷ []) }
         ensures opening { OnOk result.1 (self.new.opening ≡ self.old.opening) }
         ensures reader { OnOk result.1 (IsSomeAnd result.0
-            (λ back. ComesBackFrom self.old.history (next_entry self.old input) reader back)) }
+            (λ back. ComesBackFrom self.old.history (next_entry self.old entry.old.input) reader back)) }
         ensures seats { OnOk result.1 ((who : ℕ) → has_seat self.new.seat who ≡ has_seat self.old.seat who) }
         ensures ready { OnOk result.1 (self.new.spent ≡ false) }
         ensures spent { (result.1 ≡ Err stop.Spent) ↔ (self.old.spent ≡ true) }
-        ensures unchanged { result.1 ≡ Err stop.Spent → (self.new ≡ self.old) × (result.0 ≡ Some reader) }
+        ensures unchanged { result.1 ≡ Err stop.Spent
+            → (self.new ≡ self.old) × (result.0 ≡ Some reader) × (entry.new ≡ entry.old) }
         ensures no_memory { result.1 ≡ Err stop.NoMemory → self.new.spent ≡ true }
     {
         if self.spent {
             return (Some(reader), Err(CoreStop::Spent));
         }
-        match self.answer(reader, input) {
-            Ok((reader, entry)) => (Some(reader), Ok(entry)),
+        match self.answer(reader, entry) {
+            Ok(reader) => (Some(reader), Ok(())),
             Err(NoMemory) => (None, Err(CoreStop::NoMemory)),
         }
     }
 
-    /// Takes an input while it isn't spent.
-    fn answer(&mut self, reader: Reader, input: Input) -> Result<(Reader, Entry), NoMemory>
+    /// `take`, while it isn't spent.
+    fn answer(&mut self, reader: Reader, entry: &mut Entry) -> Result<Reader, NoMemory>
         requires ready { self.old.spent ≡ false }
         requires area { reader.table ≡ N.area }
-        requires asker { reader.view.who ≡ asker_of input }
-        requires declared { MayAsk reader.view.opening input }
-        ensures entry { IfOk result (λ answer. answer.1 ≡ next_entry self.old input) }
-        ensures history { OnOk result (self.new.history ≡ self.old.history ++ next_entry self.old input ∷ []) }
+        requires asker { reader.view.who ≡ asker_of entry.old.input }
+        requires declared { MayAsk reader.view.opening entry.old.input }
+        ensures entry { OnOk result (entry.new ≡ next_entry self.old entry.old.input) }
+        ensures history { OnOk result (self.new.history ≡ self.old.history ++ next_entry self.old entry.old.input ∷ []) }
         ensures opening { OnOk result (self.new.opening ≡ self.old.opening) }
-        ensures reader { IfOk result (λ answer. ComesBackFrom self.old.history (next_entry self.old input) reader answer.0) }
+        ensures reader { IfOk result (λ back. ComesBackFrom self.old.history (next_entry self.old entry.old.input) reader back) }
         ensures seats { OnOk result ((who : ℕ) → has_seat self.new.seat who ≡ has_seat self.old.seat who) }
         ensures ready { OnOk result (self.new.spent ≡ false) }
         ensures spent { OnErr result (self.new.spent ≡ true) }
     {
         self.spent = true;
         let who = self.core.store_mut().take_in(reader);
-        let Ok(()) = self.core.take(&input) else {
+        let Ok(()) = self.core.take(&entry.input) else {
             return Err(NoMemory);
         };
-        let outputs = self.core.take_outputs();
-        let entry = Entry { input, outputs };
+        self.core.swap_outputs(&mut entry.outputs);
         let writer = self.core.store_mut();
-        writer.note(&entry);
+        writer.note(entry);
         let reader = writer.hand_out(who)?;
         self.spent = false;
-        Ok((reader, entry))
+        Ok(reader)
     }
 
     /// Tells the reader's client how many sets are accepted, and answers it. It adds no entry.
@@ -206,8 +207,8 @@ impl<'a, N: AreaName> Desk<'a, N> {
         }
     }
 
-    /// Gives back the outputs of an entry that nobody needs any more: those of the next one take their memory.
-    pub fn reuse(&mut self, outputs: List<Output>)
+    /// Gives outputs that nobody needs any more: those of the next entry take their memory.
+    pub(crate) fn reuse(&mut self, outputs: List<Output>)
         ensures { self.new ≡ self.old }
     {
         self.core.reuse(outputs);

@@ -136,8 +136,12 @@ impl<'a, N: AreaName> Service<'a, N> {
             return (Some(reader), Err(CoreStop::Spent));
         }
         self.spent = true;
-        let (reader, taken) = self.desk.take(reader, input);
-        let Ok(entry) = taken else {
+        let mut entry = Entry {
+            input,
+            outputs: List::new(self.alloc),
+        };
+        let (reader, taken) = self.desk.take(reader, &mut entry);
+        let Ok(()) = taken else {
             return (reader, Err(CoreStop::NoMemory));
         };
         if self.history.push(entry).is_err() {

@@ -7,13 +7,9 @@ use Rattle.std.proofs.lemmas.Bool.Decides.{nat_tests}
 use Rattle.rc_parse.proofs.Firsts.{other_length}
 use Rattle.rc_lint.specs.NotModelled.{is_command_not_modelled}
 use Rattle.rc_lint.specs.declared.not_modelled.TheConstants.{COMMANDS}
+use Rattle.std.proofs.lemmas.Bool.{and_parts}
 
 -- ---- the shortest command has 7 bytes
-
-both : (one other : Bool) → (one && other) ≡ true → (one ≡ true) × (other ≡ true)
-both true true are = (refl, refl)
-both true false are = cc
-both false other are = cc
 
 neither : (one other : Bool) → one ≡ false → other ≡ false → (one || other) ≡ false
 neither false false first second = refl
@@ -28,7 +24,7 @@ none_of_longer : {A : Type 0} (text : A → List ℕ) (word : List ℕ) (known :
     → list_all (λ k. nat_le 7 (length (text k))) known ≡ true → list_any (λ k. bytes_eq (text k) word) known ≡ false
 none_of_longer text word [] short long = refl
 none_of_longer text word (k ∷ known) short long =
-    let parts = both (nat_le 7 (length (text k))) (list_all (λ k. nat_le 7 (length (text k))) known) long in
+    let parts = and_parts (nat_le 7 (length (text k))) (list_all (λ k. nat_le 7 (length (text k))) known) long in
     neither (bytes_eq (text k) word) (list_any (λ k. bytes_eq (text k) word) known)
     (longer word (text k) short parts.0) (none_of_longer text word known short parts.1)
 

@@ -2,7 +2,7 @@
 use Rattle.std.proofs.Common.{◌≡◌, ◌≢◌, ℕ, ◌==◌, Bool, true, false, cond, ◌&&◌, ◌||◌, List, [], ◌∷◌, length, drop, codes, is_some, Option, Some, None, refl, sym, ap, ◌∙◌, arith, subst, ◌⊎◌, inl, inr}
 use Rattle.std.specs.List.{flat_map, list_any}
 use Rattle.std.specs.Str.{bytes_eq}
-use Rattle.std.proofs.lemmas.Bool.{eqb-true}
+use Rattle.std.proofs.lemmas.Bool.{eqb-true, or_cases, or_left, or_right}
 use Rattle.std.proofs.lemmas.Grind.{flat_map-append}
 use Rattle.std.proofs.lemmas.List.Folds.{list_any-append}
 use Rattle.init_machine.specs.Policy.{ContextLine, is_line_for}
@@ -19,7 +19,7 @@ use Rattle.prop_contexts.specs.declared.line.Reading.TheVariants.{Skipped, Bad, 
 use Rattle.prop_contexts.specs.declared.context_line.Scope.{Scope}
 use Rattle.prop_contexts.specs.declared.context_line.Scope.TheVariants.{Default, Exact, Prefix}
 use Rattle.prop_contexts.proofs.Steps.{formed_in}
-use Rattle.script_lang.proofs.Tests.{and_left, and_right, or_true, or_left, or_right}
+use Rattle.std.specs.Cmp.{first_so, second_so}
 use Rattle.refusal_causes.specs.Misfits.{first_is}
 use Rattle.refusal_causes.specs.Contexts.{enum_cause, is_default_line, is_default_name, is_exact, is_same, is_same_line, plain_type_cause, same_kind, tail_cause, type_cause}
 use Rattle.refusal_causes.specs.declared.policy.cause.ContextCause.TheVariants as cause
@@ -164,7 +164,7 @@ first_given : {X : Type 0} (t : X → Bool) (g : ScopedLine → List X) (q : Lis
     → list_any t (flat_map g (read_in r)) ≡ true → q line ≡ true
 first_given t g q passes line Skipped e h = cc
 first_given t g q passes line Bad e h = cc
-first_given t g q passes line (Read l) e h = elim (or_true (list_any t (g l)) false (sym (list_any-append t (g l) []) ∙ h)) [
+first_given t g q passes line (Read l) e h = elim (or_cases (list_any t (g l)) false (sym (list_any-append t (g l) []) ∙ h)) [
   | inl here ↦ passes line l e here
   | inr later ↦ cc
 ]
@@ -173,7 +173,7 @@ any_given : {X : Type 0} (t : X → Bool) (g : ScopedLine → List X) (q : List 
     → list_any t (flat_map g (scoped_lines lines)) ≡ true → list_any q lines ≡ true
 any_given t g q passes [] h = cc
 any_given t g q passes (line ∷ lines) h =
-    elim (or_true (list_any t (flat_map g (read_in (reading_of line)))) (list_any t (flat_map g (scoped_lines lines)))
+    elim (or_cases (list_any t (flat_map g (read_in (reading_of line)))) (list_any t (flat_map g (scoped_lines lines)))
     (sym (list_any-append t (flat_map g (read_in (reading_of line))) (flat_map g (scoped_lines lines)))
     ∙ sym (ap (list_any t) (flat_map-append g (read_in (reading_of line)) (scoped_lines lines))) ∙ h)) [
       | inl here ↦ or_left (q line) (list_any q lines) (first_given t g q passes line (reading_of line) refl here)
@@ -213,14 +213,14 @@ default_given Prefix context h = cc
 exact_given : (name : List ℕ) (scope : Scope) (line : ContextLine) → list_any (is_line_for name) (exact_in scope line) ≡ true
     → (scope ≡ Exact) × (bytes_eq name line.name ≡ true)
 exact_given name Default line h = cc
-exact_given name Exact line h = elim (or_true (bytes_eq name line.name) false h) [ inl is ↦ (refl, is) | inr isnt ↦ cc ]
+exact_given name Exact line h = elim (or_cases (bytes_eq name line.name) false h) [ inl is ↦ (refl, is) | inr isnt ↦ cc ]
 exact_given name Prefix line h = cc
 
 prefix_given : (name : List ℕ) (scope : Scope) (line : ContextLine) → list_any (is_line_for name) (prefix_in scope line) ≡ true
     → (scope ≡ Prefix) × (bytes_eq name line.name ≡ true)
 prefix_given name Default line h = cc
 prefix_given name Exact line h = cc
-prefix_given name Prefix line h = elim (or_true (bytes_eq name line.name) false h) [ inl is ↦ (refl, is) | inr isnt ↦ cc ]
+prefix_given name Prefix line h = elim (or_cases (bytes_eq name line.name) false h) [ inl is ↦ (refl, is) | inr isnt ↦ cc ]
 
 turned : (a b : List ℕ) → bytes_eq a b ≡ true → bytes_eq b a ≡ true
 turned a b h = let same : a ≡ b = same_bytes a b h in ap (λ x. bytes_eq b x) same ∙ bytes_eq-refl b
@@ -294,12 +294,12 @@ any_default [] formed h = cc
 any_default (line ∷ lines) formed h =
     ap (list_any any_context) (flat_map-append (λ l. default_in l.scope l.line.context) (read_in (reading_of line)) (scoped_lines lines))
     ∙ list_any-append any_context (flat_map (λ l. default_in l.scope l.line.context) (read_in (reading_of line))) (default_contexts lines)
-    ∙ elim (or_true (is_default_line line) (list_any is_default_line lines) h) as (λ e.
+    ∙ elim (or_cases (is_default_line line) (list_any is_default_line lines) h) as (λ e.
     (list_any any_context (flat_map (λ l. default_in l.scope l.line.context) (read_in (reading_of line))) || list_any any_context (default_contexts lines)) ≡ true) [
       | inl here ↦
           or_left (list_any any_context (flat_map (λ l. default_in l.scope l.line.context) (read_in (reading_of line)))) (list_any any_context (default_contexts lines))
-          (default_line line (reading_of line) refl (and_left (is_formed (reading_of line)) (formed_in lines) formed) here)
+          (default_line line (reading_of line) refl (first_so (is_formed (reading_of line)) (formed_in lines) formed) here)
       | inr later ↦
           or_right (list_any any_context (flat_map (λ l. default_in l.scope l.line.context) (read_in (reading_of line)))) (list_any any_context (default_contexts lines))
-          (any_default lines (and_right (is_formed (reading_of line)) (formed_in lines) formed) later)
+          (any_default lines (second_so (is_formed (reading_of line)) (formed_in lines) formed) later)
     ]

@@ -17,10 +17,11 @@ use Rattle.script_lang.specs.Statements.{reading_of, statement_of}
 use Rattle.script_lang.specs.declared.statement.Statement.{Statement}
 use Rattle.script_lang.specs.declared.statement.Statement.TheVariants as statement
 use Rattle.script_lang.proofs.Spellings.{statement_written}
-use Rattle.script_lang.proofs.Tests.{and_right, or_true, or_left, or_right}
+use Rattle.std.specs.Cmp.{second_so}
 use Rattle.refusal_causes.specs.Misfits.{begins_declaration, client_cause, declaration_cause, declared_by, declares, first_is, is_act_line, is_client_line, is_declaring, late_cause, line_number, misfit_cause, too_many_cause, twice_cause}
 use Rattle.refusal_causes.specs.Misfits.{is_client as is_client_word}
 use Rattle.refusal_causes.specs.declared.script.cause.ScriptCause.TheVariants as cause
+use Rattle.std.proofs.lemmas.Bool.{or_cases, or_left, or_right}
 
 -- ---- what a line says, and its words
 
@@ -64,7 +65,7 @@ first_passes : (p : Statement → Bool) (q : List ℕ → Bool) → Passes p q �
     → list_any p (statements_in o) ≡ true → q line ≡ true
 first_passes p q passes line None e h = cc
 first_passes p q passes line (Some None) e h = cc
-first_passes p q passes line (Some (Some s)) e h = elim (or_true (p s) false h) [
+first_passes p q passes line (Some (Some s)) e h = elim (or_cases (p s) false h) [
   | inl is ↦ passes line s e is
   | inr isnt ↦ cc
 ]
@@ -73,7 +74,7 @@ pub any_line : (p : Statement → Bool) (q : List ℕ → Bool) → Passes p q �
     → list_any p (statements_of lines) ≡ true → list_any q lines ≡ true
 any_line p q passes [] h = cc
 any_line p q passes (line ∷ lines) h =
-    elim (or_true (list_any p (statements_in (reading_of line))) (list_any p (statements_of lines))
+    elim (or_cases (list_any p (statements_in (reading_of line))) (list_any p (statements_of lines))
     (sym (list_any-append p (statements_in (reading_of line)) (statements_of lines)) ∙ h)) [
       | inl here ↦ or_left (q line) (list_any q lines) (first_passes p q passes line (reading_of line) refl here)
       | inr later ↦ or_right (q line) (list_any q lines) (any_line p q passes lines later)
@@ -98,7 +99,7 @@ pub any_said : (p : Statement → Bool) (q : List ℕ → Bool) → Tells p q �
 any_said p q tells [] read h = cc
 any_said p q tells (line ∷ lines) read h =
     list_any-append p (statements_in (reading_of line)) (statements_of lines) ∙
-    elim (or_true (q line) (list_any q lines) h) as (λ e. (list_any p (statements_in (reading_of line)) || list_any p (statements_of lines)) ≡ true) [
+    elim (or_cases (q line) (list_any q lines) h) as (λ e. (list_any p (statements_in (reading_of line)) || list_any p (statements_of lines)) ≡ true) [
       | inl here ↦ or_left (list_any p (statements_in (reading_of line))) (list_any p (statements_of lines)) (first_tells p q tells line (reading_of line) refl (read [] line lines refl) here)
       | inr later ↦ or_right (list_any p (statements_in (reading_of line))) (list_any p (statements_of lines))
           (any_said p q tells lines (λ before one behind e. read (line ∷ before) one behind (ap (λ ls. line ∷ ls) e)) later)
@@ -211,7 +212,7 @@ client_tells name text = record {
       let said = said_by line s e in
       client_of_words name text s said.permitted
       (sym (ap (declared_by (codes "client") (quoted name)) said.words)
-      ∙ and_right (not (says_nothing line)) (declared_by (codes "client") (quoted name) (words_of line)) h);
+      ∙ second_so (not (says_nothing line)) (declared_by (codes "client") (quoted name) (words_of line)) h);
   unsaid = λ line e. ap (λ t. not t && declared_by (codes "client") (quoted name) (words_of line)) (unsaid line e);
 }
 

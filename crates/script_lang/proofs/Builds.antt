@@ -13,7 +13,7 @@ use Rattle.script_lang.specs.declared.script.Script.{Script}
 use Rattle.script_lang.specs.declared.statement.Said.{Said}
 use Rattle.script_lang.specs.declared.statement.Statement.{Statement}
 use Rattle.script_lang.specs.declared.statement.Statement.TheVariants as statement
-use Rattle.script_lang.proofs.Tests.{and_right}
+use Rattle.std.specs.Cmp.{second_so}
 
 -- the rest fits behind statements that are in the script
 pub record RestFits (script : Script) (rest : List Said) : Type 0 where
@@ -50,7 +50,7 @@ still_few before (statement.Area size) fit few = omega arith
 still_few before (statement.Plan plan) fit few = omega arith
 still_few before (statement.Client client) fit few =
     let low : count_by is_client before < 64 =
-    ltb-true _ _ (and_right (not (list_any is_act before) && not (list_any (is_client_named client.name) before)) (nat_lt (count_by is_client before) 64) fit) in
+    ltb-true _ _ (second_so (not (list_any is_act before) && not (list_any (is_client_named client.name) before)) (nat_lt (count_by is_client before) 64) fit) in
     omega arith
 still_few before (statement.Step count) fit few = omega arith
 still_few before (statement.Tick ms) fit few = omega arith

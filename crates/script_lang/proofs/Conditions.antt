@@ -28,7 +28,7 @@ use Rattle.script_lang.proofs.Gatherings.{misfit_is, all_said}
 use Rattle.script_lang.proofs.Misfits.{all_fit_is_none}
 use Rattle.script_lang.proofs.Readings.{neither}
 use Rattle.script_lang.proofs.Spellings.{statement_written}
-use Rattle.script_lang.proofs.Tests.{and_left, and_right}
+use Rattle.std.specs.Cmp.{first_so, second_so}
 
 -- ---- what lines say is permitted
 
@@ -150,7 +150,7 @@ meets_one script line (statement.Area size) before meets of fit permitted = reco
 }
 meets_one script line (statement.Plan plan) before meets of fit permitted =
     let none : list_any (is_plan_of plan.path) before ≡ false =
-    not-true _ (and_right (not (list_any is_act before)) (not (list_any (is_plan_of plan.path) before)) fit) in
+    not-true _ (second_so (not (list_any is_act before)) (not (list_any (is_plan_of plan.path) before)) fit) in
     let new : list_any (λ other. bytes_eq other.path plan.path) script.plans ≡ false =
     ap (list_any (λ other. bytes_eq other.path plan.path)) of.plans ∙ sym (named_plan before plan.path) ∙ none in
     record {
@@ -164,13 +164,13 @@ meets_one script line (statement.Plan plan) before meets of fit permitted =
       line_of_each = meets.line_of_each;
     }
 meets_one script line (statement.Client client) before meets of fit permitted =
-    let front = and_left (not (list_any is_act before) && not (list_any (is_client_named client.name) before)) (nat_lt (count_by is_client before) 64) fit in
+    let front = first_so (not (list_any is_act before) && not (list_any (is_client_named client.name) before)) (nat_lt (count_by is_client before) 64) fit in
     let none : list_any (is_client_named client.name) before ≡ false =
-    not-true _ (and_right (not (list_any is_act before)) (not (list_any (is_client_named client.name) before)) front) in
+    not-true _ (second_so (not (list_any is_act before)) (not (list_any (is_client_named client.name) before)) front) in
     let new : list_any (λ other. bytes_eq other.name client.name) script.clients ≡ false =
     ap (list_any (λ other. bytes_eq other.name client.name)) of.clients ∙ sym (named_client before client.name) ∙ none in
     let low : count_by is_client before < 64 =
-    ltb-true _ _ (and_right (not (list_any is_act before) && not (list_any (is_client_named client.name) before)) (nat_lt (count_by is_client before) 64) fit) in
+    ltb-true _ _ (second_so (not (list_any is_act before) && not (list_any (is_client_named client.name) before)) (nat_lt (count_by is_client before) 64) fit) in
     record {
       least_words = meets.least_words;
       most_words = meets.most_words;

@@ -1,4 +1,3 @@
-pub mod Tests
 pub mod LineWords
 pub mod Numerals
 pub mod Orders

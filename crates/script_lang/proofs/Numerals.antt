@@ -13,12 +13,12 @@ use Rattle.std.proofs.lemmas.List.{nil_from_length}
 use Rattle.std.proofs.lemmas.Str.Parse.{IsDigitsTest, IsNumeralModel, numerals_by_value}
 use Rattle.init_machine.proofs.DistinctSums.{bytes_eq-refl}
 use Rattle.script_lang.specs.Statements.{is_canonical, number_in}
-use Rattle.script_lang.proofs.Tests.{and_right}
+use Rattle.std.specs.Cmp.{second_so}
 
 tells : IsDigitsTest (λ ds. list_all is_ascii_digit ds ≡ true)
 tells = record {
   empty = refl;
-  parts = λ c cs h. (search rules, and_right (is_ascii_digit c) (list_all is_ascii_digit cs) h);
+  parts = λ c cs h. (search rules, second_so (is_ascii_digit c) (list_all is_ascii_digit cs) h);
   more = λ c cs digit h. search rules;
 }
 

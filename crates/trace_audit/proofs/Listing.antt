@@ -25,6 +25,7 @@ use Rattle.script_lang.specs.Laws.{set_by}
 use Rattle.trace_audit.specs.Lists.{all_requests, ascending, bounds_by, bounds_in, bounds_list, bounds_of, request_in, is_lowest, is_no_higher, rises}
 use Rattle.trace_audit.specs.declared.told.Bounds.{Bounds}
 use Rattle.trace_audit.specs.declared.told.Request.{Request}
+use Rattle.std.specs.Cmp.{first_so, second_so}
 
 abbrev pub item_bounds : ClientItem → Bounds
 item_bounds item = record { before = count_before item; after = count_after item }
@@ -44,14 +45,6 @@ list_bounds (ask.Catch ∷ asks) requests (told ∷ readings) = ap (λ (bs : Lis
 
 -- ---- a list is in order where its counts ascend
 
-and_left : (a b : Bool) → (a && b) ≡ true → a ≡ true
-and_left true b both = refl
-and_left false b both = cc
-
-and_right : (a b : Bool) → (a && b) ≡ true → b ≡ true
-and_right true b both = both
-and_right false b both = cc
-
 and_both : (a b : Bool) → a ≡ true → b ≡ true → (a && b) ≡ true
 and_both a b first then = ap (λ (x : Bool). x && b) first ∙ then
 
@@ -61,10 +54,10 @@ in_order seen (item ∷ items) ascend =
     let first : Bool = leb seen (count_before item) in
     let then : Bool = leb (count_before item) (count_after item) in
     let behind : Bool = ascending (count_after item) (map item_bounds items) in
-    let both = and_left (first && then) behind ascend in (
-      leb-true seen (count_before item) (and_left first then both),
-      leb-true (count_before item) (count_after item) (and_right first then both),
-      in_order (count_after item) items (and_right (first && then) behind ascend),
+    let both = first_so (first && then) behind ascend in (
+      leb-true seen (count_before item) (first_so first then both),
+      leb-true (count_before item) (count_after item) (second_so first then both),
+      in_order (count_after item) items (second_so (first && then) behind ascend),
     )
 
 pub ascends : (seen : ℕ) (items : List ClientItem) → InOrder seen items → ascending seen (map item_bounds items) ≡ true
@@ -114,13 +107,13 @@ told_all (ask.Set pair ∷ asks) [] readings all = told_all asks [] readings all
 told_all (ask.Set pair ∷ asks) (request ∷ requests) readings all = told_all asks requests readings all
 told_all (ask.Read name ∷ asks) requests [] all = cc
 told_all (ask.Read name ∷ asks) requests (told ∷ readings) all =
-    ap (λ (rs : List Reading). told ∷ rs) (told_all asks requests readings (and_right (is_answer (ask.Read name) told) (answer_all asks readings) all))
+    ap (λ (rs : List Reading). told ∷ rs) (told_all asks requests readings (second_so (is_answer (ask.Read name) told) (answer_all asks readings) all))
 told_all (ask.Sync ∷ asks) requests [] all = cc
 told_all (ask.Sync ∷ asks) requests (told ∷ readings) all =
-    ap (λ (rs : List Reading). told ∷ rs) (told_all asks requests readings (and_right (is_answer ask.Sync told) (answer_all asks readings) all))
+    ap (λ (rs : List Reading). told ∷ rs) (told_all asks requests readings (second_so (is_answer ask.Sync told) (answer_all asks readings) all))
 told_all (ask.Catch ∷ asks) requests [] all = cc
 told_all (ask.Catch ∷ asks) requests (told ∷ readings) all =
-    ap (λ (rs : List Reading). told ∷ rs) (told_all asks requests readings (and_right (is_answer ask.Catch told) (answer_all asks readings) all))
+    ap (λ (rs : List Reading). told ∷ rs) (told_all asks requests readings (second_so (is_answer ask.Catch told) (answer_all asks readings) all))
 
 not_true_false : (b : Bool) → not b ≡ true → b ≡ false
 not_true_false true no_b = cc
@@ -163,10 +156,10 @@ rise_list (Told told ∷ list) all zero (suc j) n n' name f f' s s' before at at
     let same : told ≡ reading.Again name n f s = cc in
     let lowest : not (list_any (is_no_higher name s) (readings_in list)) ≡ true =
     ap (λ (r : Reading). is_lowest r (readings_in list)) (sym same)
-    ∙ and_left (is_lowest told (readings_in list)) (rises (readings_in list)) all in
+    ∙ first_so (is_lowest told (readings_in list)) (rises (readings_in list)) all in
     above_at name s list j n' f' s' (not_true_false (list_any (is_no_higher name s) (readings_in list)) lowest) at'
 rise_list (Told told ∷ list) all (suc i) (suc j) n n' name f f' s s' before at at' =
-    rise_list list (and_right (is_lowest told (readings_in list)) (rises (readings_in list)) all) i j n n' name f f' s s' (omega arith) at at'
+    rise_list list (second_so (is_lowest told (readings_in list)) (rises (readings_in list)) all) i j n n' name f f' s s' (omega arith) at at'
 
 -- in the list each told reading of the name that met a write ranks higher
 HigherIn : List ℕ → ℕ → List ClientItem → Type 0
@@ -188,8 +181,8 @@ not_this name s (reading.Caught number) higher = refl
 not_this name s (reading.Again other n' f' s') higher =
     false_of (bytes_eq other name && leb (rank s') (rank s)) (bytes_eq other name && leb (rank s') (rank s)) refl
     (λ (both : (bytes_eq other name && leb (rank s') (rank s)) ≡ true).
-    let own : other ≡ name = (bytes_eq-Decides other name).0 (and_left (bytes_eq other name) (leb (rank s') (rank s)) both) in
-    let low : rank s' ≤ rank s = leb-true (rank s') (rank s) (and_right (bytes_eq other name) (leb (rank s') (rank s)) both) in
+    let own : other ≡ name = (bytes_eq-Decides other name).0 (first_so (bytes_eq other name) (leb (rank s') (rank s)) both) in
+    let low : rank s' ≤ rank s = leb-true (rank s') (rank s) (second_so (bytes_eq other name) (leb (rank s') (rank s)) both) in
     let high : rank s < rank s' = higher n' f' s' (ap (λ (m : List ℕ). reading.Again m n' f' s') own) in
     omega arith)
 

@@ -1,14 +1,23 @@
-use Rattle.std.proofs.Common.{subst}
+use Rattle.std.proofs.Common.{Ok, Err, refl, sym}
 use Rattle.std.proofs.lemmas.Result.{on_ok_weaker}
-use Rattle.init_machine.specs.Changes.{Change}
-use Rattle.machine_parts.specs.Parts.{Does, rules_of, state_of}
-use Rattle.builtins.proofs.Effects.{effect_of_asked}
+use Rattle.builtins.proofs.Effects.{could_be, could_not_be, expanded_runs}
 use Rattle.builtins.proofs.running.run.Goals as goal
 
-pub returns-clause-effect : goal.returns-clause-effect
-returns-clause-effect g c =
-    λ command is.
-    let P : Change → Type 0 = λ x. Does g.S.PropStore.meaning g.S.PropStore.told c.args.parts.now c.run_asked.new.parts x in
-    on_ok_weaker c.run_asked.result
-    (subst P (effect_of_asked (rules_of c.args.parts.now) c.args.asked command (state_of g.S.PropStore.meaning c.args.parts.now) is))
-    c.run_asked.ensures.done
+pub returns-in-Ok-clause-done : goal.returns-in-Ok-clause-done
+returns-in-Ok-clause-done g c =
+    let expanded = c.in_ok-expand_args.ensures in
+    let args = c.expand_args.new.args in
+    on_ok_weaker c.run_expanded.result
+    (expanded_runs c.args.parts.now c.run_expanded.new.parts c.expand_args.new.store c.args.command args (Ok args) expanded.same expanded.told refl
+    (could_be c.in_ok-expand_args.field-0 c.in-Ok.field-0 _ args c.args.command.args c.in-Ok.is expanded.expanded))
+    c.run_expanded.ensures.done
+
+pub returns-in-Err-clause-done : goal.returns-in-Err-clause-done
+returns-in-Err-clause-done g c =
+    let expanded = c.in_ok-expand_args.ensures in
+    let args = c.expand_args.new.args in
+    let could_not = could_not_be c.in_ok-expand_args.field-0 c.in-Err.why _ args c.args.command.args c.in-Err.is expanded.expanded in
+    on_ok_weaker c.refuse.result
+    (expanded_runs c.args.parts.now c.refuse.new.parts c.expand_args.new.store c.args.command args (Err c.in-Err.why) expanded.same expanded.told
+    (sym could_not.1) could_not.0)
+    c.refuse.ensures.done

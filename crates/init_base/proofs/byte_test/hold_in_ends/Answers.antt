@@ -9,7 +9,8 @@ returns g c =
     let bytes = c.args.bytes.now in
     let holds = g.T.ByteTest.holds in
     let end = length bytes - g.row.N in
-    let last : take (length bytes - end) (drop end bytes) ≡ drop end bytes = grind (arith, common_steps) in
-    ap (λ t. t && c.hold_in_block-2.result) c.hold_in_block.ensures
-    ∙ ap (λ t. list_all holds (take g.row.N bytes) && t) (c.hold_in_block-2.ensures ∙ ap (list_all holds) last)
+    let least = c.requires.least in
+    let last : take g.row.N (take (length bytes - end) (drop end bytes)) ≡ drop end bytes = grind (arith, common_steps) in
+    ap (λ t. t && c.hold_in_front-2.result) c.hold_in_front.ensures
+    ∙ ap (λ t. list_all holds (take g.row.N bytes) && t) (c.hold_in_front-2.ensures ∙ ap (list_all holds) last)
     ∙ all_of_ends holds bytes g.row.N end (omega (arith, c.requires.most))

@@ -25,11 +25,10 @@ pub returns-clause-done : goal.returns-clause-done
 returns-clause-done g c =
     let old = c.args.parts.now in
     let next = c.in_ok-next.ensures in
-    let asked = c.in_ok-asked.ensures in
     let is = next_at c.in_ok-next.next c.in-Some.place _ _ c.in-Some.is next.next in
     let placed = ap (λ (q : ScheduleView). command_at q.actions c.in-Some.place) next.schedule ∙ is.placed in
     let mid = record old { queue = c.next.new.self; store = c.next.new.store; outputs = c.next.new.outputs } in
     on_ok_weaker c.run.result
     (runs_next old c.run.new.parts c.next.new.self c.next.new.store c.next.new.outputs is.command is.commands is.others next.schedule next.lines next.same next.told is.runs)
-    (runs_found g.S.PropStore.meaning g.S.PropStore.told mid c.run.new.parts c.ask.new.store c.run.result c.in_ok-asked.asked c.command.result.now is.command
-    (same_some _ _ is.command (sym c.command.ensures) placed) asked.same asked.told asked.asked c.run.ensures.effect)
+    (runs_found g.S.PropStore.meaning g.S.PropStore.told mid c.run.new.parts c.run.result c.in_ok-command.command c.command.result.now is.command c.in_ok-command.ensures
+    (same_some _ _ is.command (sym c.command.ensures) placed) c.run.ensures.done)

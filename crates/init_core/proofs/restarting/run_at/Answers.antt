@@ -6,6 +6,5 @@ returns-in_default-clause-done g c = λ command found. absurd (not_both _ comman
 
 pub returns-clause-done : goal.returns-clause-done
 returns-clause-done g c = λ command found.
-    let asked = c.in_ok-asked.ensures in
-    runs_found g.S.PropStore.meaning g.S.PropStore.told c.args.parts.now c.run.new.parts c.ask.new.store c.run.result c.in_ok-asked.asked c.in-Some.command.now command
-    (same_some _ _ command c.in-Some.ensures found) asked.same asked.told asked.asked c.run.ensures.effect
+    runs_found g.S.PropStore.meaning g.S.PropStore.told c.args.parts.now c.run.new.parts c.run.result c.in_ok-command.command c.in-Some.command.now command c.in_ok-command.ensures
+    (same_some _ _ command c.in-Some.ensures found) c.run.ensures.done

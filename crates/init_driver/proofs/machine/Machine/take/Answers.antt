@@ -1,6 +1,5 @@
 use Rattle.std.proofs.Common.{◌≤◌, false, List, Option, Some, length, set, refl, sym, ◌∙◌, subst}
 use Rattle.init_core.specs.Core.{IsDeclared, without_saved}
-use Rattle.init_machine.specs.declared.report.Entry.{Entry}
 use Rattle.property_area.specs.Seats.{Seated}
 use Rattle.property_service.specs.Service.{ServiceView}
 use Rattle.init_driver.specs.Machine.{AllSeated, MachineView, machine_of}
@@ -47,10 +46,9 @@ invariant_of-self-2 g c = (
       let declared = subst (λ (m : MachineView). IsDeclared m.config c.args.input) (sym c.self.view_is) c.requires.declared in
       let known = subst (λ n. n ≤ length s.opening.config.domains) (sym c.asker-place.ensures) (asker_known (without_saved s.opening.config) c.args.input declared) in
       let ok = c.in_ok-reader-2.ensures in
-      let comes = ok.taken.1 in
-      subst (λ (d : ServiceView). AllSeated g.N.AreaName.area d (set c.lend.new.readers.items k (Some c.in_ok-reader-2.reader))) (sym c.reuse.ensures)
-      (subst (λ (l : List (Option Seated)). AllSeated g.N.AreaName.area t (set l k (Some c.in_ok-reader-2.reader))) (sym c.in_ok-reader.ensures.rest)
-      (seated_again g.N.AreaName.area s c.self.inside.readers.items k c.in_ok-reader.reader (c.self.invariant.1 c.if-self.false) known c.in_ok-reader.ensures.reader t c.in_ok-reader-2.reader ok.opening ok.ready comes.table comes.who comes.opening)),
+      let comes = ok.reader in
+      subst (λ (l : List (Option Seated)). AllSeated g.N.AreaName.area t (set l k (Some c.in_ok-reader-2.reader))) (sym c.in_ok-reader.ensures.rest)
+      (seated_again g.N.AreaName.area s c.self.inside.readers.items k c.in_ok-reader.reader (c.self.invariant.1 c.if-self.false) known c.in_ok-reader.ensures.reader t c.in_ok-reader-2.reader ok.opening ok.ready comes.table comes.who comes.opening),
 )
 
 pub invariant_of-self : goal.invariant_of-self
@@ -62,18 +60,15 @@ returns g c =
     let rs = c.self.inside.readers.items in
     let k = c.asker-place.result.0 in
     let t = c.take_entry.new.desk in
+    let e = c.take_entry.new.entry in
     let declared = subst (λ (m : MachineView). IsDeclared m.config c.args.input) (sym c.self.view_is) c.requires.declared in
     let known = subst (λ n. n ≤ length s.opening.config.domains) (sym c.asker-place.ensures) (asker_known (without_saved s.opening.config) c.args.input declared) in
     let ok = c.in_ok-reader-2.ensures in
-    let so = taken_so _ s rs k c.in_ok-reader.reader (c.self.invariant.1 c.if-self.false) known c.in_ok-reader.ensures.reader t c.args.input c.in_ok-reader-2.entry c.self.inside.last
-    c.in_ok-reader-2.reader c.self.inside.spent (record { opening = ok.opening; history = ok.history; ready = ok.ready }) ok.taken.0 ok.taken.1 in
-    let lent = subst (λ (l : List (Option Seated)). TakenSo (machine_of s rs c.self.inside.last c.self.inside.spent) (machine_of t (set l k (Some c.in_ok-reader-2.reader)) c.in_ok-reader-2.entry false) c.args.input)
+    let so = taken_so _ s rs k c.in_ok-reader.reader (c.self.invariant.1 c.if-self.false) known c.in_ok-reader.ensures.reader t c.args.input e c.self.inside.last
+    c.in_ok-reader-2.reader c.self.inside.spent (record { opening = ok.opening; history = ok.history; ready = ok.ready }) ok.entry ok.reader in
+    let lent = subst (λ (l : List (Option Seated)). TakenSo (machine_of s rs c.self.inside.last c.self.inside.spent) (machine_of t (set l k (Some c.in_ok-reader-2.reader)) e false) c.args.input)
     (sym c.in_ok-reader.ensures.rest) so in
-    let here = subst (λ (m : MachineView). TakenSo m (machine_of t (set c.lend.new.readers.items k (Some c.in_ok-reader-2.reader)) c.in_ok-reader-2.entry false) c.args.input) c.self.view_is lent in
-    let rested = subst (λ (d : ServiceView). TakenSo c.args.self.now (machine_of d (set c.lend.new.readers.items k (Some c.in_ok-reader-2.reader)) c.in_ok-reader-2.entry false) c.args.input)
-    (sym c.reuse.ensures) here in
-    let whole = subst (λ (e : Entry). TakenSo c.args.self.now (machine_of c.reuse.new.self (set c.lend.new.readers.items k (Some c.in_ok-reader-2.reader)) e false) c.args.input)
-    (sym c.replace-input.ensures.after) rested in
+    let whole = subst (λ (m : MachineView). TakenSo m (machine_of t (set c.lend.new.readers.items k (Some c.in_ok-reader-2.reader)) e false) c.args.input) c.self.view_is lent in
     record {
       config = whole.config;
       policy = whole.policy;

@@ -1,6 +1,6 @@
 use Rattle.std.proofs.Common.{◌≡◌, ℕ, List, Option, Ok, drop}
 use Rattle.init_machine.specs.Effect.{expand_all}
-use Rattle.builtins.proofs.asked.stand_for_themselves.Given as goal
+use Rattle.builtins.proofs.expanding.stand_for_themselves.Given as goal
 
 -- what is left decides
 abbrev pub invariant-loop-arg : goal.invariant-loop-arg

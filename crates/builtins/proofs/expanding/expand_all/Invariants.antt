@@ -2,7 +2,7 @@ use Rattle.std.proofs.Common.{◌≡◌, drop}
 use Rattle.init_machine.specs.Effect.{expand_all}
 use Rattle.init_machine.specs.Props.{value_in}
 use Rattle.builtins.proofs.Expansions.{prepended}
-use Rattle.builtins.proofs.asked.expand_all.Given as goal
+use Rattle.builtins.proofs.expanding.expand_all.Given as goal
 
 -- what is left decides
 abbrev pub invariant-loop-arg : goal.invariant-loop-arg
