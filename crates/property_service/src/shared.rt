@@ -17,7 +17,21 @@ use init_core::CoreStop;
 use init_machine::{Input, SetRefusal};
 use property_area::Reader;
 use std::alloc::Global;
-use std::sync::{Mutex, Wait};
+use std::hint::spin_loop;
+use std::sync::{Mutex, MutexGuard, Wait};
+
+/// How many pauses of the processor a client makes behind each look at a service that another has, before it sleeps. They double: a
+/// client that sets again and again keeps the service for some sets, so that what a set writes moves seldom from processor to
+/// processor; and all of them take longer than to sleep and to be woken.
+const PAUSES: [u32; 7] = [64, 128, 256, 512, 1_024, 2_048, 4_096];
+
+/// Makes so many pauses.
+#[inline(never)]
+fn pause(count: u32) {
+    for _ in 0..count {
+        spin_loop();
+    }
+}
 
 /// A service that any number of threads may call. It serves the area that its last type parameter names.
 #[derive(Drop)]
@@ -35,6 +49,17 @@ impl<'a, N: AreaName> Shared<'a, N> {
         }
     }
 
+    /// The service, once no other client has it.
+    fn enter<R: Wait>(&self, rt: &R) -> MutexGuard<'_, Service<'a, N>> {
+        for pauses in PAUSES {
+            if let Some(service) = self.lock.try_lock() {
+                return service;
+            }
+            pause(pauses);
+        }
+        self.lock.lock(rt)
+    }
+
     /// `Service::set`, behind the lock. What it needs is made before the lock is taken, so that other clients don't wait for that.
     pub fn set<R: Wait>(
         &self,
@@ -50,8 +75,8 @@ impl<'a, N: AreaName> Shared<'a, N> {
         ensures unchanged { result.1 ≡ Err refusal.Spent → result.0 ≡ Some reader }
     {
         match Request::of(self.alloc, name, value) {
-            Ok(request) => self.lock.lock(rt).set_request(reader, request),
-            Err(NoMemory) => self.lock.lock(rt).run_out(reader),
+            Ok(request) => self.enter(rt).set_request(reader, request),
+            Err(NoMemory) => self.enter(rt).run_out(reader),
         }
     }
 
@@ -61,7 +86,7 @@ impl<'a, N: AreaName> Shared<'a, N> {
         ensures reader { IfOk result.1 (λ count. IsSomeAnd result.0 (λ back. ComesBack reader back (Told (Synced count)) count)) }
         ensures unchanged { result.1 ≡ Err stop.Spent → result.0 ≡ Some reader }
     {
-        self.lock.lock(rt).sync(reader)
+        self.enter(rt).sync(reader)
     }
 
     /// `Service::input`, behind the lock.
@@ -76,7 +101,7 @@ impl<'a, N: AreaName> Shared<'a, N> {
         ensures reader { OnOk result.1 (IsSomeAnd result.0 (ComesBackWith input None reader)) }
         ensures unchanged { result.1 ≡ Err stop.Spent → result.0 ≡ Some reader }
     {
-        self.lock.lock(rt).input(reader, input)
+        self.enter(rt).input(reader, input)
     }
 
     /// The service, which nobody shares any more.
