@@ -1,5 +1,5 @@
 -- One event that is taken, against the events that are taken in all.
-use Rattle.std.proofs.Common.{◌≡◌, ℕ, suc, ◌+◌, ◌<◌, ◌≤◌, Bool, true, false, ◌||◌, cond, List, [], ◌∷◌, ◌++◌, length, take, drop, map, filter, refl, sym, ap, ◌∙◌, arith, append_assoc, length-append}
+use Rattle.std.proofs.Common.{◌≡◌, ℕ, suc, ◌+◌, ◌<◌, ◌≤◌, Bool, true, false, ◌||◌, cond, List, [], ◌∷◌, ◌++◌, length, take, drop, map, filter, refl, sym, ap, ◌∙◌, arith, append_assoc, length-append, subst}
 use Rattle.std.proofs.lemmas.List.{append-nil}
 use Rattle.std.specs.List.{list_any, flat_map, position_or_len, slice_get}
 use Rattle.init_machine.specs.Taking.{Taken, taken_now, taken_from, events_to_take, event_line, action_line, begun_by, is_matched, is_mark, is_all_properties}
@@ -8,6 +8,7 @@ use Rattle.init_machine.specs.declared.action.Command.{Command}
 use Rattle.init_machine.specs.declared.event.Event.{Event}
 use Rattle.init_machine.specs.declared.event.Event.TheVariants.{Named, Change, AllProperties, Mark}
 use Rattle.init_machine.specs.declared.output.Output.{Output}
+use Rattle.outputs.specs.Joins.{Joins}
 use Rattle.action_queue.specs.Pending.{one_begun, one_taken, mark_count}
 use Rattle.action_queue.specs.Queue.{QueueView, with_taken}
 
@@ -202,27 +203,26 @@ abbrev all_taken : Triggers → QueueView → Taken
 all_taken t q = taken_now t q.actions q.running q.events
 
 -- what is left to take decides
-pub keeps : (t t1 : Triggers) (q q1 q2 : QueueView) (e : Event) (rest : List Event) (outs0 outs1 outs2 : List Output)
+pub keeps : {O : Type 0} {adds : O → O → List Output → Type 0} (joins : Joins adds) (t t1 : Triggers) (q q1 q2 : QueueView) (e : Event) (rest : List Event) (outs0 outs1 outs2 : O)
     → t1 ≡ t → q1.running ≡ [] → q1.events ≡ e ∷ rest → mark_count (e ∷ rest) ≤ 1
     → q2 ≡ with_taken q1 (one_taken t1 q1.actions e rest)
-    → outs2 ≡ outs1 ++ (one_taken t1 q1.actions e rest).lines
+    → adds outs1 outs2 (one_taken t1 q1.actions e rest).lines
     → with_taken q1 (all_taken t q1) ≡ with_taken q (all_taken t q)
-    → outs1 ++ (all_taken t q1).lines ≡ outs0 ++ (all_taken t q).lines
+    → ((o : O) → adds outs1 o (all_taken t q1).lines → adds outs0 o (all_taken t q).lines)
     → (with_taken q2 (all_taken t q2) ≡ with_taken q (all_taken t q))
-    × (outs2 ++ (all_taken t q2).lines ≡ outs0 ++ (all_taken t q).lines)
-keeps t t1 q q1 q2 e rest outs0 outs1 outs2 same none first lone after lines all all_lines =
+    × ((o : O) → adds outs2 o (all_taken t q2).lines → adds outs0 o (all_taken t q).lines)
+keeps {O} {adds} joins t t1 q q1 q2 e rest outs0 outs1 outs2 same none first lone after lines all all_lines =
     let one = one_taken t q1.actions e rest in
     let more = taken_now t q1.actions one.running one.events in
     let both : all_taken t q1 ≡ then_taken one more =
     ap (λ rs. taken_now t q1.actions rs q1.events) none ∙ ap (taken_now t q1.actions []) first ∙ one_step t q1.actions e rest lone in
     let after' : q2 ≡ with_taken q1 one = after ∙ ap (λ (u : Triggers). with_taken q1 (one_taken u q1.actions e rest)) same in
-    let lines' : outs2 ≡ outs1 ++ one.lines = lines ∙ ap (λ (u : Triggers). outs1 ++ (one_taken u q1.actions e rest).lines) same in (
+    let lines' : adds outs1 outs2 one.lines = subst (λ (u : Triggers). adds outs1 outs2 (one_taken u q1.actions e rest).lines) same lines in (
       ap (λ (p : QueueView). with_taken p (all_taken t p)) after'
           ∙ ap (λ (b : Bool). let p : QueueView = record { actions = q1.actions; events = more.events; running = more.running; changes = b } in p) (or_assoc q1.changes one.changes more.changes)
           ∙ ap (with_taken q1) (sym both) ∙ all,
-      ap (λ (p : QueueView). outs2 ++ (all_taken t p).lines) after'
-          ∙ ap (λ (outs : List Output). outs ++ more.lines) lines'
-          ∙ append_assoc outs1 one.lines more.lines ∙ ap (λ (u : Taken). outs1 ++ u.lines) (sym both) ∙ all_lines,
+      λ o told. all_lines o (subst (λ (u : Taken). adds outs1 o u.lines) (sym both)
+          (joins.both outs1 outs2 o one.lines more.lines lines' (subst (λ (p : QueueView). adds outs2 o (all_taken t p).lines) after' told))),
     )
 
 -- where an action runs, nothing is taken

@@ -1,11 +1,12 @@
 -- What is kept of a queue's part that changes, when an event was taken.
-use Rattle.std.proofs.Common.{◌≡◌, ℕ, ◌+◌, ◌≤◌, Bool, true, false, IsTrue, if◌then◌else◌, List, [], ◌∷◌, ◌++◌, take, map, filter, refl, ap, ◌∙◌, arith, append_assoc}
+use Rattle.std.proofs.Common.{◌≡◌, ℕ, ◌+◌, ◌≤◌, Bool, true, false, IsTrue, if◌then◌else◌, List, [], ◌∷◌, ◌++◌, take, map, filter, refl, ap, ◌∙◌, arith, subst}
 use Rattle.std.specs.List.{list_any}
 use Rattle.init_machine.specs.Taking.{action_line, is_mark}
 use Rattle.init_machine.specs.declared.action.Action.{Action}
 use Rattle.init_machine.specs.declared.event.Event.{Event}
 use Rattle.init_machine.specs.declared.event.Event.TheVariants.{Named, Change, AllProperties, Mark}
 use Rattle.init_machine.specs.declared.output.Output.{Output}
+use Rattle.outputs.specs.Joins.{Joins}
 use Rattle.action_queue.specs.Pending.{IsKept, left_in, are_places, places_from, lines_at, mark_count}
 use Rattle.action_queue.specs.declared.pending.Pending.{Pending}
 use Rattle.action_queue.proofs.Moves.{has_more, left_in-whole}
@@ -29,12 +30,11 @@ begun_runs test actions before begun is =
     ap (left_in actions 0) is ∙ left_in-whole actions (places_from 0 test actions) ∙ commands-places test actions 0 actions (stands_whole actions)
 
 -- the line of the event, and those of the actions
-pub begun_lines : (test : Action → Bool) (actions : List Action) (before begun : List ℕ) (line outs0 outs1 outs2 : List Output) → begun ≡ take 0 before ++ places_from 0 test actions
-    → outs1 ≡ outs0 ++ line → outs2 ≡ outs1 ++ lines_at actions begun → outs2 ≡ outs0 ++ (line ++ map action_line (filter test actions))
-begun_lines test actions before begun line outs0 outs1 outs2 is first second =
-    second ∙ ap (λ outs. outs ++ lines_at actions begun) first
-    ∙ append_assoc outs0 line (lines_at actions begun)
-    ∙ ap (λ lines. outs0 ++ (line ++ lines)) (ap (lines_at actions) is ∙ lines-places test actions 0 actions (stands_whole actions))
+pub begun_lines : {O : Type 0} {adds : O → O → List Output → Type 0} (joins : Joins adds) (test : Action → Bool) (actions : List Action) (before begun : List ℕ) (line : List Output) (outs0 outs1 outs2 : O) → begun ≡ take 0 before ++ places_from 0 test actions
+    → adds outs0 outs1 line → adds outs1 outs2 (lines_at actions begun) → adds outs0 outs2 (line ++ map action_line (filter test actions))
+begun_lines {O} {adds} joins test actions before begun line outs0 outs1 outs2 is first second =
+    joins.both outs0 outs1 outs2 line (map action_line (filter test actions)) first
+    (subst (adds outs1 outs2) (ap (lines_at actions) is ∙ lines-places test actions 0 actions (stands_whole actions)) second)
 
 -- an event more
 mark_count-push : (events : List Event) (e : Event) → mark_count (events ++ e ∷ []) ≡ mark_count events + (if is_mark e then 1 else 0)

@@ -10,7 +10,8 @@ use crate::running::advance;
 use crate::taking::take_events;
 use crate::triggers::Triggers;
 use init_base::{Fifo, List, NoMemory};
-use init_machine::{Action, Command, CommandRef, Event, Output, PropStore};
+use init_machine::{Action, Command, CommandRef, Event, PropStore};
+use outputs::Outputs;
 use std::alloc::Global;
 use std::marker::Model;
 
@@ -74,16 +75,16 @@ impl Queue {
     /// # Errors
     ///
     /// `NoMemory`. The queue isn't used again then.
-    pub fn next<S: PropStore>(
+    pub fn next<S: PropStore, O: Outputs>(
         &mut self,
         alloc: Global,
         store: &mut S,
-        outputs: &mut List<Output>,
+        outputs: &mut O,
     ) -> Result<Option<CommandRef>, NoMemory>
         ensures next { IfOk result (λ place. MatchOption place ((taken_in (S.meaning store.old) self.old).running ≡ [])
             (IsNext self.old.actions (taken_in (S.meaning store.old) self.old).running)) }
         ensures queue { OnOk result (self.new ≡ queue_after self.old (taken_in (S.meaning store.old) self.old)) }
-        ensures lines { OnOk result (outputs.new ≡ outputs.old ++ (taken_in (S.meaning store.old) self.old).lines) }
+        ensures lines { OnOk result (O.Adds outputs.old outputs.new ((taken_in (S.meaning store.old) self.old).lines)) }
         ensures same { S.meaning store.new ≡ S.meaning store.old }
         ensures told { S.told store.new ≡ S.told store.old }
         ensures spare { S.spare store.new ≡ S.spare store.old }

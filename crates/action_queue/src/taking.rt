@@ -12,39 +12,34 @@ use crate::running::is_running;
 use crate::triggers::Triggers;
 use init_base::{List, NoMemory};
 use init_machine::{Event, Output, PropStore};
+use outputs::Outputs;
 use std::alloc::Global;
 
 /// Adds the line of an event that is taken.
-fn add_event_line(event: Event, outputs: &mut List<Output>) -> Result<(), NoMemory>
-    ensures { OnOk result (outputs.new ≡ outputs.old ++ event_line event) }
+fn add_event_line<O: Outputs>(event: &Event, outputs: &mut O) -> Result<(), NoMemory>
+    ensures { OnOk result (O.Adds outputs.old outputs.new (event_line event.now)) }
 {
     match event {
-        Event::Named(name) => outputs.push(Output::Event { name }),
-        Event::Change(pair) => outputs.push(Output::Change {
-            name: pair.name,
-            value: pair.value,
-        }),
+        Event::Named(name) => outputs.event(name),
+        Event::Change(pair) => outputs.change(&pair.name, &pair.value),
         Event::AllProperties => outputs.push(Output::AllProperties),
         Event::Mark => Ok(()),
     }
 }
 
 /// Adds the lines of the actions at some places.
-fn add_action_lines(
+fn add_action_lines<O: Outputs>(
     alloc: Global,
     triggers: &Triggers,
     places: &List<usize>,
-    outputs: &mut List<Output>,
+    outputs: &mut O,
 ) -> Result<(), NoMemory>
     requires { are_places triggers.now places.now ≡ true }
-    ensures { OnOk result (outputs.new ≡ outputs.old ++ lines_at triggers.now places.now) }
+    ensures { OnOk result (O.Adds outputs.old outputs.new (lines_at triggers.now places.now)) }
 {
     for at in places.items() {
         let action = triggers.at(*at);
-        outputs.push(Output::Action {
-            file: action.file.share()?,
-            line: action.line,
-        })?;
+        outputs.action(&action.file, action.line)?;
     }
     Ok(())
 }
@@ -82,20 +77,20 @@ fn begin<S: PropStore>(
 }
 
 /// Takes an event that is no mark: its actions begin.
-fn begin_event<S: PropStore>(
+fn begin_event<S: PropStore, O: Outputs>(
     alloc: Global,
     triggers: &Triggers,
     event: Event,
     pending: &mut Pending,
     store: &mut S,
-    outputs: &mut List<Output>,
+    outputs: &mut O,
 ) -> Result<(), NoMemory>
     requires { IsKept triggers.now pending.old }
     ensures kept { IsKept triggers.now pending.new }
     ensures queue { OnOk result (shown triggers.now pending.new ≡ with_taken (shown triggers.now pending.old)
         (one_begun (matches (value_in (S.meaning store.old))) triggers.now event pending.old.events)) }
-    ensures lines { OnOk result (outputs.new
-        ≡ outputs.old ++ (one_begun (matches (value_in (S.meaning store.old))) triggers.now event pending.old.events).lines) }
+    ensures lines { OnOk result (O.Adds outputs.old outputs.new
+        (one_begun (matches (value_in (S.meaning store.old))) triggers.now event pending.old.events).lines) }
     ensures same { S.meaning store.new ≡ S.meaning store.old }
     ensures told { S.told store.new ≡ S.told store.old }
     ensures spare { S.spare store.new ≡ S.spare store.old }
@@ -106,18 +101,18 @@ fn begin_event<S: PropStore>(
     pending.command = 0;
     begin(triggers, &event, &mut pending.begun, store)?;
     pending.changes = changes_after(pending.changes, &event);
-    add_event_line(event, outputs)?;
+    add_event_line(&event, outputs)?;
     add_action_lines(alloc, triggers, &pending.begun, outputs)?;
     Ok(())
 }
 
-fn take_event<S: PropStore>(
+fn take_event<S: PropStore, O: Outputs>(
     alloc: Global,
     triggers: &Triggers,
     event: Event,
     pending: &mut Pending,
     store: &mut S,
-    outputs: &mut List<Output>,
+    outputs: &mut O,
 ) -> Result<(), NoMemory>
     requires kept { IsKept triggers.now pending.old }
     requires idle { running_of triggers.now pending.old ≡ [] }
@@ -125,8 +120,8 @@ fn take_event<S: PropStore>(
     ensures kept { IsKept triggers.now pending.new }
     ensures queue { OnOk result (shown triggers.now pending.new ≡ with_taken (shown triggers.now pending.old)
         (one_taken (matches (value_in (S.meaning store.old))) triggers.now event pending.old.events)) }
-    ensures lines { OnOk result (outputs.new
-        ≡ outputs.old ++ (one_taken (matches (value_in (S.meaning store.old))) triggers.now event pending.old.events).lines) }
+    ensures lines { OnOk result (O.Adds outputs.old outputs.new
+        (one_taken (matches (value_in (S.meaning store.old))) triggers.now event pending.old.events).lines) }
     ensures same { S.meaning store.new ≡ S.meaning store.old }
     ensures told { S.told store.new ≡ S.told store.old }
     ensures spare { S.spare store.new ≡ S.spare store.old }
@@ -142,18 +137,18 @@ fn take_event<S: PropStore>(
 }
 
 /// Takes events until an action runs or none is left.
-pub fn take_events<S: PropStore>(
+pub fn take_events<S: PropStore, O: Outputs>(
     alloc: Global,
     triggers: &Triggers,
     pending: &mut Pending,
     store: &mut S,
-    outputs: &mut List<Output>,
+    outputs: &mut O,
 ) -> Result<(), NoMemory>
     requires { IsKept triggers.now pending.old }
     ensures kept { IsKept triggers.now pending.new }
     ensures queue { OnOk result (shown triggers.now pending.new
         ≡ with_taken (shown triggers.now pending.old) (taken_in (S.meaning store.old) (shown triggers.now pending.old))) }
-    ensures lines { OnOk result (outputs.new ≡ outputs.old ++ (taken_in (S.meaning store.old) (shown triggers.now pending.old)).lines) }
+    ensures lines { OnOk result (O.Adds outputs.old outputs.new ((taken_in (S.meaning store.old) (shown triggers.now pending.old)).lines)) }
     ensures same { S.meaning store.new ≡ S.meaning store.old }
     ensures told { S.told store.new ≡ S.told store.old }
     ensures spare { S.spare store.new ≡ S.spare store.old }

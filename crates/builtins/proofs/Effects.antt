@@ -1,14 +1,21 @@
 -- What a command does, by its expanded arguments.
-use Rattle.std.proofs.Common.{◌≡◌, ℕ, List, Option, refl, sym, ap, ◌∙◌, subst, append-nil, Result, Ok, Err, MatchResult}
-use Rattle.init_machine.specs.Changes.{Change, nothing}
-use Rattle.init_machine.specs.Effect.{args_shown, effect, effect_by, expand_all}
+use Rattle.std.proofs.Common.{◌≡◌, ◌∷◌, [], ℕ, List, Option, refl, sym, ap, ◌∙◌, subst, Result, Ok, Err, MatchResult}
+use Rattle.init_machine.specs.Changes.{Change, behind, change, nothing}
+use Rattle.init_machine.specs.History.{sets_in}
+use Rattle.init_machine.specs.Effect.{Ran, args_shown, effect, effect_by, end_command, ending_line, expand_all, waiting_by}
 use Rattle.init_machine.specs.Props.{Props, value_in}
 use Rattle.init_machine.specs.State.{Rules, State, value_now}
 use Rattle.init_machine.specs.declared.action.Command.{Command}
 use Rattle.init_machine.specs.declared.output.Cause.{Cause}
+use Rattle.init_machine.specs.declared.task.Done.{Done}
+use Rattle.init_machine.specs.declared.task.Done.TheVariants as done
+use Rattle.init_machine.specs.declared.waiting.Waiting.{Waiting}
+use Rattle.init_machine.specs.declared.waiting.Waiting.TheVariants as waiting
+use Rattle.init_machine.specs.declared.output.Output.{Output}
+use Rattle.outputs.specs.Joins.{Joins}
 use Rattle.machine_parts.specs.Parts.{Does, rules_of, state_of}
 use Rattle.machine_parts.specs.declared.parts.Parts.{Parts}
-use Rattle.machine_parts.proofs.Doing.{does_plain, does_both}
+use Rattle.machine_parts.proofs.Doing.{does_behind, does_plain, does_both}
 
 -- the command as its line shows it does the same
 as_shown : (rules : Rules) (c : Command) (args : Result (List (List ℕ)) Cause) (s : State)
@@ -34,17 +41,45 @@ pub could_not_be : {A : Type 0} (r : Result A Cause) (why : Cause) (args : Resul
     → MatchResult r (λ _. args ≡ Ok new) (λ why. (args ≡ Err why) × (new ≡ old)) → (args ≡ Err why) × (new ≡ old)
 could_not_be {A} r why args new old is = subst (λ (x : Result A Cause). MatchResult x (λ _. args ≡ Ok new) (λ why. (args ≡ Err why) × (new ≡ old))) is
 
-module _ {S : Type 0} {meaning : S → Props} {told : S → Option (List (List ℕ × List ℕ))} where
+-- a state with what an ending waits for
+abbrev ended : Done → State → State
+ended ending s = record s { waits = waiting_by ending s.waits }
+
+-- the line of an ending is no set
+ending_sets_none : (ending : Done) → sets_in (ending_line ending ∷ []) ≡ []
+ending_sets_none done.Ok = refl
+ending_sets_none (done.Failed why) = refl
+ending_sets_none (done.Wait (waiting.Child pid)) = refl
+ending_sets_none (done.Wait (waiting.Prop awaited)) = refl
+ending_sets_none (done.Wait (waiting.File path until)) = refl
+
+module _ {S O : Type 0} {meaning : S → Props} {told : S → Option (List (List ℕ × List ℕ))} {adds : O → O → List Output → Type 0} (joins : Joins adds) where
   -- a store that was read means the same
-  does_read : (p : Parts S) (s : S) → meaning s ≡ meaning p.store → told s ≡ told p.store → Does meaning told p (record p { store = s }) (nothing (state_of meaning p))
-  does_read p s same tells = does_plain (ap (λ (props : Props). record (state_of meaning p) { props = props }) same) (sym (append-nil p.outputs)) tells refl refl refl
+  does_read : (p : Parts S O) (s : S) → meaning s ≡ meaning p.store → told s ≡ told p.store → Does meaning told adds p (record p { store = s }) (nothing (state_of meaning p))
+  does_read p s same tells = does_plain joins (ap (λ (props : Props). record (state_of meaning p) { props = props }) same) (joins.none p.outputs) tells refl refl refl
 
   -- the arguments were expanded, and the command did what it then does
-  pub expanded_runs : (p new : Parts S) (store : S) (c : Command) (shown : List (List ℕ)) (args : Result (List (List ℕ)) Cause)
+  pub expanded_runs : (p new : Parts S O) (store : S) (c : Command) (shown : List (List ℕ)) (args : Result (List (List ℕ)) Cause)
       → meaning store ≡ meaning p.store → told store ≡ told p.store → args_shown c args ≡ shown → expand_all (value_in (meaning p.store)) c.args ≡ args
-      → (let mid : Parts S = record p { store = store } in
-      Does meaning told mid new (effect_by (rules_of mid) (record c { args = shown }) args (state_of meaning mid))
-      → Does meaning told p new (effect (rules_of p) c (state_of meaning p)))
+      → (let mid : Parts S O = record p { store = store } in
+      Does meaning told adds mid new (effect_by (rules_of mid) (record c { args = shown }) args (state_of meaning mid))
+      → Does meaning told adds p new (effect (rules_of p) c (state_of meaning p)))
   expanded_runs p new store c shown args same tells shows is done =
-      subst (λ (x : Change). Does meaning told p new x) (effect_shown (rules_of p) c shown args (state_of meaning p) shows is)
-      (does_both (λ rules now. effect_by rules (record c { args = shown }) args now) (does_read p store same tells) done)
+      subst (λ (x : Change). Does meaning told adds p new x) (effect_shown (rules_of p) c shown args (state_of meaning p) shows is)
+      (does_both joins (λ rules now. effect_by rules (record c { args = shown }) args now) (does_read p store same tells) done)
+
+  -- the ending of a command was told, and what it waits for
+  ends_so : (p : Parts S O) (waits : Option Waiting) (outs : O) (ending : Done) → waits ≡ waiting_by ending p.waits → adds p.outputs outs (ending_line ending ∷ [])
+      → Does meaning told adds p (record p { waits = waits; outputs = outs }) (change (ended ending (state_of meaning p)) (ending_line ending ∷ []))
+  ends_so p waits outs ending is line =
+      does_plain joins (ap (λ (w : Option Waiting). record (state_of meaning p) { waits = w }) is) line refl refl refl (ending_sets_none ending)
+
+  -- the line of a command was told, it ran, and its ending was told
+  pub runs_so : (p mid : Parts S O) (said outs : O) (waits : Option Waiting) (line : Output) (ending : Done) (r : Ran) → adds p.outputs said (line ∷ []) → sets_in (line ∷ []) ≡ []
+      → Does meaning told adds (record p { outputs = said }) mid r.did → ending ≡ r.ending → waits ≡ waiting_by ending mid.waits → adds mid.outputs outs (ending_line ending ∷ [])
+      → Does meaning told adds p (record mid { waits = waits; outputs = outs }) (behind (line ∷ []) (end_command r))
+  runs_so p mid said outs waits line ending r first none did is waits_is last =
+      let second = does_behind joins did (ends_so mid waits outs ending waits_is last) in
+      does_behind joins (does_plain joins {s = state_of meaning p} refl first refl refl refl none)
+      (subst (λ (d : Done). Does meaning told adds (record p { outputs = said }) (record mid { waits = waits; outputs = outs }) (behind r.did.lines (change (ended d r.did.state) (ending_line d ∷ [])))) is
+      (subst (λ (s : State). Does meaning told adds (record p { outputs = said }) (record mid { waits = waits; outputs = outs }) (behind r.did.lines (change (ended ending s) (ending_line ending ∷ [])))) did.state second))

@@ -10,18 +10,19 @@ ghost use Rattle.machine_parts.specs.Parts.{Does, rules_of, state_of};
 use init_base::{NoMemory, Text};
 use init_machine::{Cause, Done, Event, Output, PropStore};
 use machine_parts::{Parts, set_by};
+use outputs::Outputs;
 use std::alloc::Global;
 
 /// Init's own set of a property, of any name.
-pub fn set_property<S: PropStore>(
+pub fn set_property<S: PropStore, O: Outputs>(
     alloc: Global,
-    parts: &mut Parts<S>,
+    parts: &mut Parts<S, O>,
     name: &Text,
     value: &Text,
 ) -> Result<Done, NoMemory>
     ensures ending { IfOk result (λ ending. ending
         ≡ (by_answer (services_spec.set_by (rules_of parts.old) None name.now value.now (state_of S.meaning parts.old))).ending) }
-    ensures did { OnOk result (Does S.meaning S.told parts.old parts.new
+    ensures did { OnOk result (Does S.meaning S.told O.Adds parts.old parts.new
         (by_answer (services_spec.set_by (rules_of parts.old) None name.now value.now (state_of S.meaning parts.old))).did) }
     ensures beside { S.Beside parts.old.store parts.new.store }
 {
@@ -32,10 +33,14 @@ pub fn set_property<S: PropStore>(
 }
 
 /// Queues an event.
-pub fn trigger<S: PropStore>(parts: &mut Parts<S>, event: Text) -> Result<Done, NoMemory>
+pub fn trigger<S: PropStore, O: Outputs>(
+    parts: &mut Parts<S, O>,
+    event: Text,
+) -> Result<Done, NoMemory>
     ensures ending { IfOk result (λ ending. ending ≡ Done.Ok) }
     ensures did { let s = state_of S.meaning parts.old in
-        OnOk result (Does S.meaning S.told parts.old parts.new (nothing (record s { events = s.events ++ Event.Named event ∷ [] }))) }
+        OnOk result (Does S.meaning S.told O.Adds parts.old parts.new
+        (nothing (record s { events = s.events ++ Event.Named event ∷ [] }))) }
     ensures beside { S.Beside parts.old.store parts.new.store }
 {
     parts.queue.event(Event::Named(event))?;
@@ -43,9 +48,14 @@ pub fn trigger<S: PropStore>(parts: &mut Parts<S>, event: Text) -> Result<Done, 
 }
 
 /// Gives a variable of the environment a value.
-pub fn export<S: PropStore>(parts: &mut Parts<S>, name: Text, value: Text) -> Result<Done, NoMemory>
+pub fn export<S: PropStore, O: Outputs>(
+    parts: &mut Parts<S, O>,
+    name: Text,
+    value: Text,
+) -> Result<Done, NoMemory>
     ensures ending { IfOk result (λ ending. ending ≡ Done.Ok) }
-    ensures did { OnOk result (Does S.meaning S.told parts.old parts.new (effect_spec.export name value (state_of S.meaning parts.old))) }
+    ensures did { OnOk result (Does S.meaning S.told O.Adds parts.old parts.new
+        (effect_spec.export name value (state_of S.meaning parts.old))) }
     ensures beside { S.Beside parts.old.store parts.new.store }
 {
     parts.environment.set(&name, &value)?;
@@ -54,9 +64,10 @@ pub fn export<S: PropStore>(parts: &mut Parts<S>, name: Text, value: Text) -> Re
 }
 
 /// A command without effect is noted.
-pub fn note<S: PropStore>(parts: &mut Parts<S>) -> Result<Done, NoMemory>
+pub fn note<S: PropStore, O: Outputs>(parts: &mut Parts<S, O>) -> Result<Done, NoMemory>
     ensures ending { IfOk result (λ ending. ending ≡ Done.Ok) }
-    ensures did { OnOk result (Does S.meaning S.told parts.old parts.new (change (state_of S.meaning parts.old) (Output.Noted ∷ []))) }
+    ensures did { OnOk result (Does S.meaning S.told O.Adds parts.old parts.new
+        (change (state_of S.meaning parts.old) (Output.Noted ∷ []))) }
     ensures beside { S.Beside parts.old.store parts.new.store }
 {
     parts.outputs.push(Output::Noted)?;

@@ -9,17 +9,18 @@ ghost use Rattle.machine_parts.specs.Parts.{Does, rules_of, state_of};
 use init_base::{NoMemory, Text};
 use init_machine::{Cause, Done, Op, PropStore, Waiting};
 use machine_parts::{Parts, operate, operate_each};
+use outputs::Outputs;
 use std::alloc::Global;
 
 /// The same for each service of a class.
-pub fn on_class<S: PropStore>(
+pub fn on_class<S: PropStore, O: Outputs>(
     alloc: Global,
-    parts: &mut Parts<S>,
+    parts: &mut Parts<S, O>,
     op: Op,
     class: &Text,
 ) -> Result<Done, NoMemory>
     ensures ending { IfOk result (λ ending. ending ≡ Done.Ok) }
-    ensures did { OnOk result (Does S.meaning S.told parts.old parts.new (services_spec.operate_each (rules_of parts.old) op
+    ensures did { OnOk result (Does S.meaning S.told O.Adds parts.old parts.new (services_spec.operate_each (rules_of parts.old) op
         (places_of (rules_of parts.old) (is_of_class class.now)) (state_of S.meaning parts.old))) }
     ensures beside { S.Beside parts.old.store parts.new.store }
 {
@@ -29,15 +30,15 @@ pub fn on_class<S: PropStore>(
 }
 
 /// An operation on a service. Where its process was to be spawned, the kernel has to have a pid.
-pub fn on_service<S: PropStore>(
+pub fn on_service<S: PropStore, O: Outputs>(
     alloc: Global,
-    parts: &mut Parts<S>,
+    parts: &mut Parts<S, O>,
     op: Op,
     name: Text,
 ) -> Result<Done, NoMemory>
     ensures ending { IfOk result (λ ending. ending ≡ (effect_spec.on_service (rules_of parts.old) op name
         (place_of (rules_of parts.old) name) (state_of S.meaning parts.old)).ending) }
-    ensures did { OnOk result (Does S.meaning S.told parts.old parts.new
+    ensures did { OnOk result (Does S.meaning S.told O.Adds parts.old parts.new
         (effect_spec.on_service (rules_of parts.old) op name (place_of (rules_of parts.old) name) (state_of S.meaning parts.old)).did) }
     ensures beside { S.Beside parts.old.store parts.new.store }
 {
@@ -52,14 +53,14 @@ pub fn on_service<S: PropStore>(
 }
 
 /// Starts a service once, and waits for its process, unless it runs already.
-pub fn exec_start<S: PropStore>(
+pub fn exec_start<S: PropStore, O: Outputs>(
     alloc: Global,
-    parts: &mut Parts<S>,
+    parts: &mut Parts<S, O>,
     name: Text,
 ) -> Result<Done, NoMemory>
     ensures ending { IfOk result (λ ending. ending ≡
         (effect_spec.exec_start (rules_of parts.old) name (place_of (rules_of parts.old) name) (state_of S.meaning parts.old)).ending) }
-    ensures did { OnOk result (Does S.meaning S.told parts.old parts.new
+    ensures did { OnOk result (Does S.meaning S.told O.Adds parts.old parts.new
         (effect_spec.exec_start (rules_of parts.old) name (place_of (rules_of parts.old) name) (state_of S.meaning parts.old)).did) }
     ensures beside { S.Beside parts.old.store parts.new.store }
 {

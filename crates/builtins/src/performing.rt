@@ -13,19 +13,20 @@ use crate::waits::{exec, wait_for_file, wait_for_property};
 use init_base::NoMemory;
 use init_machine::{Cause, Done, PropStore, Task};
 use machine_parts::Parts;
+use outputs::Outputs;
 use std::alloc::Global;
 
 /// Does what a task says, and answers how it ended.
 #[tactic(auto, unfolding(init_machine::specs::Effect::perform))]
-pub fn perform<S: PropStore>(
+pub fn perform<S: PropStore, O: Outputs>(
     alloc: Global,
-    parts: &mut Parts<S>,
+    parts: &mut Parts<S, O>,
     task: Task,
 ) -> Result<Done, NoMemory>
     requires { IsTrue (is_brief task) }
     ensures ending { IfOk result (λ ending. ending ≡ (spec.perform (rules_of parts.old) task (state_of S.meaning parts.old)).ending) }
     ensures did { OnOk result
-        (Does S.meaning S.told parts.old parts.new (spec.perform (rules_of parts.old) task (state_of S.meaning parts.old)).did) }
+        (Does S.meaning S.told O.Adds parts.old parts.new (spec.perform (rules_of parts.old) task (state_of S.meaning parts.old)).did) }
     ensures beside { S.Beside parts.old.store parts.new.store }
 {
     match task {

@@ -8,21 +8,17 @@ ghost use Rattle.machine_parts.specs.Parts.{Does, rules_of, state_of};
 use crate::expanding::expand_args;
 use crate::performing::perform;
 use crate::task::task_of;
-use init_base::{List, NoMemory};
+use init_base::NoMemory;
 use init_machine::{Cause, Command, Done, Output, PropStore, Waiting};
 use machine_parts::Parts;
+use outputs::Outputs;
 use std::alloc::Global;
 
-/// The line of a command.
-fn line_of(command: Command) -> Output
-    ensures { result ≡ command_line command command.args }
+/// Tells the line of a command.
+fn add_line<O: Outputs>(command: &Command, outputs: &mut O) -> Result<(), NoMemory>
+    ensures { OnOk result (O.Adds outputs.old outputs.new (command_line command.now command.now.args ∷ [])) }
 {
-    Output::Command {
-        file: command.file,
-        line: command.line,
-        word: command.word,
-        args: command.args,
-    }
+    outputs.command(&command.file, command.line, command.word, &command.args)
 }
 
 /// The line of a wait.
@@ -43,13 +39,13 @@ fn wait_line(what: &Waiting) -> Result<Output, NoMemory>
 }
 
 /// The line behind a command, and what it waits for.
-fn end_command(
+fn end_command<O: Outputs>(
     ending: Done,
     waits: &mut Option<Waiting>,
-    outputs: &mut List<Output>,
+    outputs: &mut O,
 ) -> Result<(), NoMemory>
     ensures waits { OnOk result (waits.new ≡ waiting_by ending waits.old) }
-    ensures lines { OnOk result (outputs.new ≡ outputs.old ++ ending_line ending ∷ []) }
+    ensures lines { OnOk result (O.Adds outputs.old outputs.new (ending_line ending ∷ [])) }
 {
     match ending {
         Done::Ok => outputs.push(Output::Ok),
@@ -63,39 +59,43 @@ fn end_command(
 }
 
 /// Tells the line of a command whose arguments are expanded, does what it asks for, and tells how it ended.
-fn run_expanded<S: PropStore>(
+fn run_expanded<S: PropStore, O: Outputs>(
     alloc: Global,
-    parts: &mut Parts<S>,
+    parts: &mut Parts<S, O>,
     command: Command,
 ) -> Result<(), NoMemory>
-    ensures done { OnOk result (Does S.meaning S.told parts.old parts.new
+    ensures done { OnOk result (Does S.meaning S.told O.Adds parts.old parts.new
         (effect_by (rules_of parts.old) command (Ok command.args) (state_of S.meaning parts.old))) }
     ensures beside { S.Beside parts.old.store parts.new.store }
 {
     let task = task_of(command.word, command.args.items())?;
-    parts.outputs.push(line_of(command))?;
+    add_line(&command, &mut parts.outputs)?;
     let ending = perform(alloc, parts, task)?;
     end_command(ending, &mut parts.waits, &mut parts.outputs)
 }
 
 /// Tells the line of a command, and why its arguments could not be expanded.
-fn refuse<S: PropStore>(parts: &mut Parts<S>, command: Command, why: Cause) -> Result<(), NoMemory>
-    ensures done { OnOk result (Does S.meaning S.told parts.old parts.new
+fn refuse<S: PropStore, O: Outputs>(
+    parts: &mut Parts<S, O>,
+    command: Command,
+    why: Cause,
+) -> Result<(), NoMemory>
+    ensures done { OnOk result (Does S.meaning S.told O.Adds parts.old parts.new
         (effect_by (rules_of parts.old) command (Err why) (state_of S.meaning parts.old))) }
     ensures beside { S.Beside parts.old.store parts.new.store }
 {
-    parts.outputs.push(line_of(command))?;
+    add_line(&command, &mut parts.outputs)?;
     end_command(Done::Failed(why), &mut parts.waits, &mut parts.outputs)
 }
 
 /// Runs a command: its line, what it does, and how it ended. Its arguments are expanded first.
-pub fn run<S: PropStore>(
+pub fn run<S: PropStore, O: Outputs>(
     alloc: Global,
-    parts: &mut Parts<S>,
+    parts: &mut Parts<S, O>,
     mut command: Command,
 ) -> Result<(), NoMemory>
     ensures done { OnOk result
-        (Does S.meaning S.told parts.old parts.new (effect (rules_of parts.old) command (state_of S.meaning parts.old))) }
+        (Does S.meaning S.told O.Adds parts.old parts.new (effect (rules_of parts.old) command (state_of S.meaning parts.old))) }
     ensures beside { S.Beside parts.old.store parts.new.store }
 {
     match expand_args(alloc, &mut parts.store, &mut command.args)? {

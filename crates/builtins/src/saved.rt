@@ -10,13 +10,18 @@ ghost use Rattle.machine_parts.specs.Parts.{Does, rules_of, state_of};
 use init_base::{List, NoMemory};
 use init_machine::{Done, Pair, PropStore};
 use machine_parts::{Parts, add_refusal, set_property};
+use outputs::Outputs;
 use std::alloc::Global;
 
 /// Sets a saved property. Where that is refused it leaves the saved pairs, and the refusal has a line.
-fn set_saved<S: PropStore>(alloc: Global, parts: &mut Parts<S>, pair: &Pair) -> Result<(), NoMemory>
+fn set_saved<S: PropStore, O: Outputs>(
+    alloc: Global,
+    parts: &mut Parts<S, O>,
+    pair: &Pair,
+) -> Result<(), NoMemory>
     requires { IsTrue (is_persistent pair.now.name) }
     ensures done { OnOk result
-        (Does S.meaning S.told parts.old parts.new (spec.set_saved (rules_of parts.old) pair.now (state_of S.meaning parts.old))) }
+        (Does S.meaning S.told O.Adds parts.old parts.new (spec.set_saved (rules_of parts.old) pair.now (state_of S.meaning parts.old))) }
     ensures beside { S.Beside parts.old.store parts.new.store }
 {
     let refused = set_property(alloc, parts, None, &pair.name, &pair.value)?;
@@ -27,13 +32,13 @@ fn set_saved<S: PropStore>(alloc: Global, parts: &mut Parts<S>, pair: &Pair) -> 
 }
 
 /// Sets saved properties one after another, until the machine is over.
-fn set_each<S: PropStore>(
+fn set_each<S: PropStore, O: Outputs>(
     alloc: Global,
-    parts: &mut Parts<S>,
+    parts: &mut Parts<S, O>,
     pairs: &[Pair],
 ) -> Result<(), NoMemory>
     requires { IsTrue (list_all (λ p. is_persistent p.name) pairs.now) }
-    ensures done { OnOk result (Does S.meaning S.told parts.old parts.new
+    ensures done { OnOk result (Does S.meaning S.told O.Adds parts.old parts.new
         (each (spec.set_saved (rules_of parts.old)) pairs.now (state_of S.meaning parts.old))) }
     ensures beside { S.Beside parts.old.store parts.new.store }
 {
@@ -61,10 +66,13 @@ fn copy_of(alloc: Global, pairs: &List<Pair>) -> Result<List<Pair>, NoMemory>
 }
 
 /// Sets the saved properties, and from then on sets of persistent properties are saved. Once they are, it does nothing.
-pub fn load_saved<S: PropStore>(alloc: Global, parts: &mut Parts<S>) -> Result<Done, NoMemory>
+pub fn load_saved<S: PropStore, O: Outputs>(
+    alloc: Global,
+    parts: &mut Parts<S, O>,
+) -> Result<Done, NoMemory>
     ensures ending { IfOk result (λ ending. ending ≡ Done.Ok) }
     ensures did { OnOk result
-        (Does S.meaning S.told parts.old parts.new (spec.load_saved (rules_of parts.old) (state_of S.meaning parts.old))) }
+        (Does S.meaning S.told O.Adds parts.old parts.new (spec.load_saved (rules_of parts.old) (state_of S.meaning parts.old))) }
     ensures beside { S.Beside parts.old.store parts.new.store }
 {
     if parts.saving {

@@ -11,6 +11,7 @@ use init_base::{NoMemory, Text};
 use init_machine::{Cause, Done, FsRefusal, Output, PropStore, TreeCall};
 use machine_parts::Parts;
 use model_fs::Tree;
+use outputs::Outputs;
 use std::alloc::Global;
 
 /// Makes a call of a tree.
@@ -65,14 +66,14 @@ fn changed_path(call: TreeCall) -> Text
 }
 
 /// Changes the tree. The line has the path that is changed.
-pub fn change_tree<S: PropStore>(
+pub fn change_tree<S: PropStore, O: Outputs>(
     alloc: Global,
-    parts: &mut Parts<S>,
+    parts: &mut Parts<S, O>,
     call: TreeCall,
 ) -> Result<Done, NoMemory>
     ensures ending { IfOk result (λ ending. ending
         ≡ (effect_spec.change_tree call (tree_refusal parts.old.tree call) (state_of S.meaning parts.old)).ending) }
-    ensures did { OnOk result (Does S.meaning S.told parts.old parts.new
+    ensures did { OnOk result (Does S.meaning S.told O.Adds parts.old parts.new
         (effect_spec.change_tree call (tree_refusal parts.old.tree call) (state_of S.meaning parts.old)).did) }
     ensures beside { S.Beside parts.old.store parts.new.store }
 {

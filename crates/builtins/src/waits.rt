@@ -8,16 +8,21 @@ use init_base::{Millis, NoMemory, PropName, Text};
 use init_machine::{Cause, Done, Output, Pair, PropStore, Waiting, has_value};
 use machine_parts::Parts;
 use model_kernel::SpawnRefusal;
+use outputs::Outputs;
 use std::alloc::Global;
 
 /// The name of the process of a program that is run once.
 const EXEC: &[u8] = b"*exec";
 
 /// Runs a program once, and waits for it.
-pub fn exec<S: PropStore>(alloc: Global, parts: &mut Parts<S>, path: Text) -> Result<Done, NoMemory>
+pub fn exec<S: PropStore, O: Outputs>(
+    alloc: Global,
+    parts: &mut Parts<S, O>,
+    path: Text,
+) -> Result<Done, NoMemory>
     ensures ending { IfOk result (λ ending. ending ≡ (spec.exec (rules_of parts.old) path (state_of S.meaning parts.old)).ending) }
     ensures did { OnOk result
-        (Does S.meaning S.told parts.old parts.new (spec.exec (rules_of parts.old) path (state_of S.meaning parts.old)).did) }
+        (Does S.meaning S.told O.Adds parts.old parts.new (spec.exec (rules_of parts.old) path (state_of S.meaning parts.old)).did) }
     ensures beside { S.Beside parts.old.store parts.new.store }
 {
     let name = Text::of(alloc, EXEC)?;
@@ -35,14 +40,14 @@ pub fn exec<S: PropStore>(alloc: Global, parts: &mut Parts<S>, path: Text) -> Re
 }
 
 /// Waits for a value of a property, unless it has it already.
-pub fn wait_for_property<S: PropStore>(
-    parts: &mut Parts<S>,
+pub fn wait_for_property<S: PropStore, O: Outputs>(
+    parts: &mut Parts<S, O>,
     name: Text,
     value: Text,
 ) -> Result<Done, NoMemory>
     ensures ending { IfOk result (λ ending. ending ≡ (spec.wait_for_property name value (state_of S.meaning parts.old)).ending) }
     ensures did { OnOk result
-        (Does S.meaning S.told parts.old parts.new (spec.wait_for_property name value (state_of S.meaning parts.old)).did) }
+        (Does S.meaning S.told O.Adds parts.old parts.new (spec.wait_for_property name value (state_of S.meaning parts.old)).did) }
     ensures beside { S.Beside parts.old.store parts.new.store }
 {
     let Some(legal) = PropName::of(name.bytes()) else {
@@ -56,15 +61,15 @@ pub fn wait_for_property<S: PropStore>(
 }
 
 /// Waits for a file, unless it is there already.
-pub fn wait_for_file<S: PropStore>(
-    parts: &mut Parts<S>,
+pub fn wait_for_file<S: PropStore, O: Outputs>(
+    parts: &mut Parts<S, O>,
     path: Text,
     within: Millis,
 ) -> Result<Done, NoMemory>
     requires { within.0 ≤ 1000000000 }
     ensures ending { IfOk result (λ ending. ending ≡ (spec.wait_for_file path within (state_of S.meaning parts.old)).ending) }
     ensures did { OnOk result
-        (Does S.meaning S.told parts.old parts.new (spec.wait_for_file path within (state_of S.meaning parts.old)).did) }
+        (Does S.meaning S.told O.Adds parts.old parts.new (spec.wait_for_file path within (state_of S.meaning parts.old)).did) }
     ensures beside { S.Beside parts.old.store parts.new.store }
 {
     if parts.tree.has(path.bytes()) {

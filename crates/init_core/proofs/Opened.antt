@@ -46,18 +46,17 @@ well_formed (a ∷ actions) is =
 pub of_ok : {T E : Type 0} (P : T → Type 0) (r : Result T E) (value : T) → r ≡ Ok value → IfOk r P → P value
 of_ok {T} {E} P r value is holds = subst (λ (answer : Result T E). IfOk answer P) is holds
 
-pub opens : {S : Type 0} (meaning : S → Props) (config : Config) (policy : PolicyLines) (store : S) (parts : Parts S) → (meaning store).held ≡ [] → (meaning store).count ≡ 0
-    → parts ≡ first_parts (opened_by config.actions config.services config.plans) store policy config.saved
+pub opens : {S O : Type 0} (meaning : S → Props) (config : Config) (policy : PolicyLines) (store : S) (outputs : O) (parts : Parts S O) → (meaning store).held ≡ [] → (meaning store).count ≡ 0
+    → parts ≡ first_parts (opened_by config.actions config.services config.plans) store policy config.saved outputs
     → shown meaning config.pairs config.domains false parts ≡ core_opened config policy (meaning store).capacity store
 unfolding first_state
-opens {S} meaning config policy store parts held count is =
+opens {S} meaning config policy store outputs parts held count is =
     let props : meaning store ≡ no_props (meaning store).capacity = λ i. record { held = held i; count = count i; capacity = (meaning store).capacity } in
     ap (shown meaning config.pairs config.domains false) is
     ∙ ap (λ (now : Props). let view : CoreView S = record {
       config = without_saved config;
       policy = policy;
       state = record (first_state (opening_of config policy (meaning store).capacity)) { props = now };
-      outputs = [];
       store = store;
       spent = false;
     } in view) props

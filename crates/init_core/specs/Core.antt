@@ -8,16 +8,13 @@ use Rattle.init_machine.specs.declared.config.Config.{Config}
 use Rattle.init_machine.specs.declared.config.Pair.{Pair}
 use Rattle.init_machine.specs.declared.input.Input.{Input}
 use Rattle.init_machine.specs.declared.input.Input.TheVariants as input
-use Rattle.init_machine.specs.declared.output.Output.{Output}
 use Rattle.machine_parts.specs.declared.parts.Parts.{Parts}
 
--- What the machine goes by, its state, the outputs of its last input, its store of properties, and whether memory ran out at
--- an input. The saved pairs of the configuration are in the state; no step reads those of the configuration.
+-- What the machine goes by, its state, its store of properties, and whether memory ran out at an input. The saved pairs of the configuration are in the state; no step reads those of the configuration.
 pub record CoreView (S : Type 0) : Type 0 where
   pub config : Config
   pub policy : PolicyLines
   pub state : State
-  pub outputs : List Output
   pub store : S
   pub spent : Bool
 
@@ -28,7 +25,7 @@ abbrev pub opening_of : Config → PolicyLines → ℕ → Opening
 opening_of config policy capacity = record { config = config; policy = policy; capacity = capacity }
 
 -- What the machine goes by, but its policy. (The saved pairs are in the state.)
-abbrev pub config_of : {S : Type 0} → List Pair → List (List ℕ) → Parts S → Config
+abbrev pub config_of : {S O : Type 0} → List Pair → List (List ℕ) → Parts S O → Config
 config_of pairs domains p = record {
   actions = p.queue.actions;
   services = p.services.defs;
@@ -44,7 +41,6 @@ opened config policy capacity store = record {
   config = without_saved config;
   policy = policy;
   state = first_state (opening_of config policy capacity);
-  outputs = [];
   store = store;
   spent = false;
 }

@@ -20,8 +20,8 @@ opened_by actions services plans = record {
   tree = first_tree;
 }
 
-abbrev pub first_parts : {S : Type 0} → Opened → S → PolicyLines → List Pair → Parts S
-first_parts opened store policy saved = record {
+abbrev pub first_parts : {S O : Type 0} → Opened → S → PolicyLines → List Pair → O → Parts S O
+first_parts opened store policy saved outputs = record {
   store = store;
   queue = opened.queue;
   services = opened.services;
@@ -33,5 +33,5 @@ first_parts opened store policy saved = record {
   saving = false;
   waits = None;
   over = None;
-  outputs = [];
+  outputs = outputs;
 }

@@ -11,12 +11,17 @@ use crate::read::is_charger;
 use init_base::{List, NoMemory, Text};
 use init_machine::{Output, Pair, PropStore};
 use machine_parts::{Parts, add_refusal, set_by};
+use outputs::Outputs;
 use std::alloc::Global;
 
 /// A pair of the build files is set by init.
-fn set_pair<S: PropStore>(alloc: Global, parts: &mut Parts<S>, pair: &Pair) -> Result<(), NoMemory>
+fn set_pair<S: PropStore, O: Outputs>(
+    alloc: Global,
+    parts: &mut Parts<S, O>,
+    pair: &Pair,
+) -> Result<(), NoMemory>
     ensures done { OnOk result
-        (Does S.meaning S.told parts.old parts.new (spec.set_pair (rules_of parts.old) pair.now (state_of S.meaning parts.old))) }
+        (Does S.meaning S.told O.Adds parts.old parts.new (spec.set_pair (rules_of parts.old) pair.now (state_of S.meaning parts.old))) }
     ensures beside { S.Beside parts.old.store parts.new.store }
 {
     let refused = set_by(alloc, parts, None, &pair.name, &pair.value)?;
@@ -24,13 +29,13 @@ fn set_pair<S: PropStore>(alloc: Global, parts: &mut Parts<S>, pair: &Pair) -> R
 }
 
 /// Pairs of the build files are set by init, also where the machine is over.
-fn set_pairs<S: PropStore>(
+fn set_pairs<S: PropStore, O: Outputs>(
     alloc: Global,
-    parts: &mut Parts<S>,
+    parts: &mut Parts<S, O>,
     pairs: &List<Pair>,
 ) -> Result<(), NoMemory>
     ensures done { OnOk result
-        (Does S.meaning S.told parts.old parts.new (spec.set_pairs (rules_of parts.old) pairs.now (state_of S.meaning parts.old))) }
+        (Does S.meaning S.told O.Adds parts.old parts.new (spec.set_pairs (rules_of parts.old) pairs.now (state_of S.meaning parts.old))) }
     ensures beside { S.Beside parts.old.store parts.new.store }
 {
     for pair in pairs.items() {
@@ -53,9 +58,13 @@ fn last_stage<S: PropStore>(alloc: Global, store: &mut S) -> Result<Text, NoMemo
 }
 
 /// Queues the events of a boot, and behind them the mark.
-fn queue_boot<S: PropStore>(alloc: Global, parts: &mut Parts<S>) -> Result<(), NoMemory>
+fn queue_boot<S: PropStore, O: Outputs>(
+    alloc: Global,
+    parts: &mut Parts<S, O>,
+) -> Result<(), NoMemory>
     requires { parts.old.queue.had_boot ≡ false }
-    ensures done { OnOk result (Does S.meaning S.told parts.old parts.new (nothing (spec.queue_boot (state_of S.meaning parts.old)))) }
+    ensures done { OnOk result (Does S.meaning S.told O.Adds parts.old parts.new
+        (nothing (spec.queue_boot (state_of S.meaning parts.old)))) }
     ensures beside { S.Beside parts.old.store parts.new.store }
 {
     let last = last_stage(alloc, &mut parts.store)?;
@@ -63,14 +72,14 @@ fn queue_boot<S: PropStore>(alloc: Global, parts: &mut Parts<S>) -> Result<(), N
 }
 
 /// The first boot: the last pair of each name is set, in ascending order of names, and the events are queued.
-fn first_boot<S: PropStore>(
+fn first_boot<S: PropStore, O: Outputs>(
     alloc: Global,
-    parts: &mut Parts<S>,
+    parts: &mut Parts<S, O>,
     pairs: &List<Pair>,
 ) -> Result<(), NoMemory>
     requires { parts.old.queue.had_boot ≡ false }
     ensures done { OnOk result
-        (Does S.meaning S.told parts.old parts.new (spec.first_boot pairs.now (rules_of parts.old) (state_of S.meaning parts.old))) }
+        (Does S.meaning S.told O.Adds parts.old parts.new (spec.first_boot pairs.now (rules_of parts.old) (state_of S.meaning parts.old))) }
     ensures beside { S.Beside parts.old.store parts.new.store }
 {
     let last = last_pairs(alloc, pairs)?;
@@ -79,13 +88,13 @@ fn first_boot<S: PropStore>(
 }
 
 /// The first boot sets the pairs of the build files and queues its events. A later one is idle.
-pub fn boot<S: PropStore>(
+pub fn boot<S: PropStore, O: Outputs>(
     alloc: Global,
-    parts: &mut Parts<S>,
+    parts: &mut Parts<S, O>,
     pairs: &List<Pair>,
 ) -> Result<(), NoMemory>
     ensures done { OnOk result
-        (Does S.meaning S.told parts.old parts.new (spec.boot pairs.now (rules_of parts.old) (state_of S.meaning parts.old))) }
+        (Does S.meaning S.told O.Adds parts.old parts.new (spec.boot pairs.now (rules_of parts.old) (state_of S.meaning parts.old))) }
     ensures beside { S.Beside parts.old.store parts.new.store }
 {
     if parts.queue.had_boot() {

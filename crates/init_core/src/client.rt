@@ -8,6 +8,7 @@ ghost use Rattle.machine_parts.specs.Parts.{Does, rules_of, state_of};
 use init_base::{ClientId, List, NoMemory, Text};
 use init_machine::{Output, PropStore, SetRefusal};
 use machine_parts::{Parts, set_by};
+use outputs::Outputs;
 use std::alloc::Global;
 
 fn is_control(name: &[u8]) -> bool
@@ -36,14 +37,14 @@ fn answer_line(refused: Option<SetRefusal>, is_control: bool, count: u64) -> Out
 }
 
 /// A client asks for a property to be set.
-fn ask<S: PropStore>(
+fn ask<S: PropStore, O: Outputs>(
     alloc: Global,
-    parts: &mut Parts<S>,
+    parts: &mut Parts<S, O>,
     domain: &Text,
     name: &Text,
     value: &Text,
 ) -> Result<(), NoMemory>
-    ensures done { OnOk result (Does S.meaning S.told parts.old parts.new
+    ensures done { OnOk result (Does S.meaning S.told O.Adds parts.old parts.new
         (step_spec.ask (rules_of parts.old) domain.now name.now value.now (state_of S.meaning parts.old))) }
     ensures beside { S.Beside parts.old.store parts.new.store }
 {
@@ -55,9 +56,9 @@ fn ask<S: PropStore>(
 }
 
 /// A client asks for a property to be set, and is judged by the domain of its number.
-pub fn set_of_client<S: PropStore>(
+pub fn set_of_client<S: PropStore, O: Outputs>(
     alloc: Global,
-    parts: &mut Parts<S>,
+    parts: &mut Parts<S, O>,
     domains: &List<Text>,
     who: ClientId,
     name: &Text,
@@ -65,7 +66,7 @@ pub fn set_of_client<S: PropStore>(
 ) -> Result<(), NoMemory>
     requires from { 1 ≤ who.0 }
     requires to { who.0 ≤ length domains.now }
-    ensures done { OnOk result (Does S.meaning S.told parts.old parts.new
+    ensures done { OnOk result (Does S.meaning S.told O.Adds parts.old parts.new
         (step_spec.ask (rules_of parts.old) (step_spec.domain_of domains.now who) name.now value.now (state_of S.meaning parts.old))) }
     ensures beside { S.Beside parts.old.store parts.new.store }
 {

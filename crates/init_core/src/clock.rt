@@ -13,12 +13,16 @@ use init_base::{List, NoMemory, Text};
 use init_machine::{Cause, FsRefusal, How, Op, Output, PropStore};
 use machine_parts::{Parts, operate_each};
 use model_kernel::{Reaped, TickRefusal};
+use outputs::Outputs;
 use std::alloc::Global;
 
 /// The services whose processes have run for as long as their timeouts allow are timed out.
-fn time_out<S: PropStore>(alloc: Global, parts: &mut Parts<S>) -> Result<(), NoMemory>
+fn time_out<S: PropStore, O: Outputs>(
+    alloc: Global,
+    parts: &mut Parts<S, O>,
+) -> Result<(), NoMemory>
     ensures done { OnOk result
-        (Does S.meaning S.told parts.old parts.new (spec.time_out (rules_of parts.old) (state_of S.meaning parts.old))) }
+        (Does S.meaning S.told O.Adds parts.old parts.new (spec.time_out (rules_of parts.old) (state_of S.meaning parts.old))) }
     ensures beside { S.Beside parts.old.store parts.new.store }
 {
     let places = parts.services.timed_out(alloc, parts.kernel.now())?;
@@ -26,9 +30,12 @@ fn time_out<S: PropStore>(alloc: Global, parts: &mut Parts<S>) -> Result<(), NoM
 }
 
 /// The restarting services that are due are started.
-fn restart_due<S: PropStore>(alloc: Global, parts: &mut Parts<S>) -> Result<(), NoMemory>
+fn restart_due<S: PropStore, O: Outputs>(
+    alloc: Global,
+    parts: &mut Parts<S, O>,
+) -> Result<(), NoMemory>
     ensures done { OnOk result
-        (Does S.meaning S.told parts.old parts.new (spec.restart_due (rules_of parts.old) (state_of S.meaning parts.old))) }
+        (Does S.meaning S.told O.Adds parts.old parts.new (spec.restart_due (rules_of parts.old) (state_of S.meaning parts.old))) }
     ensures beside { S.Beside parts.old.store parts.new.store }
 {
     let places = parts.services.due(alloc, parts.kernel.now())?;
@@ -36,12 +43,12 @@ fn restart_due<S: PropStore>(alloc: Global, parts: &mut Parts<S>) -> Result<(), 
 }
 
 /// The processes that have ended are reaped, and then services are timed out.
-fn reap_and_time_out<S: PropStore>(
+fn reap_and_time_out<S: PropStore, O: Outputs>(
     alloc: Global,
-    parts: &mut Parts<S>,
+    parts: &mut Parts<S, O>,
     ended: &List<Reaped>,
 ) -> Result<(), NoMemory>
-    ensures done { OnOk result (Does S.meaning S.told parts.old parts.new (and_then
+    ensures done { OnOk result (Does S.meaning S.told O.Adds parts.old parts.new (and_then
         (each (reap_one (rules_of parts.old)) ended.now (state_of S.meaning parts.old)) (spec.time_out (rules_of parts.old)))) }
     ensures beside { S.Beside parts.old.store parts.new.store }
 {
@@ -53,13 +60,13 @@ fn reap_and_time_out<S: PropStore>(
 }
 
 /// What comes about when the clock has moved: reapings, then time-outs, then restarts, each while the machine isn't over.
-fn move_clock<S: PropStore>(
+fn move_clock<S: PropStore, O: Outputs>(
     alloc: Global,
-    parts: &mut Parts<S>,
+    parts: &mut Parts<S, O>,
     ended: &List<Reaped>,
 ) -> Result<(), NoMemory>
     ensures done { OnOk result
-        (Does S.meaning S.told parts.old parts.new
+        (Does S.meaning S.told O.Adds parts.old parts.new
         (and_then (and_then (each (reap_one (rules_of parts.old)) ended.now (state_of S.meaning parts.old))
         (spec.time_out (rules_of parts.old))) (spec.restart_due (rules_of parts.old)))) }
     ensures beside { S.Beside parts.old.store parts.new.store }
@@ -72,9 +79,13 @@ fn move_clock<S: PropStore>(
 }
 
 /// The clock moves, unless it would pass its last time.
-pub fn tick<S: PropStore>(alloc: Global, parts: &mut Parts<S>, ms: u64) -> Result<(), NoMemory>
+pub fn tick<S: PropStore, O: Outputs>(
+    alloc: Global,
+    parts: &mut Parts<S, O>,
+    ms: u64,
+) -> Result<(), NoMemory>
     ensures done { OnOk result
-        (Does S.meaning S.told parts.old parts.new (spec.tick (rules_of parts.old) ms (state_of S.meaning parts.old))) }
+        (Does S.meaning S.told O.Adds parts.old parts.new (spec.tick (rules_of parts.old) ms (state_of S.meaning parts.old))) }
     ensures beside { S.Beside parts.old.store parts.new.store }
 {
     match parts.kernel.tick(alloc, ms) {
@@ -85,14 +96,14 @@ pub fn tick<S: PropStore>(alloc: Global, parts: &mut Parts<S>, ms: u64) -> Resul
 }
 
 /// The process of this name with the least pid exits.
-pub fn exit<S: PropStore>(
+pub fn exit<S: PropStore, O: Outputs>(
     alloc: Global,
-    parts: &mut Parts<S>,
+    parts: &mut Parts<S, O>,
     name: &Text,
     status: u8,
 ) -> Result<(), NoMemory>
     ensures done { OnOk result
-        (Does S.meaning S.told parts.old parts.new (spec.exit (rules_of parts.old) name.now status (state_of S.meaning parts.old))) }
+        (Does S.meaning S.told O.Adds parts.old parts.new (spec.exit (rules_of parts.old) name.now status (state_of S.meaning parts.old))) }
     ensures beside { S.Beside parts.old.store parts.new.store }
 {
     match parts.kernel.exit(name.bytes()) {
@@ -102,8 +113,8 @@ pub fn exit<S: PropStore>(
 }
 
 /// The line of a file that the tree refuses. Want of memory is no refusal.
-fn add_refusal(kind: FsRefusal, outputs: &mut List<Output>) -> Result<(), NoMemory>
-    ensures line { OnOk result (outputs.new ≡ outputs.old ++ output.Failed (cause.Tree kind) ∷ []) }
+fn add_refusal<O: Outputs>(kind: FsRefusal, outputs: &mut O) -> Result<(), NoMemory>
+    ensures line { OnOk result (O.Adds outputs.old outputs.new (output.Failed (cause.Tree kind) ∷ [])) }
     ensures other { OnOk result (kind ≢ FsRefusal.NoMemory) }
 {
     match kind {
@@ -115,13 +126,14 @@ fn add_refusal(kind: FsRefusal, outputs: &mut List<Output>) -> Result<(), NoMemo
 }
 
 /// A file appears in the tree.
-pub fn file<S: PropStore>(
+pub fn file<S: PropStore, O: Outputs>(
     alloc: Global,
-    parts: &mut Parts<S>,
+    parts: &mut Parts<S, O>,
     path: &Text,
     content: &Text,
 ) -> Result<(), NoMemory>
-    ensures done { OnOk result (Does S.meaning S.told parts.old parts.new (spec.file path.now content.now (state_of S.meaning parts.old))) }
+    ensures done { OnOk result (Does S.meaning S.told O.Adds parts.old parts.new
+        (spec.file path.now content.now (state_of S.meaning parts.old))) }
     ensures beside { S.Beside parts.old.store parts.new.store }
 {
     match parts.tree.write(alloc, path.bytes(), content.share()?) {

@@ -5,11 +5,13 @@ ghost use Rattle.std.specs.Prelude.{◌≡◌, ◌≤◌, ◌↔◌, [], length,
 use crate::opening::{Opened, both};
 use crate::step::step;
 use init_base::{List, NoMemory, PropName, Text};
-use init_machine::{Config, Input, Output, Pair, PropStore};
+use init_machine::{Config, Input, Pair, PropStore};
 use machine_parts::{Parts, Saved};
+use outputs::Outputs;
 use prop_contexts::Policy;
 use std::alloc::Global;
 use std::marker::Model;
+use std::mem;
 
 /// Why a core took no input.
 #[derive(Clone, Copy, Debug, PartialEq, Eq)]
@@ -32,19 +34,19 @@ impl From<NoMemory> for CoreStop {
 
 /// The machine over a store of properties.
 ///
-/// To contracts it is what it goes by, its state, the outputs of its last input, its store, and whether it is spent.
+/// To contracts it is what it goes by, its state, its store, and whether it is spent.
 #[derive(Drop)]
-pub struct Core<S: PropStore> {
+pub struct Core<S: PropStore, O: Outputs> {
     pub(crate) alloc: Global,
     /// The pairs of the build files.
     pairs: List<Pair>,
     /// The domains of the clients.
     domains: List<Text>,
-    pub(crate) parts: Parts<S>,
+    pub(crate) parts: Parts<S, O>,
     spent: bool,
 }
 
-impl<S: PropStore> Model for Core<S> {
+impl<S: PropStore, O: Outputs> Model for Core<S, O> {
     ghost use Rattle.std.specs.Prelude.{[]};
     ghost use Rattle.init_core.specs.Core.{CoreView, config_of};
     ghost use Rattle.machine_parts.specs.Parts.{state_of};
@@ -55,13 +57,12 @@ impl<S: PropStore> Model for Core<S> {
       config = config_of c.pairs c.domains c.parts;
       policy = c.parts.policy;
       state = state_of S.meaning c.parts;
-      outputs = c.parts.outputs;
       store = c.parts.store;
       spent = c.spent;
     } };
 }
 
-impl<S: PropStore> Core<S> {
+impl<S: PropStore, O: Outputs> Core<S, O> {
     ghost use Rattle.init_core.specs.Core.{opened, step_of, IsDeclared};
     ghost use Rattle.init_core.specs.declared.machine.CoreStop.TheVariants as CoreStop;
     ghost use Rattle.init_base.specs.Value.{max_value_len};
@@ -69,8 +70,14 @@ impl<S: PropStore> Core<S> {
     ghost use Rattle.init_machine.specs.Props.{lookup_in, more_sets, IsLookUp};
     ghost use Rattle.init_machine.specs.WellFormed.{IsWellFormed};
 
-    /// The machine in its first state.
-    pub fn new(alloc: Global, config: Config, policy: Policy, store: S) -> Result<Core<S>, NoMemory>
+    /// The machine in its first state. The outputs are what stands in while no input is taken.
+    pub fn new(
+        alloc: Global,
+        config: Config,
+        policy: Policy,
+        store: S,
+        outputs: O,
+    ) -> Result<Core<S, O>, NoMemory>
     where
         S: Drop,
         requires config { IsWellFormed config }
@@ -88,7 +95,7 @@ impl<S: PropStore> Core<S> {
         } = config;
         let (policy, opened) = both(policy, Opened::new(alloc, actions, services, plans))?;
         let saved = Saved::of(saved);
-        let parts = opened.into_parts(alloc, store, policy, saved);
+        let parts = opened.into_parts(alloc, store, policy, saved, outputs);
         Ok(Core {
             alloc,
             pairs,
@@ -98,23 +105,22 @@ impl<S: PropStore> Core<S> {
         })
     }
 
-    /// Takes one input: what the documented step does. A set is of a client that the configuration declares. Its outputs take the
-    /// place of those of the input before.
+    /// Takes one input: what the documented step does, and tells its outputs. A set is of a client that the configuration declares.
     ///
     /// `Spent` comes exactly where an earlier call answered `NoMemory`, and changes nothing. After `NoMemory` the store
-    /// is the same beside the map, and nothing else is said of the core.
-    pub fn take(&mut self, input: &Input) -> Result<(), CoreStop>
+    /// is the same beside the map, and nothing else is said of the core and of what was told.
+    pub fn take(&mut self, input: &Input, outputs: &mut O) -> Result<(), CoreStop>
         requires declared { IsDeclared self.old.config input.now }
         ensures config { OnOk result (self.new.config ≡ self.old.config) }
         ensures policy { OnOk result (self.new.policy ≡ self.old.policy) }
         ensures state { OnOk result (self.new.state ≡ (step_of self.old input.now).state) }
-        ensures outputs { OnOk result (self.new.outputs ≡ (step_of self.old input.now).lines) }
+        ensures outputs { OnOk result (O.Adds outputs.old outputs.new (step_of self.old input.now).lines) }
         ensures told { OnOk result
             (S.told self.new.store ≡ more_sets (S.told self.old.store) (sets_in (step_of self.old input.now).lines)) }
         ensures ready { OnOk result (self.new.spent ≡ false) }
 
         ensures spent { (result ≡ Err CoreStop.Spent) ↔ (self.old.spent ≡ true) }
-        ensures unchanged { result ≡ Err CoreStop.Spent → self.new ≡ self.old }
+        ensures unchanged { result ≡ Err CoreStop.Spent → (self.new ≡ self.old) × (outputs.new ≡ outputs.old) }
         ensures no_memory { result ≡ Err CoreStop.NoMemory → self.new.spent ≡ true }
         ensures beside { S.Beside self.old.store self.new.store }
     {
@@ -122,23 +128,18 @@ impl<S: PropStore> Core<S> {
             return Err(CoreStop::Spent);
         }
         self.spent = true;
-        self.parts.outputs.truncate(0);
-        step(
+        mem::swap(&mut self.parts.outputs, outputs);
+        let taken = step(
             self.alloc,
             &self.pairs,
             &self.domains,
             &mut self.parts,
             input,
-        )?;
+        );
+        mem::swap(&mut self.parts.outputs, outputs);
+        taken?;
         self.spent = false;
         Ok(())
-    }
-
-    /// The outputs of the last input.
-    pub fn outputs(&self) -> &List<Output>
-        ensures { result.now ≡ self.now.outputs }
-    {
-        &self.parts.outputs
     }
 
     /// The properties to be saved.

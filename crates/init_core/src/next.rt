@@ -8,11 +8,15 @@ use builtins::run;
 use init_base::NoMemory;
 use init_machine::{Output, PropStore};
 use machine_parts::Parts;
+use outputs::Outputs;
 use std::alloc::Global;
 
 /// Events are taken, and one command runs. Where none runs, the machine is idle.
-fn take_and_run<S: PropStore>(alloc: Global, parts: &mut Parts<S>) -> Result<(), NoMemory>
-    ensures done { OnOk result (Does S.meaning S.told parts.old parts.new
+fn take_and_run<S: PropStore, O: Outputs>(
+    alloc: Global,
+    parts: &mut Parts<S, O>,
+) -> Result<(), NoMemory>
+    ensures done { OnOk result (Does S.meaning S.told O.Adds parts.old parts.new
         (spec.take_and_run (actions_of parts.old) (rules_of parts.old) (state_of S.meaning parts.old))) }
     ensures beside { S.Beside parts.old.store parts.new.store }
 {
@@ -28,8 +32,11 @@ fn take_and_run<S: PropStore>(alloc: Global, parts: &mut Parts<S>) -> Result<(),
 
 /// One command runs, unless the machine waits.
 #[tactic(auto, unfolding(init_machine::specs::Step::next))]
-pub fn next<S: PropStore>(alloc: Global, parts: &mut Parts<S>) -> Result<(), NoMemory>
-    ensures done { OnOk result (Does S.meaning S.told parts.old parts.new
+pub fn next<S: PropStore, O: Outputs>(
+    alloc: Global,
+    parts: &mut Parts<S, O>,
+) -> Result<(), NoMemory>
+    ensures done { OnOk result (Does S.meaning S.told O.Adds parts.old parts.new
         (spec.next (actions_of parts.old) (rules_of parts.old) (state_of S.meaning parts.old))) }
     ensures beside { S.Beside parts.old.store parts.new.store }
 {

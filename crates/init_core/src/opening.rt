@@ -12,6 +12,7 @@ use init_machine::{Action, Plan, PropStore, ServiceDef};
 use machine_parts::{Environment, Parts, Saved, Schedule};
 use model_fs::Tree;
 use model_kernel::Kernel;
+use outputs::Outputs;
 use prop_contexts::Policy;
 use services::Services;
 use std::alloc::Global;
@@ -65,14 +66,15 @@ impl Opened {
     }
 
     /// The parts of a machine of this store and this policy, with these pairs to be saved.
-    pub fn into_parts<S: PropStore>(
+    pub fn into_parts<S: PropStore, O: Outputs>(
         self,
         alloc: Global,
         store: S,
         policy: Policy,
         saved: Saved,
-    ) -> Parts<S>
-        ensures { result ≡ first_parts self store policy saved }
+        outputs: O,
+    ) -> Parts<S, O>
+        ensures { result ≡ first_parts self store policy saved outputs }
     {
         Parts {
             store,
@@ -86,7 +88,7 @@ impl Opened {
             saving: false,
             waits: None,
             over: None,
-            outputs: List::new(alloc),
+            outputs,
         }
     }
 }

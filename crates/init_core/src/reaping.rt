@@ -16,12 +16,13 @@ use init_base::{List, NoMemory, Pid, Text};
 use init_machine::{How, Move, Op, Output, PropStore, Waiting};
 use machine_parts::{Parts, release, tell};
 use model_kernel::Reaped;
+use outputs::Outputs;
 use services::Services;
 use std::alloc::Global;
 
 /// The machine is over, by a reboot.
-fn reboot<S: PropStore>(parts: &mut Parts<S>, target: Text) -> Result<(), NoMemory>
-    ensures done { OnOk result (Does S.meaning S.told parts.old parts.new (spec.reboot target (state_of S.meaning parts.old))) }
+fn reboot<S: PropStore, O: Outputs>(parts: &mut Parts<S, O>, target: Text) -> Result<(), NoMemory>
+    ensures done { OnOk result (Does S.meaning S.told O.Adds parts.old parts.new (spec.reboot target (state_of S.meaning parts.old))) }
     ensures beside { S.Beside parts.old.store parts.new.store }
 {
     parts.over = Some(target.share()?);
@@ -43,10 +44,14 @@ fn target(services: &Services, at: usize) -> Result<Option<Text>, NoMemory>
 
 /// The process of the service at a place has ended: the service is restarting, unless the end is one too many of a
 /// critical service.
-fn exited<S: PropStore>(alloc: Global, parts: &mut Parts<S>, at: usize) -> Result<(), NoMemory>
+fn exited<S: PropStore, O: Outputs>(
+    alloc: Global,
+    parts: &mut Parts<S, O>,
+    at: usize,
+) -> Result<(), NoMemory>
     requires { at < length parts.old.services.defs }
     ensures done { (service : ServiceLem) → slice_get parts.old.services.defs at ≡ Some service
-        → OnOk result (Does S.meaning S.told parts.old parts.new
+        → OnOk result (Does S.meaning S.told O.Adds parts.old parts.new
         (spec.exited (rules_of parts.old) service at (state_of S.meaning parts.old))) }
     ensures beside { S.Beside parts.old.store parts.new.store }
 {
@@ -63,8 +68,12 @@ fn exited<S: PropStore>(alloc: Global, parts: &mut Parts<S>, at: usize) -> Resul
 }
 
 /// The process of the service at a place has ended.
-fn end_service<S: PropStore>(alloc: Global, parts: &mut Parts<S>, at: usize) -> Result<(), NoMemory>
-    ensures done { OnOk result (Does S.meaning S.told parts.old parts.new
+fn end_service<S: PropStore, O: Outputs>(
+    alloc: Global,
+    parts: &mut Parts<S, O>,
+    at: usize,
+) -> Result<(), NoMemory>
+    ensures done { OnOk result (Does S.meaning S.told O.Adds parts.old parts.new
         (spec.end_service (rules_of parts.old) at (service_at (rules_of parts.old) at) (state_of S.meaning parts.old))) }
     ensures beside { S.Beside parts.old.store parts.new.store }
 {
@@ -80,8 +89,12 @@ fn end_service<S: PropStore>(alloc: Global, parts: &mut Parts<S>, at: usize) -> 
 }
 
 /// The process of the service of a name has ended. The child of `exec` belongs to no service.
-fn end_named<S: PropStore>(alloc: Global, parts: &mut Parts<S>, name: &Text) -> Result<(), NoMemory>
-    ensures done { OnOk result (Does S.meaning S.told parts.old parts.new
+fn end_named<S: PropStore, O: Outputs>(
+    alloc: Global,
+    parts: &mut Parts<S, O>,
+    name: &Text,
+) -> Result<(), NoMemory>
+    ensures done { OnOk result (Does S.meaning S.told O.Adds parts.old parts.new
         (spec.end_named (rules_of parts.old) (place_of (rules_of parts.old) name.now) (state_of S.meaning parts.old))) }
     ensures beside { S.Beside parts.old.store parts.new.store }
 {
@@ -102,8 +115,12 @@ fn is_awaited(waits: &Option<Waiting>, pid: Pid) -> bool
 }
 
 /// A wait for the child ends.
-fn release_child<S: PropStore>(parts: &mut Parts<S>, pid: Pid) -> Result<(), NoMemory>
-    ensures done { OnOk result (Does S.meaning S.told parts.old parts.new (spec.release_child pid.0 (state_of S.meaning parts.old))) }
+fn release_child<S: PropStore, O: Outputs>(
+    parts: &mut Parts<S, O>,
+    pid: Pid,
+) -> Result<(), NoMemory>
+    ensures done { OnOk result (Does S.meaning S.told O.Adds parts.old parts.new
+        (spec.release_child pid.0 (state_of S.meaning parts.old))) }
     ensures beside { S.Beside parts.old.store parts.new.store }
 {
     let ends = is_awaited(&parts.waits, pid);
@@ -111,22 +128,19 @@ fn release_child<S: PropStore>(parts: &mut Parts<S>, pid: Pid) -> Result<(), NoM
 }
 
 /// A process that has left the kernel is reaped.
-pub fn reap<S: PropStore>(
+pub fn reap<S: PropStore, O: Outputs>(
     alloc: Global,
-    parts: &mut Parts<S>,
+    parts: &mut Parts<S, O>,
     pid: Pid,
     name: &Text,
     how: How,
 ) -> Result<(), NoMemory>
     ensures done { OnOk result
-        (Does S.meaning S.told parts.old parts.new (spec.reap (rules_of parts.old) pid.0 name.now how (state_of S.meaning parts.old))) }
+        (Does S.meaning S.told O.Adds parts.old parts.new
+        (spec.reap (rules_of parts.old) pid.0 name.now how (state_of S.meaning parts.old))) }
     ensures beside { S.Beside parts.old.store parts.new.store }
 {
-    parts.outputs.push(Output::Reap {
-        pid,
-        name: name.share()?,
-        how,
-    })?;
+    parts.outputs.reap(pid, name, how)?;
     end_named(alloc, parts, name)?;
     if parts.over.is_some() {
         return Ok(());
@@ -135,13 +149,13 @@ pub fn reap<S: PropStore>(
 }
 
 /// Processes that have left the kernel are reaped, until the machine is over.
-pub fn reap_each<S: PropStore>(
+pub fn reap_each<S: PropStore, O: Outputs>(
     alloc: Global,
-    parts: &mut Parts<S>,
+    parts: &mut Parts<S, O>,
     ended: &List<Reaped>,
 ) -> Result<(), NoMemory>
     ensures done { OnOk result
-        (Does S.meaning S.told parts.old parts.new (each (reap_one (rules_of parts.old)) ended.now (state_of S.meaning parts.old))) }
+        (Does S.meaning S.told O.Adds parts.old parts.new (each (reap_one (rules_of parts.old)) ended.now (state_of S.meaning parts.old))) }
     ensures beside { S.Beside parts.old.store parts.new.store }
 {
     for process in ended.items() {

@@ -14,6 +14,7 @@ use builtins::run;
 use init_base::NoMemory;
 use init_machine::{Command, PropStore};
 use machine_parts::{Parts, tell};
+use outputs::Outputs;
 use services::Services;
 use std::alloc::Global;
 
@@ -38,14 +39,15 @@ fn onrestart_command(services: &Services, at: usize, place: usize) -> Option<&Co
 }
 
 /// The command at a place in the `onrestart` of a service runs.
-fn run_at<S: PropStore>(
+fn run_at<S: PropStore, O: Outputs>(
     alloc: Global,
-    parts: &mut Parts<S>,
+    parts: &mut Parts<S, O>,
     at: usize,
     place: usize,
 ) -> Result<(), NoMemory>
     ensures done { (command : CommandLem) → slice_get (onrestart_of (slice_get parts.old.services.defs at)) place ≡ Some command
-        → OnOk result (Does S.meaning S.told parts.old parts.new (effect (rules_of parts.old) command (state_of S.meaning parts.old))) }
+        → OnOk result (Does S.meaning S.told O.Adds parts.old parts.new
+        (effect (rules_of parts.old) command (state_of S.meaning parts.old))) }
     ensures beside { S.Beside parts.old.store parts.new.store }
 {
     let Some(command) = onrestart_command(&parts.services, at, place) else {
@@ -56,12 +58,12 @@ fn run_at<S: PropStore>(
 }
 
 /// The commands of the `onrestart` of the service at a place run, until the machine is over.
-fn run_onrestart<S: PropStore>(
+fn run_onrestart<S: PropStore, O: Outputs>(
     alloc: Global,
-    parts: &mut Parts<S>,
+    parts: &mut Parts<S, O>,
     at: usize,
 ) -> Result<(), NoMemory>
-    ensures done { OnOk result (Does S.meaning S.told parts.old parts.new
+    ensures done { OnOk result (Does S.meaning S.told O.Adds parts.old parts.new
         (each (effect (rules_of parts.old)) (onrestart_of (slice_get parts.old.services.defs at)) (state_of S.meaning parts.old))) }
     ensures beside { S.Beside parts.old.store parts.new.store }
 {
@@ -75,13 +77,13 @@ fn run_onrestart<S: PropStore>(
 }
 
 /// The service at a place is restarting, and the commands of its `onrestart` run.
-pub fn restarting<S: PropStore>(
+pub fn restarting<S: PropStore, O: Outputs>(
     alloc: Global,
-    parts: &mut Parts<S>,
+    parts: &mut Parts<S, O>,
     at: usize,
 ) -> Result<(), NoMemory>
     ensures done { (service : ServiceLem) → slice_get parts.old.services.defs at ≡ Some service
-        → OnOk result (Does S.meaning S.told parts.old parts.new
+        → OnOk result (Does S.meaning S.told O.Adds parts.old parts.new
         (spec.restarting (rules_of parts.old) service (state_of S.meaning parts.old))) }
     ensures beside { S.Beside parts.old.store parts.new.store }
 {

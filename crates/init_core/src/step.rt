@@ -14,6 +14,7 @@ use crate::waiting::settle;
 use init_base::{List, NoMemory, Text};
 use init_machine::{Input, Output, Pair, PropStore};
 use machine_parts::Parts;
+use outputs::Outputs;
 use std::alloc::Global;
 
 /// Whether the machine is over, and the input asks for that. A boot and a set don't.
@@ -24,15 +25,15 @@ fn is_down(over: &Option<Text>, input: &Input) -> bool
 }
 
 /// What an input does before it is settled. Most inputs ask first whether the machine is over.
-fn respond<S: PropStore>(
+fn respond<S: PropStore, O: Outputs>(
     alloc: Global,
     pairs: &List<Pair>,
     domains: &List<Text>,
-    parts: &mut Parts<S>,
+    parts: &mut Parts<S, O>,
     input: &Input,
 ) -> Result<(), NoMemory>
     requires { IsDeclared (config_of pairs.now domains.now parts.old) input.now }
-    ensures done { OnOk result (Does S.meaning S.told parts.old parts.new
+    ensures done { OnOk result (Does S.meaning S.told O.Adds parts.old parts.new
         (step_spec.respond (config_of pairs.now domains.now parts.old) (rules_of parts.old) input.now (state_of S.meaning parts.old))) }
     ensures beside { S.Beside parts.old.store parts.new.store }
 {
@@ -52,15 +53,15 @@ fn respond<S: PropStore>(
 }
 
 /// Takes one input: its outputs are added.
-pub fn step<S: PropStore>(
+pub fn step<S: PropStore, O: Outputs>(
     alloc: Global,
     pairs: &List<Pair>,
     domains: &List<Text>,
-    parts: &mut Parts<S>,
+    parts: &mut Parts<S, O>,
     input: &Input,
 ) -> Result<(), NoMemory>
     requires { IsDeclared (config_of pairs.now domains.now parts.old) input.now }
-    ensures done { OnOk result (Does S.meaning S.told parts.old parts.new
+    ensures done { OnOk result (Does S.meaning S.told O.Adds parts.old parts.new
         (step_spec.step (config_of pairs.now domains.now parts.old) parts.old.policy (state_of S.meaning parts.old) input.now)) }
     ensures beside { S.Beside parts.old.store parts.new.store }
 {

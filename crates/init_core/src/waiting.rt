@@ -7,15 +7,16 @@ ghost use Rattle.machine_parts.specs.Parts.{Does, state_of};
 use init_base::NoMemory;
 use init_machine::{Output, PropStore, Waiting};
 use machine_parts::Parts;
+use outputs::Outputs;
 
 /// A wait for a file ends where the file is there, and else where its time has come.
-fn settle_by<S: PropStore>(
-    parts: &mut Parts<S>,
+fn settle_by<S: PropStore, O: Outputs>(
+    parts: &mut Parts<S, O>,
     is_there: bool,
     is_late: bool,
 ) -> Result<(), NoMemory>
     ensures done { OnOk result
-        (Does S.meaning S.told parts.old parts.new (spec.settle_by is_there is_late (state_of S.meaning parts.old))) }
+        (Does S.meaning S.told O.Adds parts.old parts.new (spec.settle_by is_there is_late (state_of S.meaning parts.old))) }
     ensures beside { S.Beside parts.old.store parts.new.store }
 {
     if is_there {
@@ -31,8 +32,8 @@ fn settle_by<S: PropStore>(
 
 /// The end of an input that didn't end the machine.
 #[tactic(auto, unfolding(init_machine::specs::Step::settle))]
-pub fn settle<S: PropStore>(parts: &mut Parts<S>) -> Result<(), NoMemory>
-    ensures done { OnOk result (Does S.meaning S.told parts.old parts.new (spec.settle (state_of S.meaning parts.old))) }
+pub fn settle<S: PropStore, O: Outputs>(parts: &mut Parts<S, O>) -> Result<(), NoMemory>
+    ensures done { OnOk result (Does S.meaning S.told O.Adds parts.old parts.new (spec.settle (state_of S.meaning parts.old))) }
     ensures beside { S.Beside parts.old.store parts.new.store }
 {
     let Some(Waiting::File { path, until }) = &parts.waits else {

@@ -1,4 +1,5 @@
 pub mod Sinks
+pub mod Waiting
 pub mod Keepers
 pub mod Aheads
 pub mod Whole

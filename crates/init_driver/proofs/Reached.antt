@@ -14,7 +14,6 @@ use Rattle.init_machine.specs.declared.config.Pair.{Pair}
 use Rattle.init_machine.specs.declared.diagnostic.Diagnostic.{Diagnostic}
 use Rattle.init_machine.specs.declared.input.Input.{Input}
 use Rattle.init_machine.specs.declared.input.Input.TheVariants as input
-use Rattle.init_machine.specs.declared.output.Output.{Output}
 use Rattle.init_machine.specs.declared.report.ClientPart.{ClientPart}
 use Rattle.init_machine.specs.declared.report.Entry.{Entry}
 use Rattle.init_machine.specs.declared.report.Reading.{Reading}
@@ -114,18 +113,16 @@ stored_pairs_typed config policy s i r stored =
     (subst (λ (p : PolicyLines). IsTrue (are_typed p (after o (inputs_of history)).saved)) (sym r.policy_is) (saved_pairs_are_typed o history r.well_formed legal saving))
 
 -- the same, where a core took the input
-pub saved_print : (config : Config) (policy : PolicyLines) (s : State) (i : Input) (outputs : List Output) (t : State) → IsReached config policy s
-    → outputs ≡ (step config policy s i).lines → t ≡ (step config policy s i).state → IsTrue (has_stored outputs) → IsTrue (are_saved t.saved)
-saved_print config policy s i outputs t r lines state stored =
-    subst (λ (u : State). IsTrue (are_saved u.saved)) (sym state)
-    (stored_pairs_print config policy s i r (subst (λ os. IsTrue (has_stored os)) lines stored))
+pub saved_print : (config : Config) (policy : PolicyLines) (s : State) (i : Input) (t : State) → IsReached config policy s
+    → t ≡ (step config policy s i).state → IsTrue (has_stored (step config policy s i).lines) → IsTrue (are_saved t.saved)
+saved_print config policy s i t r state stored =
+    subst (λ (u : State). IsTrue (are_saved u.saved)) (sym state) (stored_pairs_print config policy s i r stored)
 
-pub saved_typed : (config : Config) (policy policy' : PolicyLines) (s : State) (i : Input) (outputs : List Output) (t : State) → IsReached config policy s → policy' ≡ policy
-    → outputs ≡ (step config policy s i).lines → t ≡ (step config policy s i).state → IsTrue (has_stored outputs) → IsTrue (are_typed policy' t.saved)
-saved_typed config policy policy' s i outputs t r same lines state stored =
+pub saved_typed : (config : Config) (policy policy' : PolicyLines) (s : State) (i : Input) (t : State) → IsReached config policy s → policy' ≡ policy
+    → t ≡ (step config policy s i).state → IsTrue (has_stored (step config policy s i).lines) → IsTrue (are_typed policy' t.saved)
+saved_typed config policy policy' s i t r same state stored =
     subst (λ (p : PolicyLines). IsTrue (are_typed p t.saved)) (sym same)
-    (subst (λ (u : State). IsTrue (are_typed policy u.saved)) (sym state)
-    (stored_pairs_typed config policy s i r (subst (λ os. IsTrue (has_stored os)) lines stored)))
+    (subst (λ (u : State). IsTrue (are_typed policy u.saved)) (sym state) (stored_pairs_typed config policy s i r stored))
 
 -- a loop over inputs keeps to such states
 pub reached_within : (all left : List Input) (a b : Place) → Going all left a b → IsReached a.config a.policy a.state → IsReached b.config b.policy b.state

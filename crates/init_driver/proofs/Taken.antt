@@ -31,22 +31,18 @@ pub record TakenSo (m n : MachineView) (i : Input) : Type 0 where
   pub config : n.config ≡ m.config
   pub policy : n.policy ≡ m.policy
   pub state : n.state ≡ (step_of m i).state
-  pub input : n.input ≡ i
-  pub outputs : n.outputs ≡ (step_of m i).lines
   pub opening : n.desk.opening ≡ m.desk.opening
   pub history : n.desk.history ≡ m.desk.history ++ entry_of i (step_of m i).lines ∷ []
   pub told : (who : ℕ) → told_to n.readers who ≡ told_to m.readers who
 
 module _ (area : TableId) (s : ServiceView) (rs : List (Option Seated)) (k : ℕ) (reader : Seated) (h : AllSeated area s rs) (known : k ≤ length s.opening.config.domains)
     (at : Some reader ≡ get_or rs k (Some reader)) (t : ServiceView) where
-  pub taken_so : (i : Input) (e last : Entry) (back : Seated) (spent : Bool) → TookEntry s t i → e ≡ next_entry s i → ComesBackFrom s.history (next_entry s i) reader back
-      → TakenSo (machine_of s rs last spent) (machine_of t (set (set rs k None) k (Some back)) e false) i
-  taken_so i e last back spent took is comes = record {
+  pub taken_so : (i : Input) (back : Seated) (spent : Bool) → TookEntry s t i → ComesBackFrom s.history (next_entry s i) reader back
+      → TakenSo (machine_of s rs spent) (machine_of t (set (set rs k None) k (Some back)) false) i
+  taken_so i back spent took comes = record {
     config = ap (λ (o : Opening). without_saved o.config) took.opening;
     policy = ap (λ (o : Opening). o.policy) took.opening;
     state = state_behind s t i took;
-    input = ap (λ (x : Entry). x.input) is;
-    outputs = ap (λ (x : Entry). x.outputs) (is ∙ lines_same s i);
     opening = took.opening;
     history = took.history ∙ ap (λ (x : Entry). s.history ++ x ∷ []) (lines_same s i);
     told = told_taken area s rs k reader h known at (next_entry s i) back comes;
@@ -54,8 +50,8 @@ module _ (area : TableId) (s : ServiceView) (rs : List (Option Seated)) (k : ℕ
 
   -- ---- a request
 
-  pub stays_so : (last last' : Entry) (spent spent' : Bool) (readers : List (Option Seated)) → HasSameHistory s t → StaysSo (machine_of s rs last spent) (machine_of t readers last' spent')
-  stays_so last last' spent spent' readers same = record {
+  pub stays_so : (spent spent' : Bool) (readers : List (Option Seated)) → HasSameHistory s t → StaysSo (machine_of s rs spent) (machine_of t readers spent')
+  stays_so spent spent' readers same = record {
     config = ap (λ (o : Opening). without_saved o.config) same.opening;
     policy = ap (λ (o : Opening). o.policy) same.opening;
     state = λ j. state_after (record { opening = same.opening j; history = same.history j; seat = s.seat; spent = s.spent });
@@ -109,7 +105,7 @@ entered_one area s t u count rs reader h table view list opening same_opening sa
 
 -- the machine that was opened over a desk without a history stands at its first state
 pub first_of : (r : Result MachineView NoMemory) (s : ServiceView) (o : Opening) → IfOk r (λ m. HasSameHistory s m.desk)
-    → IfOk r (λ m. m ≡ machine_of m.desk m.readers (entry_of m.input m.outputs) m.spent) → s.opening ≡ o → s.history ≡ [] → IfOk r (λ m. m.state ≡ first_state o)
+    → IfOk r (λ m. m ≡ machine_of m.desk m.readers m.spent) → s.opening ≡ o → s.history ≡ [] → IfOk r (λ m. m.state ≡ first_state o)
 first_of (Ok m) s o same fits opening empty =
     ap (λ (x : MachineView). x.state) fits ∙ (λ j. after ((same.opening ∙ opening) j) (inputs_of ((same.history ∙ empty) j)))
 first_of (Err e) s o same fits opening empty = tt

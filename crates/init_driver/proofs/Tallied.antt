@@ -1,5 +1,5 @@
 -- Inputs that are taken and counted one after another.
-use Rattle.std.proofs.Common.{◌≡◌, ℕ, ◌≤◌, Bool, true, false, List, [], ◌∷◌, ◌++◌, length, Option, Some, None, Result, Ok, Err, append-nil, append_assoc, refl, sym, ap, ◌∙◌, subst}
+use Rattle.std.proofs.Common.{◌≡◌, ℕ, ◌+◌, ◌≤◌, Bool, true, false, List, [], ◌∷◌, ◌++◌, length, Option, Some, None, Result, Ok, Err, append-nil, append_assoc, refl, sym, ap, ◌∙◌, subst}
 use Rattle.std.specs.Result.{IfOk, OnOk}
 use Rattle.init_core.specs.Core.{IsDeclared, opening_of, without_saved}
 use Rattle.init_machine.specs.History.{after_from}
@@ -22,7 +22,7 @@ use Rattle.script_lang.specs.declared.script.Ask.{Ask}
 use Rattle.script_lang.specs.declared.script.Ask.TheVariants as ask
 use Rattle.script_lang.specs.declared.script.Script.{Script}
 use Rattle.soak_summary.specs.Counting.{tally_of}
-use Rattle.soak_summary.specs.Counts.{Counts, counted_of, tally_with, with_entries, with_entry}
+use Rattle.soak_summary.specs.Counts.{Counts, counted_of, tally_with, with_entries, with_outputs}
 use Rattle.soak_summary.specs.declared.tally.Tally.{Tally}
 use Rattle.soak_summary.proofs.Counted.{counted_all, entries_more}
 use Rattle.init_driver.specs.Counted.{CountsOn, inputs_in}
@@ -53,18 +53,17 @@ pub stays_itself : (a : MachineView) → StaysSo a a
 stays_itself a = record { config = refl; policy = refl; state = refl; opening = refl; history = refl }
 
 -- one input was taken
-pub counts_one : (i : Input) (a b : MachineView) (c d : Counts) → b.config ≡ a.config → b.policy ≡ a.policy → b.state ≡ (step_of a i).state
-    → b.input ≡ i → b.outputs ≡ (step_of a i).lines → b.desk.opening ≡ a.desk.opening
-    → b.desk.history ≡ a.desk.history ++ entry_of i (step_of a i).lines ∷ [] → d ≡ with_entry c (entry_of b.input b.outputs) → CountsOn (i ∷ []) a b c d
-counts_one i a b c d config policy state input outputs opening history counted = record {
+pub counts_one : (i : Input) (a b : MachineView) (c begun d : Counts) → b.config ≡ a.config → b.policy ≡ a.policy → b.state ≡ (step_of a i).state
+    → b.desk.opening ≡ a.desk.opening
+    → b.desk.history ≡ a.desk.history ++ entry_of i (step_of a i).lines ∷ []
+    → begun ≡ record c { entries = c.entries + 1 } → d ≡ with_outputs begun (step_of a i).lines → CountsOn (i ∷ []) a b c d
+counts_one i a b c begun d config policy state opening history first counted = record {
   config = config;
   policy = policy;
   state = state;
   opening = opening;
   history = history;
-  counted =
-      counted ∙ ap (λ (x : Input). with_entry c (entry_of x b.outputs)) input
-      ∙ ap (λ os. with_entry c (entry_of i os)) outputs;
+  counted = counted ∙ ap (λ (x : Counts). with_outputs x (step_of a i).lines) first;
 }
 
 -- inputs behind others

@@ -1,10 +1,9 @@
 -- The course of a run: what stands between two inputs. No promise of the crate cites these definitions.
-use Rattle.std.specs.Prelude.{◌≡◌, ℕ, ◌+◌, ◌≤◌, ◌⊎◌, ⊤, IsTrue, List, [], ◌∷◌, ◌++◌, length, Option, Result, Ok, Err}
+use Rattle.std.specs.Prelude.{◌≡◌, ℕ, ◌+◌, ◌≤◌, ◌⊎◌, ⊤, Bool, IsTrue, List, [], ◌∷◌, ◌++◌, length, take, drop, Option, Result, Ok, Err, if◌then◌else◌}
 use Rattle.std.specs.Io.KnownBytes.{append_known}
 use Rattle.init_base.specs.declared.outside.refusal.IoRefusal.{IoRefusal}
 use Rattle.init_base.specs.declared.outside.refusal.IoRefusal.TheVariants as io
 use Rattle.init_core.specs.Core.{without_saved}
-use Rattle.init_machine.specs.Changes.{change}
 use Rattle.init_machine.specs.History.{after, after_from}
 use Rattle.init_machine.specs.Policy.{PolicyLines}
 use Rattle.init_machine.specs.State.{Opening, State}
@@ -12,17 +11,18 @@ use Rattle.init_machine.specs.Step.{step}
 use Rattle.init_machine.specs.WellFormed.{IsWellFormed}
 use Rattle.init_machine.specs.declared.config.Config.{Config}
 use Rattle.init_machine.specs.declared.input.Input.{Input}
-use Rattle.init_machine.specs.declared.output.Output.{Output}
 use Rattle.init_machine.specs.declared.report.ClientPart.{ClientPart}
 use Rattle.init_machine.specs.declared.report.Entry.{Entry}
 use Rattle.init_machine.specs.declared.report.Report.{Report}
 use Rattle.init_trace.specs.Report.{EntriesText, EntryText}
+use Rattle.init_trace.specs.Waiting.{Waiting}
 use Rattle.init_trace.specs.Written.{Added, TakesFront}
 use Rattle.machine_laws.specs.Histories.{history_from}
+use Rattle.persist_file.specs.Store.{store_text}
 use Rattle.script_lang.specs.declared.script.Act.{Act}
 use Rattle.init_driver.specs.Readings.{readings_from, told_by}
 use Rattle.init_driver.specs.Keeper.{KeeperView, Risks, Took}
-use Rattle.init_driver.specs.Stored.{given_at, given_from, has_stored}
+use Rattle.init_driver.specs.Stored.{given_from, has_stored}
 use Rattle.init_driver.specs.declared.refusal.DriveRefusal.{DriveRefusal}
 use Rattle.init_driver.specs.declared.refusal.DriveRefusal.TheVariants as refusal
 use Rattle.init_driver.specs.Machine.{MachineView, told_to}
@@ -35,7 +35,25 @@ pub record TracedView : Type 0 where
   pub printer : List ℕ
 
 abbrev pub view_of : {N : Type 0} → Traced N → TracedView
-view_of t = record { core = t.core; printer = t.printer }
+view_of t = record { core = t.core; printer = t.printer.bytes }
+
+-- what waits before the last entry, and what waits of it
+abbrev pub before_in : Waiting → List ℕ
+before_in w = take w.begun w.bytes
+
+abbrev pub entry_in : Waiting → List ℕ
+entry_in w = drop w.begun w.bytes
+
+-- the machine, and what waits before the last entry
+abbrev pub before_of : {N : Type 0} → Traced N → TracedView
+before_of t = record { core = t.core; printer = before_in t.printer }
+
+-- an entry was told, which waits behind all that waited
+pub record Waits (old new : Waiting) (e : Entry) : Type 0 where
+  pub begun : new.begun ≤ length new.bytes
+  pub before : before_in new ≡ old.bytes
+  pub entry : entry_in new ≡ EntryText e
+  pub stores : new.stores ≡ has_stored e.outputs
 
 -- what the machine goes by, its state, its opening and its history, what waits to be written, what was taken of the text, and what the
 -- keeper tells
@@ -134,11 +152,15 @@ abbrev pub Prints : {T : Type 0} → Option (List ℕ) → Option (List ℕ) →
 Prints old new (Ok value) waited waits text = Added old new waited waits text
 Prints old new (Err e) waited waits text = Unprinted e old new waited text
 
+-- the text of the saved pairs, if an entry stores a property
+abbrev pub text_if : Bool → Place → List (List ℕ)
+text_if stores a = if stores then store_text a.policy a.state.saved ∷ [] else []
+
 -- the keeper didn't take a text: all that waited is written
-pub record Refuses (outputs : List Output) (a b : Place) : Type 0 where
-  pub stored : IsTrue (has_stored outputs)
+pub record Refuses (stores : Bool) (a b : Place) : Type 0 where
+  pub stored : IsTrue stores
   pub written : b.taken ≡ append_known a.taken a.waits
-  pub kept : a.keeper.TellsCrash → Risks a.keeper b.keeper [] (given_at a.policy (change a.state outputs))
+  pub kept : a.keeper.TellsCrash → Risks a.keeper b.keeper [] (text_if stores a)
 
 -- not all that waited is written, and the keeper isn't asked
 pub record Unwritten (a b : Place) : Type 0 where
@@ -146,20 +168,20 @@ pub record Unwritten (a b : Place) : Type 0 where
   pub kept : Took a.keeper b.keeper []
 
 -- the text isn't kept, or it isn't the keeper's turn yet
-abbrev pub Unsaved : DriveRefusal → List Output → Place → Place → Type 0
-Unsaved refusal.Keeper outputs a b = Refuses outputs a b
-Unsaved refusal.Write outputs a b = Unwritten a b
-Unsaved refusal.NoMemory outputs a b = Unwritten a b ⊎ Refuses outputs a b
+abbrev pub Unsaved : DriveRefusal → Bool → Place → Place → Type 0
+Unsaved refusal.Keeper stores a b = Refuses stores a b
+Unsaved refusal.Write stores a b = Unwritten a b
+Unsaved refusal.NoMemory stores a b = Unwritten a b ⊎ Refuses stores a b
 
--- The keeper is given the text of the saved pairs, if these outputs store a property. Before that all that waits is written.
-pub record Saved (outputs : List Output) (a b : Place) : Type 0 where
+-- The keeper is given the text of the saved pairs, if an entry stores a property. Before that all that waits is written.
+pub record Saved (stores : Bool) (a b : Place) : Type 0 where
   pub added : Added a.taken b.taken a.waits b.waits []
-  pub empty : IsTrue (has_stored outputs) → b.waits ≡ []
-  pub kept : Took a.keeper b.keeper (given_at a.policy (change a.state outputs))
+  pub empty : IsTrue stores → b.waits ≡ []
+  pub kept : Took a.keeper b.keeper (text_if stores a)
 
-abbrev pub Saves : {T : Type 0} → List Output → Place → Place → Result T DriveRefusal → Type 0
-Saves outputs a b (Ok value) = Saved outputs a b
-Saves outputs a b (Err e) = Unsaved e outputs a b
+abbrev pub Saves : {T : Type 0} → Bool → Place → Place → Result T DriveRefusal → Type 0
+Saves stores a b (Ok value) = Saved stores a b
+Saves stores a b (Err e) = Unsaved e stores a b
 
 -- what a keeper that was given one text answers
 abbrev pub Holds : {T : Type 0} → KeeperView → KeeperView → List ℕ → Result T DriveRefusal → Type 0

@@ -16,26 +16,21 @@ use Rattle.property_area.specs.Seats.{Seated}
 use Rattle.property_service.specs.Record.{recorded}
 use Rattle.property_service.specs.Service.{ServiceView, state_after}
 
--- What it goes by, its state, its last input with the outputs, the desk, and the readers: that of the main actor, and then those
--- of the clients; and whether memory ran out at a call. The saved pairs of the configuration are in the state; no step reads those of the configuration.
+-- What it goes by, its state, the desk, and the readers: that of the main actor, and then those of the clients; and whether memory ran out at a call. The saved pairs of the configuration are in the state; no step reads those of the configuration.
 pub record MachineView : Type 0 where
   pub config : Config
   pub policy : PolicyLines
   pub state : State
-  pub input : Input
-  pub outputs : List Output
   pub desk : ServiceView
   pub readers : List (Option Seated)
   pub spent : Bool
 
 -- the machine over a desk
-abbrev pub machine_of : ServiceView → List (Option Seated) → Entry → Bool → MachineView
-machine_of desk readers last spent = record {
+abbrev pub machine_of : ServiceView → List (Option Seated) → Bool → MachineView
+machine_of desk readers spent = record {
   config = without_saved desk.opening.config;
   policy = desk.opening.policy;
   state = state_after desk;
-  input = last.input;
-  outputs = last.outputs;
   desk = desk;
   readers = readers;
   spent = spent;

@@ -71,20 +71,20 @@ fn take_act<N: AreaName, P: Keeper, K: Sink>(
 {
     match act {
         Act::Step(count) => take_steps(alloc, traced, *count, keeper, out),
-        Act::Tick(ms) => take(alloc, traced, Input::Tick { ms: *ms }, keeper, out),
+        Act::Tick(ms) => take(alloc, traced, &Input::Tick { ms: *ms }, keeper, out),
         Act::Exit { name, status } => {
             let input = Input::Exit {
                 name: name.share()?,
                 status: *status,
             };
-            take(alloc, traced, input, keeper, out)
+            take(alloc, traced, &input, keeper, out)
         }
         Act::File { path, content } => {
             let input = Input::File {
                 path: path.share()?,
                 content: content.share()?,
             };
-            take(alloc, traced, input, keeper, out)
+            take(alloc, traced, &input, keeper, out)
         }
         Act::Ask { who, ask } => take_ask(alloc, traced, *who, ask, keeper, out),
     }
@@ -117,7 +117,7 @@ fn take_ask<N: AreaName, P: Keeper, K: Sink>(
         name: pair.name.share()?,
         value: pair.value.share()?,
     };
-    take(alloc, traced, input, keeper, out)
+    take(alloc, traced, &input, keeper, out)
 }
 
 /// Takes so many times the next event or command.
@@ -137,30 +137,30 @@ fn take_steps<N: AreaName, P: Keeper, K: Sink>(
     ensures sink { Counted (sink_failed result) (K.fault_count out.old) (K.fault_count out.new) }
 {
     for _ in 0..count {
-        take(alloc, traced, Input::Next, keeper, out)?;
+        take(alloc, traced, &Input::Next, keeper, out)?;
     }
     Ok(())
 }
 
-/// Takes an input: the keeper is given the text of the saved pairs where its entry stores a property, and then the entry
-/// is printed.
+/// Takes an input: its entry is told to the printer, the keeper is given the text of the saved pairs where the entry stores a
+/// property, and then the entry may be written.
 pub fn take<N: AreaName, P: Keeper, K: Sink>(
     alloc: Global,
     traced: &mut Traced<'_, N>,
-    input: Input,
+    input: &Input,
     keeper: &mut P,
     out: &mut K,
 ) -> Result<(), DriveRefusal>
     requires reached { IsReached traced.old.core.config traced.old.core.policy traced.old.core.state }
-    requires declared { IsDeclared traced.old.core.config input }
+    requires declared { IsDeclared traced.old.core.config input.now }
     ensures takes { let seen = seen_by P.held P.TellsCrash P.moment P.MayLeave in
-        Takes (input ∷ []) (place_of (view_of traced.old) (K.taken out.old) (seen keeper.old))
+        Takes (input.now ∷ []) (place_of (view_of traced.old) (K.taken out.old) (seen keeper.old))
         (place_of (view_of traced.new) (K.taken out.new) (seen keeper.new)) result }
     ensures still { OnOk result ((who : ℕ) → told_to traced.new.core.readers who ≡ told_to traced.old.core.readers who) }
     ensures keeper { Counted (keeper_failed result) (P.fault_count keeper.old) (P.fault_count keeper.new) }
     ensures sink { Counted (sink_failed result) (K.fault_count out.old) (K.fault_count out.new) }
 {
-    traced.core.take(input)?;
+    traced.take(input)?;
     save(alloc, traced, keeper, out)?;
-    traced.print_entry(out)
+    traced.end_entry(out)
 }

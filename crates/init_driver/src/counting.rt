@@ -71,14 +71,14 @@ fn count_over<N: AreaName>(
         policy,
         diagnostics: _found,
     } = setup;
-    let core = Machine::<N>::new(alloc, config, policy, area, seat)?;
+    let core = Machine::<N, Counter>::new(alloc, config, policy, area, seat, Counter::new(alloc)?)?;
     count_whole(alloc, core, script)
 }
 
 /// Counts a script, from the state of the machine on, and ends the machine.
 fn count_whole<N: AreaName>(
     alloc: Global,
-    mut core: Machine<'_, N>,
+    mut core: Machine<'_, N, Counter>,
     script: &Script,
 ) -> Result<(Tally, WriterSeat), NoMemory>
     requires domains { length script.now.clients ≤ length core.config.domains }
@@ -104,7 +104,7 @@ fn count_whole<N: AreaName>(
 /// Counts the boot and the acts of a script, from the state of the machine on, and what the clients find.
 fn count_script<N: AreaName>(
     alloc: Global,
-    core: &mut Machine<'_, N>,
+    core: &mut Machine<'_, N, Counter>,
     script: &Script,
 ) -> Result<Tally, NoMemory>
     requires domains { length script.now.clients ≤ length core.old.config.domains }
@@ -122,7 +122,7 @@ fn count_script<N: AreaName>(
 /// The same by a counter that has counted nothing.
 fn count_all<N: AreaName>(
     alloc: Global,
-    core: &mut Machine<'_, N>,
+    core: &mut Machine<'_, N, Counter>,
     counts: &mut Counter,
     script: &Script,
 ) -> Result<Tally, NoMemory>
@@ -136,7 +136,7 @@ fn count_all<N: AreaName>(
         HasDone core.old core.new (report_from core.old.config core.old.policy core.old.state found script.now)) }
 {
     let mut parts = open_parts(alloc, script.clients.items())?;
-    count_input(alloc, core, counts, Input::Boot)?;
+    count_input(core, counts, &Input::Boot)?;
     count_acts(alloc, core, counts, script.acts.items(), &mut parts)?;
     counts.tally(parts.as_slice())
 }
@@ -144,7 +144,7 @@ fn count_all<N: AreaName>(
 /// Counts acts: their inputs one after another, and tells each client what its requests tell at their places.
 fn count_acts<N: AreaName>(
     alloc: Global,
-    core: &mut Machine<'_, N>,
+    core: &mut Machine<'_, N, Counter>,
     counts: &mut Counter,
     acts: &[Act],
     parts: &mut Vec<ClientPart>,
@@ -159,15 +159,14 @@ fn count_acts<N: AreaName>(
 {
     for act in acts {
         tell(alloc, core, act, parts)?;
-        count_act(alloc, core, counts, act)?;
+        count_act(core, counts, act)?;
     }
     Ok(())
 }
 
 /// Counts the inputs of an act.
 fn count_act<N: AreaName>(
-    alloc: Global,
-    core: &mut Machine<'_, N>,
+    core: &mut Machine<'_, N, Counter>,
     counts: &mut Counter,
     act: &Act,
 ) -> Result<(), NoMemory>
@@ -176,18 +175,17 @@ fn count_act<N: AreaName>(
     ensures still { OnOk result ((who : ℕ) → told_to core.new.readers who ≡ told_to core.old.readers who) }
 {
     if let Act::Step(count) = act {
-        return count_steps(alloc, core, counts, *count);
+        return count_steps(core, counts, *count);
     }
     match input_of(act)? {
-        Some(input) => count_input(alloc, core, counts, input),
+        Some(input) => count_input(core, counts, &input),
         None => Ok(()),
     }
 }
 
 /// Counts so many times the next event or command.
 fn count_steps<N: AreaName>(
-    alloc: Global,
-    core: &mut Machine<'_, N>,
+    core: &mut Machine<'_, N, Counter>,
     counts: &mut Counter,
     count: u32,
 ) -> Result<(), NoMemory>
@@ -195,24 +193,23 @@ fn count_steps<N: AreaName>(
     ensures still { OnOk result ((who : ℕ) → told_to core.new.readers who ≡ told_to core.old.readers who) }
 {
     for _ in 0..count {
-        count_input(alloc, core, counts, Input::Next)?;
+        count_input(core, counts, &Input::Next)?;
     }
     Ok(())
 }
 
 /// Takes an input, and counts its entry.
 fn count_input<N: AreaName>(
-    alloc: Global,
-    core: &mut Machine<'_, N>,
+    core: &mut Machine<'_, N, Counter>,
     counts: &mut Counter,
-    input: Input,
+    input: &Input,
 ) -> Result<(), NoMemory>
-    requires declared { IsDeclared core.old.config input }
-    ensures counts { OnOk result (CountsOn (input ∷ []) core.old core.new counts.old counts.new) }
+    requires declared { IsDeclared core.old.config input.now }
+    ensures counts { OnOk result (CountsOn (input.now ∷ []) core.old core.new counts.old counts.new) }
     ensures still { OnOk result ((who : ℕ) → told_to core.new.readers who ≡ told_to core.old.readers who) }
 {
-    core.take(input)?;
-    counts.add(alloc, core.last())
+    counts.begin_entry()?;
+    core.take(input, counts)
 }
 
 /// The input of an act that is no `step`, if it has one.

@@ -11,6 +11,7 @@ ghost use Rattle.script_lang.specs.declared.script.Ask.TheVariants as ask;
 use crate::reading::read;
 use init_base::{NoMemory, Text};
 use init_machine::Reading;
+use outputs::Outputs;
 use property_area::{Area, Reader};
 use property_service::{AreaName, Desk};
 use script_lang::Ask;
@@ -18,9 +19,9 @@ use std::alloc::Global;
 
 /// The reader, with what a request of its client tells now. Before a look-up it is told the count of sets, and then it comes back to the
 /// desk, so that what it was told stands in the sets that there are.
-pub(crate) fn learn<N: AreaName>(
+pub(crate) fn learn<N: AreaName, O: Outputs>(
     alloc: Global,
-    desk: &mut Desk<'_, N>,
+    desk: &mut Desk<'_, N, O>,
     area: &Area,
     reader: Reader,
     ask: &Ask,
@@ -40,9 +41,9 @@ pub(crate) fn learn<N: AreaName>(
 }
 
 /// What a read of a property tells now.
-fn learn_value<N: AreaName>(
+fn learn_value<N: AreaName, O: Outputs>(
     alloc: Global,
-    desk: &mut Desk<'_, N>,
+    desk: &mut Desk<'_, N, O>,
     area: &Area,
     reader: Reader,
     name: &Text,
@@ -61,8 +62,8 @@ fn learn_value<N: AreaName>(
 }
 
 /// What the area serial tells now.
-fn learn_serial<N: AreaName>(
-    desk: &mut Desk<'_, N>,
+fn learn_serial<N: AreaName, O: Outputs>(
+    desk: &mut Desk<'_, N, O>,
     area: &Area,
     reader: Reader,
 ) -> Result<(Reader, Option<Reading>), NoMemory>
@@ -79,8 +80,8 @@ fn learn_serial<N: AreaName>(
 }
 
 /// How many sets there are now.
-fn learn_count<N: AreaName>(
-    desk: &mut Desk<'_, N>,
+fn learn_count<N: AreaName, O: Outputs>(
+    desk: &mut Desk<'_, N, O>,
     reader: Reader,
 ) -> Result<(Reader, Option<Reading>), NoMemory>
     requires reader { reader.table ≡ N.area }
@@ -93,7 +94,10 @@ fn learn_count<N: AreaName>(
 }
 
 /// Tells the reader's client how many sets there are.
-fn count<N: AreaName>(desk: &mut Desk<'_, N>, reader: Reader) -> Result<(Reader, u64), NoMemory>
+fn count<N: AreaName, O: Outputs>(
+    desk: &mut Desk<'_, N, O>,
+    reader: Reader,
+) -> Result<(Reader, u64), NoMemory>
     requires reader { reader.table ≡ N.area }
     ensures counted { IfOk result (λ counted. Counts desk.old reader counted.0 counted.1) }
     ensures desk { OnOk result (HasSameHistory desk.old desk.new) }
@@ -107,7 +111,10 @@ fn count<N: AreaName>(desk: &mut Desk<'_, N>, reader: Reader) -> Result<(Reader,
 }
 
 /// Takes the reader in at the desk and hands it out again. Its client is told nothing.
-fn renew<N: AreaName>(desk: &mut Desk<'_, N>, reader: Reader) -> Result<Reader, NoMemory>
+fn renew<N: AreaName, O: Outputs>(
+    desk: &mut Desk<'_, N, O>,
+    reader: Reader,
+) -> Result<Reader, NoMemory>
     requires area { reader.table ≡ N.area }
     ensures renewed { IfOk result (ComesAgain (sets_of desk.old.history) reader) }
     ensures desk { OnOk result (HasSameHistory desk.old desk.new) }

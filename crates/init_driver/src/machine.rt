@@ -18,7 +18,8 @@ ghost use Rattle.init_driver.specs.Seat.{readings_at, told_with};
 
 use crate::learning::learn;
 use init_base::{ClientId, List, NoMemory};
-use init_machine::{Config, Entry, Input, Output, Pair, Reading};
+use init_machine::{Config, Input, Pair, Reading};
+use outputs::Outputs;
 use prop_contexts::Policy;
 use property_area::{Area, AreaWriter, Reader, WriterSeat};
 use property_service::{AreaName, Closed, Desk, FinishRefusal};
@@ -28,35 +29,36 @@ use std::marker::Model;
 
 /// The machine. After a call that answers `NoMemory` each later one does.
 #[derive(Drop)]
-pub struct Machine<'a, N: AreaName> {
-    desk: Desk<'a, N>,
+pub struct Machine<'a, N: AreaName, O: Outputs> {
+    desk: Desk<'a, N, O>,
     area: &'a Area,
     /// The readers of the main actor and of each client that the configuration declares.
     readers: Vec<Option<Reader>>,
-    last: Entry,
     spent: bool,
 }
 
-impl<'a, N: AreaName> Model for Machine<'a, N> {
+impl<'a, N: AreaName, O: Outputs> Model for Machine<'a, N, O> {
     ghost use Rattle.std.specs.Prelude.{◌≡◌, false};
     ghost use Rattle.init_driver.specs.Machine.{AllSeated, MachineView, machine_of};
 
     ghost Value = { MachineView };
 
-    ghost view = { λ m. machine_of m.desk m.readers.items m.last m.spent };
+    ghost view = { λ m. machine_of m.desk m.readers.items m.spent };
 
     ghost invariant = { λ m. (m.area.now ≡ N.area) × (m.spent ≡ false → AllSeated N.area m.desk m.readers.items) };
 }
 
-impl<'a, N: AreaName> Machine<'a, N> {
-    /// The machine in its first state, over an area in which nothing was set. The main actor and each client enter.
+impl<'a, N: AreaName, O: Outputs> Machine<'a, N, O> {
+    /// The machine in its first state, over an area in which nothing was set. The main actor and each client enter. The outputs are
+    /// what stands in while no input is taken.
     pub fn new(
         alloc: Global,
         config: Config,
         policy: Policy,
         area: &'a Area,
         seat: WriterSeat,
-    ) -> Result<Machine<'a, N>, NoMemory>
+        outputs: O,
+    ) -> Result<Machine<'a, N, O>, NoMemory>
         requires config { IsWellFormed config }
         requires named { area.now ≡ N.area }
         requires seat { seat.table ≡ area.now }
@@ -69,7 +71,8 @@ impl<'a, N: AreaName> Machine<'a, N> {
         ensures told { IfOk result (λ machine. (who : ℕ) → told_to machine.readers who ≡ []) }
     {
         let clients = config.domains.len();
-        let desk = Desk::new(alloc, config, policy, AreaWriter::new(area, seat))?;
+        let writer = AreaWriter::new(area, seat);
+        let desk = Desk::new(alloc, config, policy, writer, outputs)?;
         Machine::open(alloc, area, desk, clients)
     }
 
@@ -77,47 +80,40 @@ impl<'a, N: AreaName> Machine<'a, N> {
     fn open(
         alloc: Global,
         area: &'a Area,
-        mut desk: Desk<'a, N>,
+        mut desk: Desk<'a, N, O>,
         clients: usize,
-    ) -> Result<Machine<'a, N>, NoMemory>
+    ) -> Result<Machine<'a, N, O>, NoMemory>
         requires named { area.now ≡ N.area }
         requires nobody { (who : ℕ) → has_seat desk.seat who ≡ false }
         requires few { clients ≤ 64 }
         requires known { clients ≡ length desk.opening.config.domains }
         requires ready { desk.spent ≡ false }
         ensures desk { IfOk result (λ machine. HasSameHistory desk.entry machine.desk) }
-        ensures fits { IfOk result
-            (λ machine. machine ≡ machine_of machine.desk machine.readers (entry_of machine.input machine.outputs) machine.spent) }
+        ensures fits { IfOk result (λ machine. machine ≡ machine_of machine.desk machine.readers machine.spent) }
         ensures told { IfOk result (λ machine. (who : ℕ) → told_to machine.readers who ≡ []) }
     {
         let Ok(readers) = enter_all(alloc, &mut desk, clients + 1) else {
             drop(desk);
             return Err(NoMemory);
         };
-        let last = Entry {
-            input: Input::Boot,
-            outputs: List::new(alloc),
-        };
         Ok(Machine {
             desk,
             area,
             readers,
-            last,
             spent: false,
         })
     }
 
-    /// Takes an input of its client: what the documented step does.
-    pub fn take(&mut self, input: Input) -> Result<(), NoMemory>
-        requires declared { IsDeclared self.old.config input }
+    /// Takes an input of its client: what the documented step does, and tells its outputs.
+    pub fn take(&mut self, input: &Input, outputs: &mut O) -> Result<(), NoMemory>
+        requires declared { IsDeclared self.old.config input.now }
         ensures config { OnOk result (self.new.config ≡ self.old.config) }
         ensures policy { OnOk result (self.new.policy ≡ self.old.policy) }
-        ensures state { OnOk result (self.new.state ≡ (step_of self.old input).state) }
-        ensures input { OnOk result (self.new.input ≡ input) }
-        ensures outputs { OnOk result (self.new.outputs ≡ (step_of self.old input).lines) }
+        ensures state { OnOk result (self.new.state ≡ (step_of self.old input.now).state) }
+        ensures outputs { OnOk result (O.Adds outputs.old outputs.new (step_of self.old input.now).lines) }
         ensures opening { OnOk result (self.new.desk.opening ≡ self.old.desk.opening) }
         ensures history { OnOk result (self.new.desk.history
-            ≡ self.old.desk.history ++ entry_of input (step_of self.old input).lines ∷ []) }
+            ≡ self.old.desk.history ++ entry_of input.now (step_of self.old input.now).lines ∷ []) }
         ensures told { OnOk result ((who : ℕ) → told_to self.new.readers who ≡ told_to self.old.readers who) }
         ensures ready { OnOk result (self.new.spent ≡ false) }
     {
@@ -125,10 +121,9 @@ impl<'a, N: AreaName> Machine<'a, N> {
             return Err(NoMemory);
         }
         self.spent = true;
-        let place = asker(&input).0 as usize;
+        let place = asker(input).0 as usize;
         let reader = lend(&mut self.readers, place)?;
-        self.last.input = input;
-        let reader = take_entry(&mut self.desk, reader, &mut self.last)?;
+        let reader = take_input(&mut self.desk, reader, input, outputs)?;
         self.readers[place] = Some(reader);
         self.spent = false;
         Ok(())
@@ -160,20 +155,6 @@ impl<'a, N: AreaName> Machine<'a, N> {
         Ok(told)
     }
 
-    /// The last input, with its outputs.
-    pub fn last(&self) -> &Entry
-        ensures { result.now ≡ entry_of self.now.input self.now.outputs }
-    {
-        &self.last
-    }
-
-    /// The outputs of the last input.
-    pub fn outputs(&self) -> &List<Output>
-        ensures { result.now ≡ self.now.outputs }
-    {
-        &self.last.outputs
-    }
-
     /// The properties to be saved.
     pub fn saved(&self) -> &List<Pair>
         ensures { self.now.spent ≡ false → result.now ≡ self.now.state.saved }
@@ -200,18 +181,16 @@ impl<'a, N: AreaName> Machine<'a, N> {
             desk,
             area: _area,
             readers,
-            last,
             spent,
         } = self;
-        drop(last);
         close(alloc, desk, readers, spent)
     }
 }
 
 /// Takes all readers in, unless memory ran out before.
-fn close<N: AreaName>(
+fn close<N: AreaName, O: Outputs>(
     alloc: Global,
-    desk: Desk<'_, N>,
+    desk: Desk<'_, N, O>,
     readers: Vec<Option<Reader>>,
     spent: bool,
 ) -> Result<WriterSeat, NoMemory>
@@ -253,22 +232,23 @@ fn asker(input: &Input) -> ClientId
     }
 }
 
-/// Takes the input of an entry, of the reader's client. Its outputs take the place of the entry's.
-fn take_entry<N: AreaName>(
-    desk: &mut Desk<'_, N>,
+/// Takes an input of the reader's client, and tells its outputs.
+fn take_input<N: AreaName, O: Outputs>(
+    desk: &mut Desk<'_, N, O>,
     reader: Reader,
-    entry: &mut Entry,
+    input: &Input,
+    outputs: &mut O,
 ) -> Result<Reader, NoMemory>
     requires area { reader.table ≡ N.area }
-    requires asker { reader.view.who ≡ asker_of entry.old.input }
-    requires declared { MayAsk reader.view.opening entry.old.input }
-    ensures entry { OnOk result (entry.new ≡ next_entry desk.old entry.old.input) }
-    ensures reader { IfOk result (λ back. ComesBackFrom desk.old.history (next_entry desk.old entry.old.input) reader back) }
-    ensures history { OnOk result (desk.new.history ≡ desk.old.history ++ next_entry desk.old entry.old.input ∷ []) }
+    requires asker { reader.view.who ≡ asker_of input.now }
+    requires declared { MayAsk reader.view.opening input.now }
+    ensures outputs { OnOk result (O.Adds outputs.old outputs.new (next_entry desk.old input.now).outputs) }
+    ensures reader { IfOk result (λ back. ComesBackFrom desk.old.history (next_entry desk.old input.now) reader back) }
+    ensures history { OnOk result (desk.new.history ≡ desk.old.history ++ next_entry desk.old input.now ∷ []) }
     ensures opening { OnOk result (desk.new.opening ≡ desk.old.opening) }
     ensures ready { OnOk result (desk.new.spent ≡ false) }
 {
-    let (back, taken) = desk.take(reader, entry);
+    let (back, taken) = desk.take(reader, input, outputs);
     let Ok(()) = taken else {
         return Err(NoMemory);
     };
@@ -288,9 +268,9 @@ fn lend(readers: &mut Vec<Option<Reader>>, place: usize) -> Result<Reader, NoMem
 }
 
 /// The readers of the main actor and of the clients, so many in all, which enter one after another.
-fn enter_all<N: AreaName>(
+fn enter_all<N: AreaName, O: Outputs>(
     alloc: Global,
-    desk: &mut Desk<'_, N>,
+    desk: &mut Desk<'_, N, O>,
     count: usize,
 ) -> Result<Vec<Option<Reader>>, NoMemory>
     requires nobody { (who : ℕ) → has_seat desk.old.seat who ≡ false }

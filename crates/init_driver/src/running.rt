@@ -119,7 +119,7 @@ fn run_over<N: AreaName, P: Keeper, K: Sink>(
         policy,
         diagnostics,
     } = setup;
-    let core = Machine::<N>::new(alloc, config, policy, area, seat)?;
+    let core = Machine::<N, Printer>::new(alloc, config, policy, area, seat, Printer::new(alloc))?;
     let traced = Traced {
         core,
         printer: Printer::new(alloc),
@@ -137,7 +137,7 @@ fn drive_whole<N: AreaName, P: Keeper, K: Sink>(
     out: &mut K,
 ) -> Result<WriterSeat, DriveRefusal>
     requires reached { IsReached traced.core.config traced.core.policy traced.core.state }
-    requires empty { traced.printer ≡ [] }
+    requires empty { traced.printer.bytes ≡ [] }
     requires domains { length script.now.clients ≤ length traced.core.config.domains }
     requires asks { AsksAreMet script.now }
     requires fresh { (who : ℕ) → told_to traced.core.readers who ≡ [] }
@@ -169,7 +169,7 @@ fn drive<N: AreaName, P: Keeper, K: Sink>(
     out: &mut K,
 ) -> Result<(), DriveRefusal>
     requires reached { IsReached traced.old.core.config traced.old.core.policy traced.old.core.state }
-    requires empty { traced.old.printer ≡ [] }
+    requires empty { traced.old.printer.bytes ≡ [] }
     requires domains { length script.now.clients ≤ length traced.old.core.config.domains }
     requires asks { AsksAreMet script.now }
     requires fresh { (who : ℕ) → told_to traced.old.core.readers who ≡ [] }
@@ -209,7 +209,7 @@ fn take_script<N: AreaName, P: Keeper, K: Sink>(
     ensures sink { Counted (sink_failed result) (K.fault_count out.old) (K.fault_count out.new) }
 {
     let mut parts = open_parts(alloc, script.clients.items())?;
-    take(alloc, traced, Input::Boot, keeper, out)?;
+    take(alloc, traced, &Input::Boot, keeper, out)?;
     take_acts(alloc, traced, script.acts.items(), &mut parts, keeper, out)?;
     Ok(List::from_vec(parts))
 }
@@ -235,7 +235,7 @@ fn finish<N: AreaName, K: Sink>(
     parts: &List<ClientPart>,
     out: &mut K,
 ) -> Result<(), DriveRefusal>
-    ensures prints { Prints (K.taken out.old) (K.taken out.new) result traced.old.printer [] (TailText parts.now) }
+    ensures prints { Prints (K.taken out.old) (K.taken out.new) result traced.old.printer.bytes [] (TailText parts.now) }
     ensures core { traced.new.core ≡ traced.old.core }
     ensures sink { Counted (sink_failed result) (K.fault_count out.old) (K.fault_count out.new) }
 {

@@ -9,14 +9,15 @@ ghost use Rattle.script_lang.specs.Laws.{IsAskAmong};
 use crate::machine::Machine;
 use init_base::NoMemory;
 use init_machine::ClientPart;
+use outputs::Outputs;
 use property_service::AreaName;
 use script_lang::Act;
 use std::alloc::Global;
 
 /// Tells the client of an act what is so now, where the act is a request that tells something.
-pub fn tell<N: AreaName>(
+pub fn tell<N: AreaName, O: Outputs>(
     alloc: Global,
-    core: &mut Machine<'_, N>,
+    core: &mut Machine<'_, N, O>,
     act: &Act,
     parts: &mut Vec<ClientPart>,
 ) -> Result<(), NoMemory>

@@ -24,6 +24,7 @@ pub mod Sets
 pub mod Setting
 pub mod State
 pub mod Step
+pub mod Stored
 pub mod Taking
 pub mod Tasks
 pub mod Typed

@@ -6,5 +6,6 @@ mod ReportRead
 pub mod Runs
 mod Spelling
 pub mod Splitting
+mod Lines
 pub mod Texts
 mod WordsRead

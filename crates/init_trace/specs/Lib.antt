@@ -1,8 +1,10 @@
 pub mod Fields
 pub mod InRange
+pub mod Kept
 pub mod Law
 pub mod Line
 pub mod Quoted
 pub mod Report
+pub mod Waiting
 pub mod Words
 pub mod Written

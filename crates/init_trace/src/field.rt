@@ -51,6 +51,14 @@ pub fn texts(page: &mut Vec<u8>, items: &[Text]) -> Result<(), NoMemory>
     Ok(())
 }
 
+/// Adds a text behind bytes that lead to it.
+pub fn led_text(page: &mut Vec<u8>, lead: &[u8], text: &Text) -> Result<(), NoMemory>
+    ensures { OnOk result (page.new.items ≡ page.old.items ++ (lead.now ++ spec.quoted text.now)) }
+{
+    put(page, lead)?;
+    quoted(page, text.bytes())
+}
+
 /// Adds a word and a text.
 pub fn word_text(page: &mut Vec<u8>, name: &[u8], first: &Text) -> Result<(), NoMemory>
     ensures { OnOk result (page.new.items

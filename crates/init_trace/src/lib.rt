@@ -2,7 +2,8 @@
 //!
 //! `print` writes exactly `TextOf` the report of `specs/Report.antt`, line by line, or stops with a refusal behind
 //! some front of it. `print_diagnostics` does so for the diagnostics alone. A `Printer` prints a report part by part: its
-//! head, each entry as it comes, and its tail, which together are its text, by the law of `text_is_its_parts`.
+//! head, each entry as it comes, whole or line by line as the machine tells it, and its tail, which together are its text, by
+//! the law of `text_is_its_parts`.
 //! Different reports have different texts: that is the law of `text_determines_report`.
 #![tactic(auto)]
 
@@ -13,6 +14,7 @@ mod page;
 mod printer;
 mod printing;
 mod quote;
+mod telling;
 mod words;
 
 pub use law::{text_determines_report, text_is_its_parts};

@@ -7,8 +7,10 @@ ghost use Rattle.init_trace.specs.Quoted as spec;
 ghost use Rattle.init_trace.specs.Fields.{cause_fields, diagnostic_fields, head_fields, how_fields, output_fields, reading_fields, refusal_fields};
 ghost use Rattle.init_trace.specs.Report.{client_fields, end_fields, output_line, reading_line, title_fields};
 
-use crate::field::{number, serial, text, texts, word, word_number, word_text, word_texts};
-use crate::quote::{put, put_byte};
+use crate::field::{
+    led_text, number, serial, text, texts, word, word_number, word_text, word_texts,
+};
+use crate::quote::{digits, put, put_byte};
 use crate::words::{kind_name, tree_name};
 use init_base::{NoMemory, SharedList, Text};
 use init_machine::{Cause, ClientPart, Diagnostic, How, Input, Output, Reading, SetRefusal, Word};
@@ -39,6 +41,9 @@ impl Line for Input {
     ghost fields = { head_fields };
 
     fn add(&self, page: &mut Vec<u8>) -> Result<(), NoMemory> {
+        if matches!(self, Input::Next) {
+            return put(page, b"next\n");
+        }
         add_head(page, self)?;
         put_byte(page, b'\n')
     }
@@ -122,6 +127,9 @@ impl Line for Output {
     ghost fields = { output_line };
 
     fn add(&self, page: &mut Vec<u8>) -> Result<(), NoMemory> {
+        if matches!(self, Output::Ok) {
+            return put(page, b" ok\n");
+        }
         add_output(page, self)?;
         put_byte(page, b'\n')
     }
@@ -132,7 +140,7 @@ fn add_output(page: &mut Vec<u8>, output: &Output) -> Result<(), NoMemory>
     ensures { OnOk result (page.new.items ≡ page.old.items ++ spaced (output_fields output.now)) }
 {
     match output {
-        Output::Event { name } => word_text(page, b"event", name),
+        Output::Event { name } => led_text(page, b" event ", name),
         Output::Change { name, value } => word_texts(page, b"change", name, value),
         Output::Action { file, line } => add_action(page, file, *line),
         Output::Command {
@@ -186,15 +194,15 @@ fn lone_word(output: &Output) -> &'static [u8]
     }
 }
 
-fn add_action(page: &mut Vec<u8>, file: &Text, line: u32) -> Result<(), NoMemory>
+pub fn add_action(page: &mut Vec<u8>, file: &Text, line: u32) -> Result<(), NoMemory>
     ensures { OnOk result (page.new.items
         ≡ page.old.items ++ spaced (output_fields (Output.Action file.now line))) }
 {
-    word_text(page, b"action", file)?;
+    led_text(page, b" action ", file)?;
     number(page, u64::from(line))
 }
 
-fn add_command(
+pub fn add_command(
     page: &mut Vec<u8>,
     file: &Text,
     line: u32,
@@ -204,17 +212,18 @@ fn add_command(
     ensures { OnOk result (page.new.items
         ≡ page.old.items ++ spaced (output_fields (Output.Command file.now line command args.now))) }
 {
-    word_text(page, b"command", file)?;
+    led_text(page, b" command ", file)?;
     number(page, u64::from(line))?;
     word(page, command.name())?;
     texts(page, args.items())
 }
 
-fn add_put(page: &mut Vec<u8>, set: u64, name: &Text, value: &Text) -> Result<(), NoMemory>
+pub fn add_put(page: &mut Vec<u8>, set: u64, name: &Text, value: &Text) -> Result<(), NoMemory>
     ensures { OnOk result (page.new.items
         ≡ page.old.items ++ spaced (output_fields (Output.Put set name.now value.now))) }
 {
-    word_number(page, b"put", set)?;
+    put(page, b" put ")?;
+    digits(page, set)?;
     text(page, name)?;
     text(page, value)
 }
@@ -244,7 +253,12 @@ fn add_failed(page: &mut Vec<u8>, cause: &Cause) -> Result<(), NoMemory>
 }
 
 /// Adds a word, a process and its name.
-fn add_process(page: &mut Vec<u8>, name: &[u8], pid: u32, process: &Text) -> Result<(), NoMemory>
+pub fn add_process(
+    page: &mut Vec<u8>,
+    name: &[u8],
+    pid: u32,
+    process: &Text,
+) -> Result<(), NoMemory>
     ensures { OnOk result (page.new.items
         ≡ page.old.items ++ spaced (name.now ∷ decimal pid ∷ spec.quoted process.now ∷ [])) }
 {
@@ -252,7 +266,7 @@ fn add_process(page: &mut Vec<u8>, name: &[u8], pid: u32, process: &Text) -> Res
     text(page, process)
 }
 
-fn add_spawn(page: &mut Vec<u8>, pid: u32, name: &Text, path: &Text) -> Result<(), NoMemory>
+pub fn add_spawn(page: &mut Vec<u8>, pid: u32, name: &Text, path: &Text) -> Result<(), NoMemory>
     ensures { OnOk result (page.new.items
         ≡ page.old.items ++ spaced (output_fields (Output.Spawn (record { 0 = pid }) name.now path.now))) }
 {
@@ -260,7 +274,7 @@ fn add_spawn(page: &mut Vec<u8>, pid: u32, name: &Text, path: &Text) -> Result<(
     text(page, path)
 }
 
-fn add_reap(page: &mut Vec<u8>, pid: u32, name: &Text, how: How) -> Result<(), NoMemory>
+pub fn add_reap(page: &mut Vec<u8>, pid: u32, name: &Text, how: How) -> Result<(), NoMemory>
     ensures { OnOk result (page.new.items
         ≡ page.old.items ++ spaced (output_fields (Output.Reap (record { 0 = pid }) name.now how))) }
 {

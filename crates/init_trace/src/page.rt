@@ -1,13 +1,14 @@
 //! A page: lines that wait to be written. It is written whenever it is full, so it never holds much more than one
 //! line beside.
 
-ghost use Rattle.std.specs.Prelude.{◌≡◌, [], ◌++◌, map};
+ghost use Rattle.std.specs.Prelude.{◌≡◌, ◌≤◌, [], ◌++◌, OnOk, drop, length, map};
 ghost use Rattle.init_base.specs.Faults.{Counted, write_failed};
 ghost use Rattle.init_trace.specs.Line.{line_text, lines_text};
 ghost use Rattle.init_trace.specs.Written.{Adds, Writes};
 
 use crate::line::Line;
-use init_base::{IoRefusal, Sink};
+use crate::quote::put;
+use init_base::{IoRefusal, NoMemory, Sink};
 use std::alloc::Global;
 
 /// A page of so many bytes is written.
@@ -26,7 +27,7 @@ pub fn send<K: Sink>(alloc: Global, out: &mut K, bytes: &[u8]) -> Result<(), IoR
 }
 
 /// Writes the page if it is full.
-fn turn<K: Sink>(alloc: Global, out: &mut K, page: &mut Vec<u8>) -> Result<(), IoRefusal>
+pub fn turn<K: Sink>(alloc: Global, out: &mut K, page: &mut Vec<u8>) -> Result<(), IoRefusal>
     ensures added { Adds (K.taken out.old) (K.taken out.new) result page.old.items page.new.items [] }
     ensures cause { Counted (write_failed result) (K.fault_count out.old) (K.fault_count out.new) }
 {
@@ -36,6 +37,16 @@ fn turn<K: Sink>(alloc: Global, out: &mut K, page: &mut Vec<u8>) -> Result<(), I
     send(alloc, out, page.as_slice())?;
     page.clear();
     Ok(())
+}
+
+/// Leaves out the bytes before this place.
+pub fn cut_front(page: &mut Vec<u8>, at: usize) -> Result<(), NoMemory>
+    requires { at ≤ length page.old.items }
+    ensures { OnOk result (page.new.items ≡ drop at page.old.items) }
+{
+    let rest = page.split_off(at)?;
+    page.clear();
+    put(page, rest.as_slice())
 }
 
 /// Adds a line.

@@ -1,43 +1,51 @@
 //! `Printer`: a report that is printed part by part, so that no history need be kept.
 
-ghost use Rattle.std.specs.Prelude.{◌≡◌, [], OnOk};
+ghost use Rattle.std.specs.Prelude.{◌≡◌, ◌++◌, ◌≤◌, [], OnOk, drop, false, length, take};
 ghost use Rattle.init_base.specs.Faults.{Counted, write_failed};
-ghost use Rattle.init_trace.specs.Line.{lines_text};
+ghost use Rattle.init_trace.specs.Fields.{head_fields};
+ghost use Rattle.init_trace.specs.Line.{line_text, lines_text};
 ghost use Rattle.init_trace.specs.Report.{EntryText, HeadText, TailText, client_lines, clients_lines};
 ghost use Rattle.init_trace.specs.Written.{Adds, Writes};
 
-use crate::line::{End, Title, add_client};
-use crate::page::{add_line, add_lines, send};
-use init_base::{IoRefusal, List, Sink};
+use crate::line::{End, Line, Title, add_client};
+use crate::page::{add_line, add_lines, cut_front, send, turn};
+use init_base::{IoRefusal, List, NoMemory, Sink};
 use init_machine::{ClientPart, Diagnostic, Input, Output};
 use std::alloc::Global;
 use std::marker::Model;
 
 /// Prints a report part by part: its head, its entries in order, and its tail.
 ///
-/// Entries are many and short, so lines wait in a page, which is written whenever it is full. To contracts a printer is
-/// the bytes that wait. After a refusal a front of what waited and of the new part is written, and nothing is said of
-/// what waits. The sink's count of faults rose where the answer is `Failed`, and is as it was where it is anything else.
+/// Entries are many and short, so lines wait in a page, which is written whenever it is full. An entry that the machine tells
+/// line by line waits there too: it is written behind its last line, and all before it may be written alone.
+///
+/// To contracts a printer is the bytes that wait, at which of them the last entry began, and whether it stores a property.
+/// After a refusal a front of what waited and of the new part is written, and nothing is said of what waits. The sink's count
+/// of faults rose where the answer is `Failed`, and is as it was where it is anything else.
 #[derive(Drop)]
 pub struct Printer {
-    page: Vec<u8>,
+    pub(crate) page: Vec<u8>,
+    begun: usize,
+    pub(crate) stores: bool,
 }
 
 impl Model for Printer {
-    ghost use Rattle.std.specs.Prelude.{ℕ, List};
+    ghost use Rattle.init_trace.specs.Waiting.{Waiting};
 
-    ghost Value = { List ℕ };
+    ghost Value = { Waiting };
 
-    ghost view = { λ p. p.page.items };
+    ghost view = { λ p. record { bytes = p.page.items; begun = p.begun; stores = p.stores } };
 }
 
 impl Printer {
     /// A printer with nothing that waits. It takes no memory.
     pub fn new(alloc: Global) -> Printer
-        ensures { result ≡ [] }
+        ensures { result.bytes ≡ [] }
     {
         Printer {
             page: Vec::new(alloc),
+            begun: 0,
+            stores: false,
         }
     }
 
@@ -47,12 +55,54 @@ impl Printer {
         diagnostics: &List<Diagnostic>,
         out: &mut K,
     ) -> Result<(), IoRefusal>
-        ensures added { Adds (K.taken out.old) (K.taken out.new) result self.old self.new
+        ensures added { Adds (K.taken out.old) (K.taken out.new) result self.old.bytes self.new.bytes
             (HeadText diagnostics.now) }
         ensures cause { Counted (write_failed result) (K.fault_count out.old) (K.fault_count out.new) }
     {
         let alloc = *self.page.allocator();
         add_head(alloc, out, &mut self.page, diagnostics.items())
+    }
+
+    /// Begins an entry, whose outputs are to be told.
+    pub fn begin_entry(&mut self, input: &Input) -> Result<(), NoMemory>
+        ensures bytes { OnOk result (self.new.bytes ≡ self.old.bytes ++ line_text (head_fields input.now)) }
+        ensures begun { OnOk result (self.new.begun ≡ length self.old.bytes) }
+        ensures stores { OnOk result (self.new.stores ≡ false) }
+    {
+        self.begun = self.page.len();
+        self.stores = false;
+        input.add(&mut self.page)
+    }
+
+    /// Whether the last entry stores a property.
+    pub fn stores(&self) -> bool
+        ensures { result ≡ self.now.stores }
+    {
+        self.stores
+    }
+
+    /// Writes what waits before the last entry.
+    pub fn write_before<K: Sink>(&mut self, out: &mut K) -> Result<(), IoRefusal>
+        requires { self.old.begun ≤ length self.old.bytes }
+        ensures written { Writes (K.taken out.old) (K.taken out.new) result (take self.old.begun self.old.bytes) }
+        ensures left { OnOk result (self.new.bytes ≡ drop self.old.begun self.old.bytes) }
+        ensures begun { OnOk result (self.new.begun ≡ 0) }
+        ensures cause { Counted (write_failed result) (K.fault_count out.old) (K.fault_count out.new) }
+    {
+        let alloc = *self.page.allocator();
+        send(alloc, out, &self.page[..self.begun])?;
+        cut_front(&mut self.page, self.begun)?;
+        self.begun = 0;
+        Ok(())
+    }
+
+    /// Ends an entry whose outputs were told: a full page is written.
+    pub fn end_entry<K: Sink>(&mut self, out: &mut K) -> Result<(), IoRefusal>
+        ensures added { Adds (K.taken out.old) (K.taken out.new) result self.old.bytes self.new.bytes [] }
+        ensures cause { Counted (write_failed result) (K.fault_count out.old) (K.fault_count out.new) }
+    {
+        let alloc = *self.page.allocator();
+        turn(alloc, out, &mut self.page)
     }
 
     /// Adds an entry: its input, and what the machine did.
@@ -62,7 +112,7 @@ impl Printer {
         outputs: &List<Output>,
         out: &mut K,
     ) -> Result<(), IoRefusal>
-        ensures added { Adds (K.taken out.old) (K.taken out.new) result self.old self.new
+        ensures added { Adds (K.taken out.old) (K.taken out.new) result self.old.bytes self.new.bytes
             (EntryText (record { input = input.now; outputs = outputs.now })) }
         ensures cause { Counted (write_failed result) (K.fault_count out.old) (K.fault_count out.new) }
     {
@@ -76,7 +126,7 @@ impl Printer {
         clients: &List<ClientPart>,
         out: &mut K,
     ) -> Result<(), IoRefusal>
-        ensures added { Adds (K.taken out.old) (K.taken out.new) result self.old self.new
+        ensures added { Adds (K.taken out.old) (K.taken out.new) result self.old.bytes self.new.bytes
             (TailText clients.now) }
         ensures cause { Counted (write_failed result) (K.fault_count out.old) (K.fault_count out.new) }
     {
@@ -86,8 +136,8 @@ impl Printer {
 
     /// Writes all that waits.
     pub fn flush<K: Sink>(&mut self, out: &mut K) -> Result<(), IoRefusal>
-        ensures written { Writes (K.taken out.old) (K.taken out.new) result self.old }
-        ensures empty { OnOk result (self.new ≡ []) }
+        ensures written { Writes (K.taken out.old) (K.taken out.new) result self.old.bytes }
+        ensures empty { OnOk result (self.new.bytes ≡ []) }
         ensures cause { Counted (write_failed result) (K.fault_count out.old) (K.fault_count out.new) }
     {
         let alloc = *self.page.allocator();

@@ -42,7 +42,7 @@ fn print_alone<K: Sink>(
     diagnostics: &List<Diagnostic>,
     out: &mut K,
 ) -> Result<(), IoRefusal>
-    ensures added { Adds (K.taken out.old) (K.taken out.new) result printer.old printer.new
+    ensures added { Adds (K.taken out.old) (K.taken out.new) result printer.old.bytes printer.new.bytes
         (DiagnosticsText diagnostics.now) }
     ensures cause { Counted (write_failed result) (K.fault_count out.old) (K.fault_count out.new) }
 {
@@ -55,7 +55,7 @@ fn print_report<K: Sink>(
     report: &Report,
     out: &mut K,
 ) -> Result<(), IoRefusal>
-    ensures added { Adds (K.taken out.old) (K.taken out.new) result printer.old printer.new
+    ensures added { Adds (K.taken out.old) (K.taken out.new) result printer.old.bytes printer.new.bytes
         (TextOf report.now) }
     ensures cause { Counted (write_failed result) (K.fault_count out.old) (K.fault_count out.new) }
 {
@@ -69,7 +69,7 @@ fn print_entries<K: Sink>(
     entries: &[Entry],
     out: &mut K,
 ) -> Result<(), IoRefusal>
-    ensures added { Adds (K.taken out.old) (K.taken out.new) result printer.old printer.new
+    ensures added { Adds (K.taken out.old) (K.taken out.new) result printer.old.bytes printer.new.bytes
         (EntriesText entries.now) }
     ensures cause { Counted (write_failed result) (K.fault_count out.old) (K.fault_count out.new) }
 {

@@ -190,7 +190,7 @@ fn client_due(
 }
 
 /// The machine in its first state, and how many clients it knows.
-fn machine_of(alloc: Global, job: Job) -> Option<(Core<ListStore>, usize)>
+fn machine_of(alloc: Global, job: Job) -> Option<(Core<ListStore, List<Output>>, usize)>
     requires { IsFit job }
     ensures { IfSome result (λ machine. length machine.0.config.domains ≡ machine.1) }
 {
@@ -198,7 +198,7 @@ fn machine_of(alloc: Global, job: Job) -> Option<(Core<ListStore>, usize)>
     let store = ListStore::new(alloc, script.words).ok()?;
     let Setup { config, policy, .. } = setup;
     let clients = config.domains.len();
-    match Core::new(alloc, config, policy, store) {
+    match Core::new(alloc, config, policy, store, List::new(alloc)) {
         Ok(core) => Some((core, clients)),
         Err(_) => None,
     }
@@ -215,30 +215,31 @@ fn is_declared(input: &Input, clients: usize) -> bool
     }
 }
 
-/// Takes the next entry's input, and answers the entry.
+/// Takes the next entry's input, and answers the entry as the machine has it.
 fn take_next(
     alloc: Global,
-    core: &mut Core<ListStore>,
+    core: &mut Core<ListStore, List<Output>>,
     clients: usize,
     pieces: &mut Pieces<'_>,
 ) -> Option<Entry>
     requires { length core.old.config.domains ≡ clients }
     ensures { IfSome result (λ _. length core.new.config.domains ≡ clients) }
 {
-    let Ok(Piece::Entry(entry)) = pieces.next(alloc) else {
+    let Ok(Piece::Entry(mut entry)) = pieces.next(alloc) else {
         return None;
     };
     if !is_declared(&entry.input, clients) {
         return None;
     }
-    core.take(&entry.input).ok()?;
+    entry.outputs.truncate(0);
+    core.take(&entry.input, &mut entry.outputs).ok()?;
     Some(entry)
 }
 
 /// The text of the entry with this number as the machine has it, which takes the inputs of a trace.
 fn entry_page(
     alloc: Global,
-    core: &mut Core<ListStore>,
+    core: &mut Core<ListStore, List<Output>>,
     clients: usize,
     text: &[u8],
     number: u64,
@@ -250,7 +251,7 @@ fn entry_page(
         take_next(alloc, core, clients, &mut pieces)?;
     }
     let entry = take_next(alloc, core, clients, &mut pieces)?;
-    page_of(alloc, &entry.input, core.outputs())
+    page_of(alloc, &entry.input, &entry.outputs)
 }
 
 /// The text of an entry.
@@ -288,7 +289,7 @@ fn bad_entry(
 /// The line of this machine, which knows so many clients, that should stand in an entry.
 fn line_due(
     rt: &HostRuntime,
-    core: &mut Core<ListStore>,
+    core: &mut Core<ListStore, List<Output>>,
     clients: usize,
     path: &Text,
     text: &[u8],

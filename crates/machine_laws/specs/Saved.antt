@@ -1,14 +1,12 @@
--- Which pairs can be printed as the text of a persistent store, and which outputs store a property.
-use Rattle.std.specs.Prelude.{Bool, true, false, ◌&&◌, List}
-use Rattle.std.specs.List.{list_any}
+-- Which pairs can be printed as the text of a persistent store.
+pub use Rattle.init_machine.specs.Stored.{has_stored, is_stored}
+use Rattle.std.specs.Prelude.{Bool, ◌&&◌}
 use Rattle.init_base.specs.Name.{is_legal_name}
 use Rattle.init_base.specs.Value.{is_short_value}
 use Rattle.init_machine.specs.Policy.{PolicyLines, context_of}
 use Rattle.init_machine.specs.Setting.{is_persistent}
 use Rattle.init_machine.specs.Typed.{is_typed}
 use Rattle.init_machine.specs.declared.config.Pair.{Pair}
-use Rattle.init_machine.specs.declared.output.Output.{Output}
-use Rattle.init_machine.specs.declared.output.Output.TheVariants as output
 
 -- the name is legal and begins with `persist.`, and the value is legal under it
 abbrev pub can_be_printed : Pair → Bool
@@ -17,11 +15,3 @@ can_be_printed p = is_legal_name p.name && is_persistent p.name && is_short_valu
 -- the value passes the type of its name's context
 abbrev pub is_typed_under : PolicyLines → Pair → Bool
 is_typed_under policy p = is_typed (context_of policy p.name).kind p.value
-
-abbrev pub is_stored : Output → Bool
-is_stored (output.Stored name) = true
-is_stored _ = false
-
--- a property is stored
-abbrev pub has_stored : List Output → Bool
-has_stored outputs = list_any is_stored outputs

@@ -11,6 +11,7 @@ use Rattle.init_machine.specs.Setting.{unset_lines}
 use Rattle.init_machine.specs.State.{State, Rules}
 use Rattle.init_machine.specs.declared.output.Output.{Output}
 use Rattle.init_machine.specs.declared.output.SetRefusal.{SetRefusal}
+use Rattle.outputs.specs.Joins.{Joins}
 use Rattle.machine_parts.specs.Parts.{Does, state_of, rules_of, actions_of}
 use Rattle.machine_parts.specs.declared.parts.Parts.{Parts}
 
@@ -32,15 +33,15 @@ pub unset_sets_none : (name : List ℕ) (refused : Option SetRefusal) → sets_i
 unset_sets_none name None = refl
 unset_sets_none name (Some why) = refl
 
-module _ {S : Type 0} {meaning : S → Props} {told : S → Option (List (List ℕ × List ℕ))} where
-  pub does_nothing : (p : Parts S) → Does meaning told p p (nothing (state_of meaning p))
-  does_nothing p = record { state = refl; lines = sym (append-nil p.outputs); sets = more_none (told p.store); rules = refl; actions = refl }
+module _ {S O : Type 0} {meaning : S → Props} {told : S → Option (List (List ℕ × List ℕ))} {adds : O → O → List Output → Type 0} (joins : Joins adds) where
+  pub does_nothing : (p : Parts S O) → Does meaning told adds p p (nothing (state_of meaning p))
+  does_nothing p = record { state = refl; lines = joins.none p.outputs; sets = more_none (told p.store); rules = refl; actions = refl }
 
   -- one call behind another
-  pub does_behind : {old mid new : Parts S} {c d : Change} → Does meaning told old mid c → Does meaning told mid new d → Does meaning told old new (behind c.lines d)
+  pub does_behind : {old mid new : Parts S O} {c d : Change} → Does meaning told adds old mid c → Does meaning told adds mid new d → Does meaning told adds old new (behind c.lines d)
   does_behind {old} {mid} {new} {c} {d} first second = record {
     state = second.state;
-    lines = second.lines ∙ ap (λ lines. lines ++ d.lines) first.lines ∙ append_assoc old.outputs c.lines d.lines;
+    lines = joins.both old.outputs mid.outputs new.outputs c.lines d.lines first.lines second.lines;
     sets =
         second.sets ∙ ap (λ sets. more_sets sets (sets_in d.lines)) first.sets ∙ more_more (told old.store) (sets_in c.lines) (sets_in d.lines)
         ∙ ap (more_sets (told old.store)) (sym (flat_map-append set_in c.lines d.lines));
@@ -49,43 +50,43 @@ module _ {S : Type 0} {meaning : S → Props} {told : S → Option (List (List �
   }
 
   -- what the second call does is a rule in the state that the first one left
-  pub does_both : {old mid new : Parts S} {c : Change} (rule : Rules → State → Change) → Does meaning told old mid c
-      → Does meaning told mid new (rule (rules_of mid) (state_of meaning mid)) → Does meaning told old new (behind c.lines (rule (rules_of old) c.state))
+  pub does_both : {old mid new : Parts S O} {c : Change} (rule : Rules → State → Change) → Does meaning told adds old mid c
+      → Does meaning told adds mid new (rule (rules_of mid) (state_of meaning mid)) → Does meaning told adds old new (behind c.lines (rule (rules_of old) c.state))
   does_both {old} {mid} {new} {c} rule first second =
-      subst (λ (d : Change). Does meaning told old new (behind c.lines d))
+      subst (λ (d : Change). Does meaning told adds old new (behind c.lines d))
       (ap (λ (rules : Rules). rule rules (state_of meaning mid)) first.rules ∙ ap (rule (rules_of old)) first.state)
       (does_behind first second)
 
   -- a second call, where the machine isn't over
-  pub does_then : {old mid new : Parts S} {c : Change} (rule : Rules → State → Change) → Does meaning told old mid c → is_some mid.over ≡ false
-      → Does meaning told mid new (rule (rules_of mid) (state_of meaning mid)) → Does meaning told old new (and_then c (rule (rules_of old)))
+  pub does_then : {old mid new : Parts S O} {c : Change} (rule : Rules → State → Change) → Does meaning told adds old mid c → is_some mid.over ≡ false
+      → Does meaning told adds mid new (rule (rules_of mid) (state_of meaning mid)) → Does meaning told adds old new (and_then c (rule (rules_of old)))
   does_then {old} {mid} {new} {c} rule first up second =
       goes_on c.state.over (ap (λ (s : State). is_some s.over) (sym first.state) ∙ up)
     where
-      goes_on : (over : Option (List ℕ)) → is_some over ≡ false → Does meaning told old new (unless_over over c (rule (rules_of old)))
+      goes_on : (over : Option (List ℕ)) → is_some over ≡ false → Does meaning told adds old new (unless_over over c (rule (rules_of old)))
       goes_on None is = does_both rule first second
       goes_on (Some target) is = absurd (false≢true (sym is))
 
   -- no second call, where the machine is over
-  pub does_no_more : {old new : Parts S} {c : Change} (rule : State → Change) → Does meaning told old new c → is_some new.over ≡ true
-      → Does meaning told old new (and_then c rule)
+  pub does_no_more : {old new : Parts S O} {c : Change} (rule : State → Change) → Does meaning told adds old new c → is_some new.over ≡ true
+      → Does meaning told adds old new (and_then c rule)
   does_no_more {old} {new} {c} rule first over = stays c.state.over (ap (λ (s : State). is_some s.over) (sym first.state) ∙ over)
     where
-      stays : (over : Option (List ℕ)) → is_some over ≡ true → Does meaning told old new (unless_over over c rule)
+      stays : (over : Option (List ℕ)) → is_some over ≡ true → Does meaning told adds old new (unless_over over c rule)
       stays None is = absurd (false≢true is)
       stays (Some target) is = first
 
   -- a state and lines without sets
-  pub does_plain : {old new : Parts S} {s : State} {lines : List Output} → state_of meaning new ≡ s → new.outputs ≡ old.outputs ++ lines → told new.store ≡ told old.store
-      → rules_of new ≡ rules_of old → actions_of new ≡ actions_of old → sets_in lines ≡ [] → Does meaning told old new (change s lines)
+  pub does_plain : {old new : Parts S O} {s : State} {lines : List Output} → state_of meaning new ≡ s → adds old.outputs new.outputs lines → told new.store ≡ told old.store
+      → rules_of new ≡ rules_of old → actions_of new ≡ actions_of old → sets_in lines ≡ [] → Does meaning told adds old new (change s lines)
   does_plain {old} {new} {s} {lines} state outputs same rules actions none =
       record { state = state; lines = outputs; sets = told_same told old.store new.store lines same none; rules = rules; actions = actions }
 
   -- lines without sets more
-  pub does_more : {old mid : Parts S} {c : Change} (outputs more : List Output) → Does meaning told old mid c → outputs ≡ mid.outputs ++ more → sets_in more ≡ []
-      → Does meaning told old (record mid { outputs = outputs }) (change c.state (c.lines ++ more))
+  pub does_more : {old mid : Parts S O} {c : Change} (outputs : O) (more : List Output) → Does meaning told adds old mid c → adds mid.outputs outputs more → sets_in more ≡ []
+      → Does meaning told adds old (record mid { outputs = outputs }) (change c.state (c.lines ++ more))
   does_more {old} {mid} {c} outputs more first is none =
-      subst (λ (s : State). Does meaning told old (record mid { outputs = outputs }) (change s (c.lines ++ more))) first.state
+      subst (λ (s : State). Does meaning told adds old (record mid { outputs = outputs }) (change s (c.lines ++ more))) first.state
       (does_behind first (does_plain {s = state_of meaning mid} refl is refl refl refl none))
 
 -- what two clauses of a call give together

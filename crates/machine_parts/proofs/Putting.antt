@@ -1,5 +1,5 @@
 -- A property that is put, from what its parts do.
-use Rattle.std.proofs.Common.{◌≡◌, ◌+◌, ◌++◌, ℕ, Bool, true, false, ◌&&◌, List, [], ◌∷◌, Option, refl, sym, ap, ◌∙◌, append_assoc, if◌then◌else◌}
+use Rattle.std.proofs.Common.{◌≡◌, ◌+◌, ◌++◌, ℕ, Bool, true, false, ◌&&◌, List, [], ◌∷◌, Option, refl, sym, ap, ◌∙◌, subst, if◌then◌else◌}
 use Rattle.init_machine.specs.History.{sets_in}
 use Rattle.init_machine.specs.Pairs.{with_saved}
 use Rattle.init_machine.specs.Props.{Props, more_sets, with_set}
@@ -8,6 +8,7 @@ use Rattle.init_machine.specs.declared.config.Pair.{Pair}
 use Rattle.init_machine.specs.declared.output.Output.{Output}
 use Rattle.init_machine.specs.declared.output.Output.TheVariants as output
 use Rattle.init_machine.specs.declared.waiting.Waiting.{Waiting}
+use Rattle.outputs.specs.Joins.{Joins}
 use Rattle.machine_parts.specs.Parts.{Does, state_of}
 use Rattle.machine_parts.specs.Schedule.{ScheduleView}
 use Rattle.machine_parts.specs.declared.parts.Parts.{Parts}
@@ -35,18 +36,19 @@ module _ {S : Type 0} (meaning : S → Props) (told : S → Option (List (List �
       → told new ≡ more_sets (told old) ((name, value) ∷ [])
   in_told old mid new name value given with same set named valued = set ∙ (λ i. more_sets (same i) ((named i, valued i) ∷ []))
 
+module _ {S O : Type 0} (meaning : S → Props) (told : S → Option (List (List ℕ × List ℕ))) {adds : O → O → List Output → Type 0} (joins : Joins adds) where
   -- a property was put, its change was queued, it was saved, and a wait for it has ended
-  pub puts : (a : Parts S) (store : S) (queue : ScheduleView) (saved : List Pair) (waits : Option Waiting) (put stored all : List Output) (ends : Bool) (number : ℕ) (name value : List ℕ)
+  pub puts : (a : Parts S O) (store : S) (queue : ScheduleView) (saved : List Pair) (waits : Option Waiting) (put stored all : O) (ends : Bool) (number : ℕ) (name value : List ℕ)
       → meaning store ≡ with_set (meaning a.store) name value
       → told store ≡ more_sets (told a.store) ((name, value) ∷ [])
       → queue ≡ record a.queue { events = a.queue.events ++ change_event a.queue.changes name value }
-      → put ≡ a.outputs ++ put_line (state_of meaning a) name value ∷ []
+      → adds a.outputs put (put_line (state_of meaning a) name value ∷ [])
       → saved ≡ saved_now (is_persistent name && a.saving) a.saved name value
-      → stored ≡ put ++ saved_lines (is_persistent name && a.saving) name
+      → adds put stored (saved_lines (is_persistent name && a.saving) name)
       → ends ≡ awaits a.waits name value
       → waits ≡ still_waits ends a.waits
-      → all ≡ stored ++ released_lines ends
-      → Does meaning told a (record a { store = store; queue = queue; saved = saved; waits = waits; outputs = all }) (put_property (state_of meaning a) name value)
+      → adds stored all (released_lines ends)
+      → Does meaning told adds a (record a { store = store; queue = queue; saved = saved; waits = waits; outputs = all }) (put_property (state_of meaning a) name value)
   unfolding put_property
   puts a store queue saved waits put stored all ends number name value set sets queued put_is saved_is stored_is ends_is waits_is all_is =
       let stores = is_persistent name && a.saving in
@@ -62,9 +64,9 @@ module _ {S : Type 0} (meaning : S → Props) (told : S → Option (List (List �
           saved = saved_is i;
           waits = waiting i;
         };
-        lines = all_is ∙ ap (λ b. stored ++ released_lines b) ends_is
-            ∙ ap (λ os. os ++ released_lines ended) (stored_is ∙ ap (λ os. os ++ saved_lines stores name) put_is ∙ append_assoc a.outputs (put_line (state_of meaning a) name value ∷ []) (saved_lines stores name))
-            ∙ append_assoc a.outputs (put_line (state_of meaning a) name value ∷ saved_lines stores name) (released_lines ended);
+        lines = joins.both a.outputs stored all (put_line (state_of meaning a) name value ∷ saved_lines stores name) (released_lines ended)
+            (joins.both a.outputs put stored (put_line (state_of meaning a) name value ∷ []) (saved_lines stores name) put_is stored_is)
+            (subst (λ (b : Bool). adds stored all (released_lines b)) ends_is all_is);
         sets = sets ∙ ap (λ more. more_sets (told a.store) ((name, value) ∷ more)) (sym (no_sets_behind stores ended name));
         rules = refl;
         actions = ap (λ (q : ScheduleView). q.actions) queued;

@@ -21,79 +21,81 @@ use Rattle.model_kernel.specs.Kernel.{KernelView}
 use Rattle.model_kernel.specs.declared.refusal.SpawnRefusal.{SpawnRefusal}
 use Rattle.model_kernel.specs.declared.refusal.SpawnRefusal.TheVariants as refusal
 use Rattle.model_kernel.specs.Kernel.{spawned as kernel_spawned, killed as kernel_killed}
+use Rattle.outputs.specs.Joins.{Joins}
 use Rattle.services.specs.Services.{ServicesView, move_of, with_op}
 use Rattle.machine_parts.specs.Operations.{with_step}
 use Rattle.machine_parts.specs.Parts.{Does, actions_of, rules_of, state_of}
 use Rattle.machine_parts.specs.declared.parts.Parts.{Parts}
 use Rattle.machine_parts.proofs.Doing.{does_both, does_more, does_plain, unset_sets_none}
 
-module _ {S : Type 0} (meaning : S → Props) (told : S → Option (List (List ℕ × List ℕ))) where
+module _ {S O : Type 0} (meaning : S → Props) (told : S → Option (List (List ℕ × List ℕ))) {adds : O → O → List Output → Type 0} (joins : Joins adds) where
   -- the state is told by a set, and a refusal is a line
-  pub tells : (a b c : Parts S) (service name word given : List ℕ) (refused : Option SetRefusal) (outs : List Output) → name ≡ state_name service → given ≡ word
+  pub tells : (a b c : Parts S O) (service name word given : List ℕ) (refused : Option SetRefusal) (outs : O) → name ≡ state_name service → given ≡ word
       → refused ≡ (set_property (rules_of a) (state_of meaning a) None name given).refused
-      → Does meaning told a b (set_property (rules_of a) (state_of meaning a) None name given).done
-      → c ≡ record b { outputs = outs } → outs ≡ b.outputs ++ unset_lines name refused
-      → Does meaning told a c (tell (rules_of a) service word (state_of meaning a))
+      → Does meaning told adds a b (set_property (rules_of a) (state_of meaning a) None name given).done
+      → c ≡ record b { outputs = outs } → adds b.outputs outs (unset_lines name refused)
+      → Does meaning told adds a c (tell (rules_of a) service word (state_of meaning a))
   unfolding tell
   tells a b c service name word given refused outs named same why did is outputs =
       let done = (set_property (rules_of a) (state_of meaning a) None name given).done in
-      let more : Does meaning told a c (change done.state (done.lines ++ unset_lines name refused)) =
-      subst (λ (p : Parts S). Does meaning told a p (change done.state (done.lines ++ unset_lines name refused))) (sym is) (does_more outs (unset_lines name refused) did outputs (unset_sets_none name refused)) in
-      subst (λ (w : List ℕ). Does meaning told a c (told_refusal (state_name service) (set_property (rules_of a) (state_of meaning a) None (state_name service) w))) same
-      (subst (λ (n : List ℕ). Does meaning told a c (told_refusal n (set_property (rules_of a) (state_of meaning a) None n given))) named
-      (subst (λ (r : Option SetRefusal). Does meaning told a c (change done.state (done.lines ++ unset_lines name r))) why more))
+      let more : Does meaning told adds a c (change done.state (done.lines ++ unset_lines name refused)) =
+      subst (λ (p : Parts S O). Does meaning told adds a p (change done.state (done.lines ++ unset_lines name refused))) (sym is) (does_more joins outs (unset_lines name refused) did outputs (unset_sets_none name refused)) in
+      subst (λ (w : List ℕ). Does meaning told adds a c (told_refusal (state_name service) (set_property (rules_of a) (state_of meaning a) None (state_name service) w))) same
+      (subst (λ (n : List ℕ). Does meaning told adds a c (told_refusal n (set_property (rules_of a) (state_of meaning a) None n given))) named
+      (subst (λ (r : Option SetRefusal). Does meaning told adds a c (change done.state (done.lines ++ unset_lines name r))) why more))
 
   -- what is told after a change
-  tells_after : (a b c : Parts S) (first : Change) (name word : List ℕ) → Does meaning told a b first → Does meaning told b c (tell (rules_of b) name word (state_of meaning b))
-      → Does meaning told a c (behind first.lines (tell (rules_of a) name word first.state))
-  tells_after a b c first name word f s = does_both (λ rules t. tell rules name word t) f s
+  tells_after : (a b c : Parts S O) (first : Change) (name word : List ℕ) → Does meaning told adds a b first → Does meaning told adds b c (tell (rules_of b) name word (state_of meaning b))
+      → Does meaning told adds a c (behind first.lines (tell (rules_of a) name word first.state))
+  tells_after a b c first name word f s = does_both joins (λ rules t. tell rules name word t) f s
 
   -- parts that differ in the state alone
-  pub does_from : (a b c : Parts S) (done : Change) → b.outputs ≡ a.outputs → told b.store ≡ told a.store → rules_of b ≡ rules_of a → actions_of b ≡ actions_of a
-      → Does meaning told b c done → Does meaning told a c done
+  pub does_from : (a b c : Parts S O) (done : Change) → b.outputs ≡ a.outputs → told b.store ≡ told a.store → rules_of b ≡ rules_of a → actions_of b ≡ actions_of a
+      → Does meaning told adds b c done → Does meaning told adds a c done
   does_from a b c done outputs sets rules actions d = record {
     state = d.state;
-    lines = d.lines ∙ ap (λ os. os ++ done.lines) outputs;
+    lines = subst (λ (os : O). adds os c.outputs done.lines) outputs d.lines;
     sets = d.sets ∙ ap (λ t. more_sets t (sets_in done.lines)) sets;
     rules = d.rules ∙ rules;
     actions = d.actions ∙ actions;
   }
 
-  pub spawns : (a c d : Parts S) (kernel : KernelView) (pid : Pid) (name path : List ℕ) (at : ℕ)
+  pub spawns : (a c d : Parts S O) (kernel : KernelView) (pid : Pid) (name path : List ℕ) (at : ℕ)
       → kernel ≡ kernel_spawned a.kernel name path → pid.0 ≡ a.kernel.kernel.next_pid
-      → Does meaning told (record a { kernel = kernel }) c
+      → Does meaning told adds (record a { kernel = kernel }) c
       (change (with_step (state_of meaning (record a { kernel = kernel })) at (op.Spawned pid (record { 0 = kernel.kernel.clock }))) (output.Spawn pid name path ∷ []))
-      → Does meaning told c d (tell (rules_of c) name (codes "running") (state_of meaning c))
-      → Does meaning told a d (spawned (rules_of a) name path at (state_of meaning a))
+      → Does meaning told adds c d (tell (rules_of c) name (codes "running") (state_of meaning c))
+      → Does meaning told adds a d (spawned (rules_of a) name path at (state_of meaning a))
   spawns a c d kernel pid name path at is number entered telling =
       let now = kernel_spawned a.kernel name path in
-      let entered' : Does meaning told (record a { kernel = now }) c
+      let entered' : Does meaning told adds (record a { kernel = now }) c
       (change (with_spawned (rules_of a) name path at (state_of meaning a)) (spawn_line a.kernel.kernel name path ∷ [])) =
-      subst (λ (p : ℕ). Does meaning told (record a { kernel = now }) c (change (with_step (state_of meaning (record a { kernel = now })) at (op.Spawned (pid_of p) (record { 0 = now.kernel.clock }))) (output.Spawn (pid_of p) name path ∷ []))) number
-      (subst (λ (k : KernelView). Does meaning told (record a { kernel = k }) c (change (with_step (state_of meaning (record a { kernel = k })) at (op.Spawned pid (record { 0 = k.kernel.clock }))) (output.Spawn pid name path ∷ []))) is entered) in
-      let from : Does meaning told a c (change (with_spawned (rules_of a) name path at (state_of meaning a)) (spawn_line a.kernel.kernel name path ∷ [])) =
+      subst (λ (p : ℕ). Does meaning told adds (record a { kernel = now }) c (change (with_step (state_of meaning (record a { kernel = now })) at (op.Spawned (pid_of p) (record { 0 = now.kernel.clock }))) (output.Spawn (pid_of p) name path ∷ []))) number
+      (subst (λ (k : KernelView). Does meaning told adds (record a { kernel = k }) c (change (with_step (state_of meaning (record a { kernel = k })) at (op.Spawned pid (record { 0 = k.kernel.clock }))) (output.Spawn pid name path ∷ []))) is entered) in
+      let from : Does meaning told adds a c (change (with_spawned (rules_of a) name path at (state_of meaning a)) (spawn_line a.kernel.kernel name path ∷ [])) =
       does_from a (record a { kernel = now }) c _ refl refl refl refl entered' in
       tells_after a c d _ name (codes "running") from telling
 
-  pub kills : (a b c : Parts S) (kernel : KernelView) (outs : List Output) (pid : Pid) (name given : List ℕ) → kernel ≡ kernel_killed a.kernel pid → given ≡ name
-      → outs ≡ a.outputs ++ output.Kill pid given ∷ [] → b ≡ record a { kernel = kernel; outputs = outs }
-      → Does meaning told b c (tell (rules_of b) name (codes "stopping") (state_of meaning b))
-      → Does meaning told a c (kill_process (rules_of a) name pid (state_of meaning a))
+  pub kills : (a b c : Parts S O) (kernel : KernelView) (outs : O) (pid : Pid) (name given : List ℕ) → kernel ≡ kernel_killed a.kernel pid → given ≡ name
+      → adds a.outputs outs (output.Kill pid given ∷ []) → b ≡ record a { kernel = kernel; outputs = outs }
+      → Does meaning told adds b c (tell (rules_of b) name (codes "stopping") (state_of meaning b))
+      → Does meaning told adds a c (kill_process (rules_of a) name pid (state_of meaning a))
   unfolding kill_process
   kills a b c kernel outs pid name given is named outputs both telling =
       let whole : b ≡ record a { kernel = kernel_killed a.kernel pid; outputs = outs } = both ∙ (λ i. record a { kernel = is i; outputs = outs }) in
-      let from : Does meaning told a b (change (record (state_of meaning a) { kernel = (kernel_killed a.kernel pid).kernel }) (output.Kill pid name ∷ [])) =
-      does_plain (ap (state_of meaning) whole) (ap (λ (p : Parts S). p.outputs) whole ∙ outputs ∙ (λ i. a.outputs ++ output.Kill pid (named i) ∷ []))
-      (ap (λ (p : Parts S). told p.store) whole) (ap rules_of whole) (ap actions_of whole) refl in
+      let from : Does meaning told adds a b (change (record (state_of meaning a) { kernel = (kernel_killed a.kernel pid).kernel }) (output.Kill pid name ∷ [])) =
+      does_plain joins (ap (state_of meaning) whole)
+      (subst (λ (os : O). adds a.outputs os (output.Kill pid name ∷ [])) (sym (ap (λ (p : Parts S O). p.outputs) whole)) (subst (λ (n : List ℕ). adds a.outputs outs (output.Kill pid n ∷ [])) named outputs))
+      (ap (λ (p : Parts S O). told p.store) whole) (ap rules_of whole) (ap actions_of whole) refl in
       tells_after a b c _ name (codes "stopping") from telling
 
-  pub unspawns : (a c d : Parts S) (kernel : KernelView) (name : List ℕ) (at : ℕ) → kernel ≡ a.kernel
-      → Does meaning told (record a { kernel = kernel }) c (change (with_step (state_of meaning (record a { kernel = kernel })) at op.NoPid) (output.NoPid name ∷ []))
-      → Does meaning told c d (tell (rules_of c) name (codes "stopped") (state_of meaning c))
-      → Does meaning told a d (not_spawned (rules_of a) name at (state_of meaning a))
+  pub unspawns : (a c d : Parts S O) (kernel : KernelView) (name : List ℕ) (at : ℕ) → kernel ≡ a.kernel
+      → Does meaning told adds (record a { kernel = kernel }) c (change (with_step (state_of meaning (record a { kernel = kernel })) at op.NoPid) (output.NoPid name ∷ []))
+      → Does meaning told adds c d (tell (rules_of c) name (codes "stopped") (state_of meaning c))
+      → Does meaning told adds a d (not_spawned (rules_of a) name at (state_of meaning a))
   unspawns a c d kernel name at is entered telling =
-      let from : Does meaning told a c (change (with_step (state_of meaning a) at op.NoPid) (output.NoPid name ∷ [])) =
-      subst (λ (k : KernelView). Does meaning told (record a { kernel = k }) c (change (with_step (state_of meaning (record a { kernel = k })) at op.NoPid) (output.NoPid name ∷ []))) is entered in
+      let from : Does meaning told adds a c (change (with_step (state_of meaning a) at op.NoPid) (output.NoPid name ∷ [])) =
+      subst (λ (k : KernelView). Does meaning told adds (record a { kernel = k }) c (change (with_step (state_of meaning (record a { kernel = k })) at op.NoPid) (output.NoPid name ∷ []))) is entered in
       tells_after a c d _ name (codes "stopped") from telling
 
 -- whether the kernel has a pid decides
@@ -128,7 +130,7 @@ pub operates_none : (rules : Rules) (at : ℕ) (what : Op) (s : State) → None 
 unfolding operate
 operates_none rules at what s none = ap (λ (o : Option ServiceDef). operate_on rules o at what s) (sym none)
 
-pub operates : {S : Type 0} (meaning : S → Props) (a : Parts S) (services : ServicesView) (service : ServiceDef) (at : ℕ) (what : Op) (todo : Move) (name path : List ℕ)
+pub operates : {S O : Type 0} (meaning : S → Props) (a : Parts S O) (services : ServicesView) (service : ServiceDef) (at : ℕ) (what : Op) (todo : Move) (name path : List ℕ)
     → Some service ≡ slice_get a.services.defs at → name ≡ service.name → path ≡ service.path → services ≡ with_op a.services at what → todo ≡ move_of a.services at what
     → follow (rules_of (record a { services = services })) name path at todo (state_of meaning (record a { services = services })) ≡ operate (rules_of a) at what (state_of meaning a)
 operates meaning a services service at what todo name path there named placed is moved =

@@ -15,6 +15,7 @@ ghost use Rattle.machine_parts.specs.Parts.{rules_of, state_of};
 use crate::parts::Parts;
 use init_base::{BadValue, PropName, PropValue, Text};
 use init_machine::{Full, PropStore, SetRefusal};
+use outputs::Outputs;
 use prop_contexts::{Context, Policy};
 use prop_rules::check_type;
 
@@ -158,8 +159,8 @@ fn judge_named<'a, S: PropStore>(
 
 /// Whether there is a reason against a set of a name that is no control name.
 #[tactic(auto, unfolding(init_machine::specs::Setting::set_answer))]
-pub fn judge<'a, S: PropStore>(
-    parts: &mut Parts<S>,
+pub fn judge<'a, S: PropStore, O: Outputs>(
+    parts: &mut Parts<S, O>,
     by: Option<&Text>,
     name: &'a [u8],
     value: &'a [u8],

@@ -20,6 +20,7 @@ use crate::setting::{add_refusal, set_property};
 use init_base::{List, NoMemory, Pid, Text};
 use init_machine::{Move, Op, Output, PropStore, SetRefusal};
 use model_kernel::SpawnRefusal;
+use outputs::Outputs;
 use services::Services;
 use std::alloc::Global;
 
@@ -49,13 +50,13 @@ fn state_name(alloc: Global, service: &Text) -> Result<Text, NoMemory>
 }
 
 /// Tells the state of a service by its property.
-pub fn tell<S: PropStore>(
+pub fn tell<S: PropStore, O: Outputs>(
     alloc: Global,
-    parts: &mut Parts<S>,
+    parts: &mut Parts<S, O>,
     service: &Text,
     word: &[u8],
 ) -> Result<(), NoMemory>
-    ensures done { OnOk result (Does S.meaning S.told parts.old parts.new
+    ensures done { OnOk result (Does S.meaning S.told O.Adds parts.old parts.new
         (services_spec.tell (rules_of parts.old) service.now word.now (state_of S.meaning parts.old))) }
     ensures beside { S.Beside parts.old.store parts.new.store }
 {
@@ -66,35 +67,31 @@ pub fn tell<S: PropStore>(
 }
 
 /// The service at a place has a process that was begun.
-fn enter_process<S: PropStore>(
-    parts: &mut Parts<S>,
+fn enter_process<S: PropStore, O: Outputs>(
+    parts: &mut Parts<S, O>,
     at: usize,
     name: &Text,
     path: &Text,
     pid: Pid,
 ) -> Result<(), NoMemory>
     requires { at < length parts.old.services.defs }
-    ensures done { OnOk result (Does S.meaning S.told parts.old parts.new (change (with_step (state_of S.meaning parts.old) at
+    ensures done { OnOk result (Does S.meaning S.told O.Adds parts.old parts.new (change (with_step (state_of S.meaning parts.old) at
         (Op.Spawned pid (record { 0 = parts.old.kernel.kernel.clock }))) (output.Spawn pid name.now path.now ∷ []))) }
     ensures beside { S.Beside parts.old.store parts.new.store }
 {
     let now = parts.kernel.now();
     parts.services.apply(at, Op::Spawned { pid, now })?;
-    parts.outputs.push(Output::Spawn {
-        pid,
-        name: name.share()?,
-        path: path.share()?,
-    })
+    parts.outputs.spawn(pid, name, path)
 }
 
 /// Stops a service, since the kernel has no pid.
-fn stop_unspawned<S: PropStore>(
-    parts: &mut Parts<S>,
+fn stop_unspawned<S: PropStore, O: Outputs>(
+    parts: &mut Parts<S, O>,
     at: usize,
     name: &Text,
 ) -> Result<(), NoMemory>
     requires { at < length parts.old.services.defs }
-    ensures done { OnOk result (Does S.meaning S.told parts.old parts.new
+    ensures done { OnOk result (Does S.meaning S.told O.Adds parts.old parts.new
         (change (with_step (state_of S.meaning parts.old) at Op.NoPid) (output.NoPid name.now ∷ []))) }
     ensures beside { S.Beside parts.old.store parts.new.store }
 {
@@ -105,9 +102,9 @@ fn stop_unspawned<S: PropStore>(
 }
 
 /// Spawns a process for the service at a place. Answers whether the kernel had a pid.
-fn spawn<S: PropStore>(
+fn spawn<S: PropStore, O: Outputs>(
     alloc: Global,
-    parts: &mut Parts<S>,
+    parts: &mut Parts<S, O>,
     at: usize,
     name: &Text,
     path: &Text,
@@ -115,7 +112,7 @@ fn spawn<S: PropStore>(
     requires { at < length parts.old.services.defs }
     ensures had_pid { IfOk result (λ had_pid. had_pid
         ≡ (services_spec.spawn (rules_of parts.old) name.now path.now at (state_of S.meaning parts.old)).had_pid) }
-    ensures done { OnOk result (Does S.meaning S.told parts.old parts.new
+    ensures done { OnOk result (Does S.meaning S.told O.Adds parts.old parts.new
         (services_spec.spawn (rules_of parts.old) name.now path.now at (state_of S.meaning parts.old)).done) }
     ensures beside { S.Beside parts.old.store parts.new.store }
 {
@@ -135,29 +132,26 @@ fn spawn<S: PropStore>(
 }
 
 /// Kills the process of a service.
-fn kill_process<S: PropStore>(
+fn kill_process<S: PropStore, O: Outputs>(
     alloc: Global,
-    parts: &mut Parts<S>,
+    parts: &mut Parts<S, O>,
     name: &Text,
     pid: Pid,
 ) -> Result<(), NoMemory>
-    ensures done { OnOk result (Does S.meaning S.told parts.old parts.new
+    ensures done { OnOk result (Does S.meaning S.told O.Adds parts.old parts.new
         (services_spec.kill_process (rules_of parts.old) name.now pid (state_of S.meaning parts.old))) }
     ensures beside { S.Beside parts.old.store parts.new.store }
 {
     parts.kernel.kill(pid);
-    parts.outputs.push(Output::Kill {
-        pid,
-        name: name.share()?,
-    })?;
+    parts.outputs.kill(pid, name)?;
     tell(alloc, parts, name, STOPPING)
 }
 
 /// Does what follows from an operation on the service at a place.
 #[tactic(auto, unfolding(init_machine::specs::Services::follow))]
-fn follow<S: PropStore>(
+fn follow<S: PropStore, O: Outputs>(
     alloc: Global,
-    parts: &mut Parts<S>,
+    parts: &mut Parts<S, O>,
     at: usize,
     name: &Text,
     path: &Text,
@@ -166,7 +160,7 @@ fn follow<S: PropStore>(
     requires { at < length parts.old.services.defs }
     ensures had_pid { IfOk result (λ had_pid. had_pid
         ≡ (services_spec.follow (rules_of parts.old) name.now path.now at todo (state_of S.meaning parts.old)).had_pid) }
-    ensures done { OnOk result (Does S.meaning S.told parts.old parts.new
+    ensures done { OnOk result (Does S.meaning S.told O.Adds parts.old parts.new
         (services_spec.follow (rules_of parts.old) name.now path.now at todo (state_of S.meaning parts.old)).done) }
     ensures beside { S.Beside parts.old.store parts.new.store }
 {
@@ -181,15 +175,15 @@ fn follow<S: PropStore>(
 
 /// Does an operation on the service at a place, and what follows from it. Answers whether the kernel had a pid where a
 /// process was to be spawned.
-pub fn operate<S: PropStore>(
+pub fn operate<S: PropStore, O: Outputs>(
     alloc: Global,
-    parts: &mut Parts<S>,
+    parts: &mut Parts<S, O>,
     at: usize,
     op: Op,
 ) -> Result<bool, NoMemory>
     ensures had_pid { IfOk result
         (λ had_pid. had_pid ≡ (services_spec.operate (rules_of parts.old) at op (state_of S.meaning parts.old)).had_pid) }
-    ensures done { OnOk result (Does S.meaning S.told parts.old parts.new
+    ensures done { OnOk result (Does S.meaning S.told O.Adds parts.old parts.new
         (services_spec.operate (rules_of parts.old) at op (state_of S.meaning parts.old)).done) }
     ensures beside { S.Beside parts.old.store parts.new.store }
 {
@@ -203,13 +197,13 @@ pub fn operate<S: PropStore>(
 }
 
 /// Does an operation on each service at some places, in their order, until the machine is over.
-pub fn operate_each<S: PropStore>(
+pub fn operate_each<S: PropStore, O: Outputs>(
     alloc: Global,
-    parts: &mut Parts<S>,
+    parts: &mut Parts<S, O>,
     op: Op,
     places: &List<usize>,
 ) -> Result<(), NoMemory>
-    ensures done { OnOk result (Does S.meaning S.told parts.old parts.new
+    ensures done { OnOk result (Does S.meaning S.told O.Adds parts.old parts.new
         (services_spec.operate_each (rules_of parts.old) op places.now (state_of S.meaning parts.old))) }
     ensures beside { S.Beside parts.old.store parts.new.store }
 {
@@ -253,8 +247,8 @@ fn find_service(services: &Services, name: &[u8]) -> Result<usize, SetRefusal>
 
 /// The operation that a control name asks for, and the place of its service, or why it is refused.
 #[tactic(auto, unfolding(init_machine::specs::Setting::set_answer))]
-fn judge_control<S: PropStore>(
-    parts: &Parts<S>,
+fn judge_control<S: PropStore, O: Outputs>(
+    parts: &Parts<S, O>,
     by: Option<&Text>,
     name: &[u8],
     service: &[u8],
@@ -275,16 +269,16 @@ fn judge_control<S: PropStore>(
 
 /// A set of any name, by init or by a client of a domain, and why it is refused, if it is.
 #[tactic(auto, unfolding(init_machine::specs::Services::set_by))]
-pub fn set_by<S: PropStore>(
+pub fn set_by<S: PropStore, O: Outputs>(
     alloc: Global,
-    parts: &mut Parts<S>,
+    parts: &mut Parts<S, O>,
     by: Option<&Text>,
     name: &Text,
     value: &Text,
 ) -> Result<Option<SetRefusal>, NoMemory>
     ensures refused { IfOk result (λ refused. refused ≡ (services_spec.set_by (rules_of parts.old)
         (option_copied by.entry) name.entry.now value.entry.now (state_of S.meaning parts.old)).refused) }
-    ensures done { OnOk result (Does S.meaning S.told parts.old parts.new (services_spec.set_by (rules_of parts.old)
+    ensures done { OnOk result (Does S.meaning S.told O.Adds parts.old parts.new (services_spec.set_by (rules_of parts.old)
         (option_copied by.entry) name.entry.now value.entry.now (state_of S.meaning parts.old)).done) }
     ensures beside { S.Beside parts.old.store parts.new.store }
 {

@@ -3,16 +3,17 @@
 use crate::environment::Environment;
 use crate::saved::Saved;
 use crate::schedule::Schedule;
-use init_base::{List, Text};
-use init_machine::{Output, PropStore, Waiting};
+use init_base::Text;
+use init_machine::{PropStore, Waiting};
 use model_fs::Tree;
 use model_kernel::Kernel;
+use outputs::Outputs;
 use prop_contexts::Policy;
 use services::Services;
 
-/// The state of the machine, with the properties in any store, and the lines of the present entry.
+/// The state of the machine, with the properties in any store, and what its lines are told to.
 #[derive(Drop)]
-pub struct Parts<S: PropStore> {
+pub struct Parts<S: PropStore, O: Outputs> {
     pub store: S,
     pub queue: Schedule,
     pub services: Services,
@@ -26,5 +27,5 @@ pub struct Parts<S: PropStore> {
     pub waits: Option<Waiting>,
     /// The target of the reboot by which the machine is over.
     pub over: Option<Text>,
-    pub outputs: List<Output>,
+    pub outputs: O,
 }

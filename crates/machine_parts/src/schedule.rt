@@ -2,7 +2,8 @@
 
 use action_queue::Queue;
 use init_base::{List, NoMemory, Text};
-use init_machine::{Action, Command, CommandRef, Event, Output, PropStore};
+use init_machine::{Action, Command, CommandRef, Event, PropStore};
+use outputs::Outputs;
 use std::alloc::Global;
 use std::marker::Model;
 
@@ -96,16 +97,16 @@ impl Schedule {
     /// # Errors
     ///
     /// `NoMemory`. The schedule isn't used again then.
-    pub fn next<S: PropStore>(
+    pub fn next<S: PropStore, O: Outputs>(
         &mut self,
         alloc: Global,
         store: &mut S,
-        outputs: &mut List<Output>,
+        outputs: &mut O,
     ) -> Result<Option<CommandRef>, NoMemory>
         ensures next { IfOk result (λ place. MatchOption place ((taken_in (S.meaning store.old) self.old).running ≡ [])
             (IsNext self.old.actions (taken_in (S.meaning store.old) self.old).running)) }
         ensures schedule { OnOk result (self.new ≡ schedule_after self.old (taken_in (S.meaning store.old) self.old)) }
-        ensures lines { OnOk result (outputs.new ≡ outputs.old ++ (taken_in (S.meaning store.old) self.old).lines) }
+        ensures lines { OnOk result (O.Adds outputs.old outputs.new ((taken_in (S.meaning store.old) self.old).lines)) }
         ensures same { S.meaning store.new ≡ S.meaning store.old }
         ensures told { S.told store.new ≡ S.told store.old }
         ensures spare { S.spare store.new ≡ S.spare store.old }

@@ -14,8 +14,9 @@ use crate::judging::judge;
 use crate::parts::Parts;
 use crate::saved::Saved;
 use crate::schedule::Schedule;
-use init_base::{List, NoMemory, PropName, PropValue, Text};
+use init_base::{NoMemory, PropName, PropValue, Text};
 use init_machine::{Event, Output, Pair, PropStore, SetRefusal, Waiting};
+use outputs::Outputs;
 use std::alloc::Global;
 
 const PERSISTENT: &[u8] = b"persist.";
@@ -41,25 +42,23 @@ fn queue_change(queue: &mut Schedule, name: &Text, value: &Text) -> Result<(), N
 }
 
 /// Saves a persistent property, where saving is on.
-fn store_saved(
+fn store_saved<O: Outputs>(
     saving: bool,
     saved: &mut Saved,
     name: &Text,
     value: &Text,
-    outputs: &mut List<Output>,
+    outputs: &mut O,
 ) -> Result<(), NoMemory>
     ensures saved { OnOk result
         (saved.new ≡ (if spec.is_persistent name.now && saving then with_saved saved.old name.now value.now else saved.old)) }
     ensures lines { OnOk result
-        (outputs.new ≡ outputs.old ++ (if spec.is_persistent name.now && saving then output.Stored name.now ∷ [] else [])) }
+        (O.Adds outputs.old outputs.new (if spec.is_persistent name.now && saving then output.Stored name.now ∷ [] else [])) }
 {
     if !(is_persistent(name) && saving) {
         return Ok(());
     }
     saved.put(name, value)?;
-    outputs.push(Output::Stored {
-        name: name.share()?,
-    })
+    outputs.stored(name)
 }
 
 fn is_awaited(waits: &Option<Waiting>, name: &Text, value: &Text) -> bool
@@ -72,13 +71,13 @@ fn is_awaited(waits: &Option<Waiting>, name: &Text, value: &Text) -> bool
 }
 
 /// A wait that ends is no more, and has a line.
-pub fn release(
+pub fn release<O: Outputs>(
     ends: bool,
     waits: &mut Option<Waiting>,
-    outputs: &mut List<Output>,
+    outputs: &mut O,
 ) -> Result<(), NoMemory>
     ensures waits { OnOk result (waits.new ≡ still_waits ends waits.old) }
-    ensures lines { OnOk result (outputs.new ≡ outputs.old ++ released_lines ends) }
+    ensures lines { OnOk result (O.Adds outputs.old outputs.new (released_lines ends)) }
 {
     if !ends {
         return Ok(());
@@ -88,9 +87,9 @@ pub fn release(
 }
 
 /// Puts a property for which there is room.
-fn put_property<S: PropStore>(
+fn put_property<S: PropStore, O: Outputs>(
     alloc: Global,
-    parts: &mut Parts<S>,
+    parts: &mut Parts<S, O>,
     name: &Text,
     value: &Text,
     property: PropName<'_>,
@@ -102,17 +101,13 @@ fn put_property<S: PropStore>(
     requires once { MayBeSet (S.meaning parts.old.store) name.now }
     requires room { full_for (S.meaning parts.old.store) name.now (length value.now) ≡ None }
     ensures done { OnOk result
-        (Does S.meaning S.told parts.old parts.new (spec.put_property (state_of S.meaning parts.old) name.now value.now)) }
+        (Does S.meaning S.told O.Adds parts.old parts.new (spec.put_property (state_of S.meaning parts.old) name.now value.now)) }
     ensures beside { S.Beside parts.old.store parts.new.store }
 {
     parts.store.reserve(alloc)?;
     let number = parts.store.put(property, legal);
     queue_change(&mut parts.queue, name, value)?;
-    parts.outputs.push(Output::Put {
-        number,
-        name: name.share()?,
-        value: value.share()?,
-    })?;
+    parts.outputs.put(number, name, value)?;
     store_saved(
         parts.saving,
         &mut parts.saved,
@@ -126,9 +121,9 @@ fn put_property<S: PropStore>(
 
 /// A set of a property that is no control name, by init or by a client of a domain, and why it is refused, if it is.
 #[tactic(auto, unfolding(init_machine::specs::Setting::set_property))]
-pub fn set_property<S: PropStore>(
+pub fn set_property<S: PropStore, O: Outputs>(
     alloc: Global,
-    parts: &mut Parts<S>,
+    parts: &mut Parts<S, O>,
     by: Option<&Text>,
     name: &Text,
     value: &Text,
@@ -136,7 +131,7 @@ pub fn set_property<S: PropStore>(
     requires plain { is_control name.now ≡ false }
     ensures refused { IfOk result (λ refused. refused ≡ (spec.set_property (rules_of parts.old) (state_of S.meaning parts.old)
         (option_copied by.entry) name.entry.now value.entry.now).refused) }
-    ensures done { OnOk result (Does S.meaning S.told parts.old parts.new (spec.set_property (rules_of parts.old)
+    ensures done { OnOk result (Does S.meaning S.told O.Adds parts.old parts.new (spec.set_property (rules_of parts.old)
         (state_of S.meaning parts.old) (option_copied by.entry) name.entry.now value.entry.now).done) }
     ensures beside { S.Beside parts.old.store parts.new.store }
 {
@@ -151,12 +146,12 @@ pub fn set_property<S: PropStore>(
 }
 
 /// The line of a refused set of init's that isn't a command.
-pub fn add_refusal(
+pub fn add_refusal<O: Outputs>(
     name: &Text,
     refused: Option<SetRefusal>,
-    outputs: &mut List<Output>,
+    outputs: &mut O,
 ) -> Result<(), NoMemory>
-    ensures { OnOk result (outputs.new ≡ outputs.old ++ unset_lines name.now refused) }
+    ensures { OnOk result (O.Adds outputs.old outputs.new (unset_lines name.now refused)) }
 {
     match refused {
         Some(refusal) => outputs.push(Output::Unset {

@@ -14,7 +14,7 @@ use crate::area::Area;
 use crate::view::AreaView;
 use atomic_table::{Join, Play, Seat, Split};
 use init_base::ClientId;
-use init_machine::{Config, Entry, PolicyView};
+use init_machine::{Config, PolicyView};
 use std::marker::{Brand, PhantomData};
 
 /// What such a step is about, for proofs alone: the client, its seat, and how many words the area has.
@@ -136,8 +136,8 @@ pub(crate) fn put_in_place(area: &Area, seat: &mut Seat<(), AreaView>)
     area.table.shared.load::<PutAway>(seat, 0);
 }
 
-/// What such a record is about, for proofs alone.
-pub(crate) trait Recording {
+/// What a record is about, for proofs alone.
+pub trait Recording {
     ghost entry: { Entry };
 }
 
@@ -181,8 +181,7 @@ impl<Q: Opens> Play<(), AreaView> for Opened<Q> {
 }
 
 /// The entry is recorded. What it is, only the view says.
-pub(crate) fn record_entry<Q: Recording>(area: &Area, seat: &mut Seat<(), AreaView>, _entry: &Entry)
-    requires asked { _entry.now ≡ Q.entry }
+pub(crate) fn record_entry<Q: Recording>(area: &Area, seat: &mut Seat<(), AreaView>)
     requires table { seat.old.table_id ≡ area.now }
     requires writer { IsUnmaking seat.old.me.0 × IsStill seat.old.me.0 × ComesNext seat.old.me.0 Q.entry }
     ensures seat { IsSameSeat seat.old seat.new }

@@ -21,6 +21,7 @@ mod view;
 mod writer;
 
 pub use area::{Area, AreaRefusal, WriterSeat};
+pub use handing::Recording;
 pub use reader::{ReadAnswer, Reader};
 pub use rule::WordArea;
 pub use view::{AreaView, Client};

@@ -3,7 +3,9 @@
 ghost use Rattle.std.specs.Prelude.{◌≡◌};
 
 use crate::area::{Area, WriterSeat};
-use crate::handing::{join_in, open_log, put_in_place, record_entry, split_off, tell_count};
+use crate::handing::{
+    Recording, join_in, open_log, put_in_place, record_entry, split_off, tell_count,
+};
 use crate::index::Index;
 use crate::reader::Reader;
 use crate::room::{check_numbers, check_room, has_room_for_any};
@@ -11,7 +13,7 @@ use crate::store::{look_up, number_of, set, words_needed};
 use crate::view::AreaView;
 use atomic_table::Seat;
 use init_base::{ClientId, NoMemory, PropName, PropValue};
-use init_machine::{Config, Entry, Full, PolicyView, PropStore};
+use init_machine::{Config, Full, Input, PolicyView, PropStore};
 use std::alloc::Global;
 use std::marker::{Brand, Model};
 
@@ -128,13 +130,13 @@ impl<'a> AreaWriter<'a> {
         open_log::<P, Brand>(self.area, &mut self.seat, config, policy);
     }
 
-    /// Records an entry: the log gets it, and the list of its client gets it as a request, with its answer, its place, and the
-    /// counts of sets before and after it.
-    pub fn note(&mut self, entry: &Entry)
-        requires next { ComesNext self.old.view entry.now × IsAnswered entry.now }
-        ensures writer { IsSameSeated self.old self.new × (self.new.view ≡ recording self.old.view entry.now) }
+    /// Records an entry of this input: the log gets it, and the list of its client gets it as a request, with its answer, its place,
+    /// and the counts of sets before and after it. Its outputs are named for proofs alone.
+    pub fn note<Q: Recording>(&mut self, _input: &Input)
+        requires next { ComesNext self.old.view Q.entry × IsAnswered Q.entry }
+        ensures writer { IsSameSeated self.old self.new × (self.new.view ≡ recording self.old.view Q.entry) }
     {
-        record_entry::<Brand>(self.area, &mut self.seat, entry);
+        record_entry::<Q>(self.area, &mut self.seat);
     }
 
     /// Tells a client that has no seat how many sets there are, and answers it.

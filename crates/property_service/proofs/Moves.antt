@@ -129,9 +129,6 @@ module _ {area : TableId} {core : CoreView Seated} {seats : List Bool} {reader :
   pub step_lent : step_of lent i ≡ step o.config o.policy (state_after s) i
   step_lent = (λ j. step (took.holds.config j) (took.holds.policy j) (state_lent j) i) ∙ same_step o.config o.policy [] (state_after s) i
 
-  pub entry_made : (outputs : List Output) → outputs ≡ (step_of lent i).lines → (let x : Entry = record { input = i; outputs = outputs } in x) ≡ e
-  entry_made outputs is = ap (λ (os : List Output). let x : Entry = record { input = i; outputs = os } in x) (is ∙ ap (λ (c : Change). c.lines) step_lent)
-
   abbrev v2 : AreaView
   v2 = second.view
 
@@ -149,6 +146,18 @@ module _ {area : TableId} {core : CoreView Seated} {seats : List Bool} {reader :
 
   log_now : v2.log ≡ v.log
   log_now = sym took.beside.7 ∙ ap (λ (x : AreaView). x.log) took.came.view
+
+  -- the entry that comes next by what the writer's seat knows now
+  pub entry_noted : next_entry (recorded_service v2 false) i ≡ e
+  entry_noted = λ j. let now : ServiceView = record {
+    opening = opening_in (opening_now j);
+    history = history_of (opening_in (opening_now j)) (inputs_in (log_now j));
+    seat = v2;
+    spent = false;
+  } in next_entry now i
+
+  pub told_lines : {O : Type 0} (adds : O → O → List Output → Type 0) (old new : O) → adds old new (step_of lent i).lines → adds old new e.outputs
+  told_lines adds old new = subst (λ (c : Change). adds old new c.lines) step_lent
 
   free : IsIn v2 (asker_of i)
   free = (λ j. out_seat (out_now j) (sym took.asker j)) ∙ seat_own v.out reader.view.who

@@ -19,23 +19,24 @@ ghost use Rattle.property_service.specs.Service.{Agrees, MayAsk, has_seat, next_
 use crate::area_name::AreaName;
 use init_base::{ClientId, List, NoMemory};
 use init_core::{Core, CoreStop};
-use init_machine::{Config, Entry, Output, Pair};
+use init_machine::{Config, Input, Pair};
+use outputs::Outputs;
 use prop_contexts::Policy;
 use property_area::{AreaWriter, Reader};
 use std::alloc::Global;
-use std::marker::{Model, PhantomData};
+use std::marker::{Brand, Model, PhantomData};
 
 /// The machine over the words of an area, without its history. It serves the area that its last type parameter names.
 #[derive(Drop)]
-pub struct Desk<'a, N: AreaName> {
-    pub(crate) core: Core<AreaWriter<'a>>,
+pub struct Desk<'a, N: AreaName, O: Outputs> {
+    pub(crate) core: Core<AreaWriter<'a>, O>,
     /// Whether the main actor and each client has a reader.
     pub(crate) seats: List<bool>,
     pub(crate) spent: bool,
     pub(crate) of: PhantomData<N>,
 }
 
-impl<'a, N: AreaName> Model for Desk<'a, N> {
+impl<'a, N: AreaName, O: Outputs> Model for Desk<'a, N, O> {
     ghost use Rattle.std.specs.Prelude.{◌≡◌, false};
     ghost use Rattle.property_service.specs.Service.{ServiceView, recorded_service};
     ghost use Rattle.property_service.specs.Desk.{DeskHolds};
@@ -47,14 +48,15 @@ impl<'a, N: AreaName> Model for Desk<'a, N> {
     ghost invariant = { λ d. d.spent ≡ false → DeskHolds N.area d.core d.seats };
 }
 
-impl<'a, N: AreaName> Desk<'a, N> {
+impl<'a, N: AreaName, O: Outputs> Desk<'a, N, O> {
     /// The desk before its first input, over an area in which nothing was set and nobody has a seat.
     pub fn new(
         alloc: Global,
         config: Config,
         policy: Policy,
         mut writer: AreaWriter<'a>,
-    ) -> Result<Desk<'a, N>, NoMemory>
+        outputs: O,
+    ) -> Result<Desk<'a, N, O>, NoMemory>
         requires config { IsWellFormed config }
         requires area { writer.table ≡ N.area }
         requires empty { (sets_in writer.view ≡ []) × (writer.view.log ≡ []) }
@@ -66,7 +68,7 @@ impl<'a, N: AreaName> Desk<'a, N> {
         let count = config.domains.len() + 1;
         let seats = List::from_vec(vec![in alloc; false; count]?);
         writer.begin(&config, &policy);
-        let core = Core::new(alloc, config, policy, writer)?;
+        let core = Core::new(alloc, config, policy, writer, outputs)?;
         Ok(Desk {
             core,
             seats,
@@ -94,59 +96,58 @@ impl<'a, N: AreaName> Desk<'a, N> {
         self.core.store_mut().hand_out(who)
     }
 
-    /// Takes the input of an entry, of the reader's client: what the documented step does. Its outputs take the place of the entry's,
-    /// which nobody needs any more.
+    /// Takes an input of the reader's client: what the documented step does, and tells its outputs.
     pub fn take(
         &mut self,
         reader: Reader,
-        entry: &mut Entry,
+        input: &Input,
+        outputs: &mut O,
     ) -> (Option<Reader>, Result<(), CoreStop>)
         requires area { reader.table ≡ N.area }
-        requires asker { reader.view.who ≡ asker_of entry.old.input }
-        requires declared { MayAsk reader.view.opening entry.old.input }
-        ensures entry { OnOk result.1 (entry.new ≡ next_entry self.old entry.old.input) }
-        ensures history { OnOk result.1 (self.new.history ≡ self.old.history ++ next_entry self.old entry.old.input ∷ []) }
+        requires asker { reader.view.who ≡ asker_of input.now }
+        requires declared { MayAsk reader.view.opening input.now }
+        ensures outputs { OnOk result.1 (O.Adds outputs.old outputs.new (next_entry self.old input.now).outputs) }
+        ensures history { OnOk result.1 (self.new.history ≡ self.old.history ++ next_entry self.old input.now ∷ []) }
         ensures opening { OnOk result.1 (self.new.opening ≡ self.old.opening) }
         ensures reader { OnOk result.1 (IsSomeAnd result.0
-            (λ back. ComesBackFrom self.old.history (next_entry self.old entry.old.input) reader back)) }
+            (λ back. ComesBackFrom self.old.history (next_entry self.old input.now) reader back)) }
         ensures seats { OnOk result.1 ((who : ℕ) → has_seat self.new.seat who ≡ has_seat self.old.seat who) }
         ensures ready { OnOk result.1 (self.new.spent ≡ false) }
         ensures spent { (result.1 ≡ Err stop.Spent) ↔ (self.old.spent ≡ true) }
         ensures unchanged { result.1 ≡ Err stop.Spent
-            → (self.new ≡ self.old) × (result.0 ≡ Some reader) × (entry.new ≡ entry.old) }
+            → (self.new ≡ self.old) × (result.0 ≡ Some reader) × (outputs.new ≡ outputs.old) }
         ensures no_memory { result.1 ≡ Err stop.NoMemory → self.new.spent ≡ true }
     {
         if self.spent {
             return (Some(reader), Err(CoreStop::Spent));
         }
-        match self.answer(reader, entry) {
+        match self.answer(reader, input, outputs) {
             Ok(reader) => (Some(reader), Ok(())),
             Err(NoMemory) => (None, Err(CoreStop::NoMemory)),
         }
     }
 
     /// `take`, while it isn't spent.
-    fn answer(&mut self, reader: Reader, entry: &mut Entry) -> Result<Reader, NoMemory>
+    fn answer(&mut self, reader: Reader, input: &Input, outputs: &mut O) -> Result<Reader, NoMemory>
         requires ready { self.old.spent ≡ false }
         requires area { reader.table ≡ N.area }
-        requires asker { reader.view.who ≡ asker_of entry.old.input }
-        requires declared { MayAsk reader.view.opening entry.old.input }
-        ensures entry { OnOk result (entry.new ≡ next_entry self.old entry.old.input) }
-        ensures history { OnOk result (self.new.history ≡ self.old.history ++ next_entry self.old entry.old.input ∷ []) }
+        requires asker { reader.view.who ≡ asker_of input.now }
+        requires declared { MayAsk reader.view.opening input.now }
+        ensures outputs { OnOk result (O.Adds outputs.old outputs.new (next_entry self.old input.now).outputs) }
+        ensures history { OnOk result (self.new.history ≡ self.old.history ++ next_entry self.old input.now ∷ []) }
         ensures opening { OnOk result (self.new.opening ≡ self.old.opening) }
-        ensures reader { IfOk result (λ back. ComesBackFrom self.old.history (next_entry self.old entry.old.input) reader back) }
+        ensures reader { IfOk result (λ back. ComesBackFrom self.old.history (next_entry self.old input.now) reader back) }
         ensures seats { OnOk result ((who : ℕ) → has_seat self.new.seat who ≡ has_seat self.old.seat who) }
         ensures ready { OnOk result (self.new.spent ≡ false) }
         ensures spent { OnErr result (self.new.spent ≡ true) }
     {
         self.spent = true;
         let who = self.core.store_mut().take_in(reader);
-        let Ok(()) = self.core.take(&entry.input) else {
+        let Ok(()) = self.core.take(input, outputs) else {
             return Err(NoMemory);
         };
-        self.core.swap_outputs(&mut entry.outputs);
         let writer = self.core.store_mut();
-        writer.note(entry);
+        writer.note::<Brand>(input);
         let reader = writer.hand_out(who)?;
         self.spent = false;
         Ok(reader)
@@ -205,13 +206,6 @@ impl<'a, N: AreaName> Desk<'a, N> {
                 (None, Err(CoreStop::NoMemory))
             }
         }
-    }
-
-    /// Gives outputs that nobody needs any more: those of the next entry take their memory.
-    pub(crate) fn reuse(&mut self, outputs: List<Output>)
-        ensures { self.new ≡ self.old }
-    {
-        self.core.reuse(outputs);
     }
 
     /// What holds of it, unless it is spent. It does nothing.

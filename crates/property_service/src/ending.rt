@@ -15,6 +15,7 @@ use crate::service::Service;
 use init_base::{ClientId, List};
 use init_core::Ended;
 use init_machine::{Entry, Pair};
+use outputs::Outputs;
 use prop_contexts::Policy;
 use property_area::{AreaWriter, Reader, WriterSeat};
 
@@ -46,7 +47,7 @@ pub enum FinishRefusal {
     Missing { who: ClientId },
 }
 
-impl<'a, N: AreaName> Desk<'a, N> {
+impl<'a, N: AreaName, O: Outputs> Desk<'a, N, O> {
     /// Takes all readers in and ends the desk. It takes no memory. After a refusal the desk and the readers are gone.
     ///
     /// `Spent` comes exactly where an earlier call answered `NoMemory`; else `Missing` exactly where a client that entered has no

@@ -1,6 +1,6 @@
 //! What a set needs: its texts, and memory for its outputs. It is made before the lock is taken, so that no client waits for that.
 
-ghost use Rattle.std.specs.Prelude.{◌≡◌, IfOk};
+ghost use Rattle.std.specs.Prelude.{◌≡◌, [], IfOk};
 
 use init_base::{List, NoMemory, Text};
 use init_machine::{Output, Pair};
@@ -19,7 +19,8 @@ pub(crate) struct Request {
 impl Request {
     /// The request to set a property.
     pub fn of(alloc: Global, name: &[u8], value: &[u8]) -> Result<Request, NoMemory>
-        ensures { IfOk result (λ request. (request.pair.name ≡ name.now) × (request.pair.value ≡ value.now)) }
+        ensures { IfOk result
+            (λ request. (request.pair.name ≡ name.now) × (request.pair.value ≡ value.now) × (request.outputs ≡ [])) }
     {
         let pair = Pair {
             name: Text::of(alloc, name)?,

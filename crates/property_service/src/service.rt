@@ -35,7 +35,7 @@ use std::marker::Model;
 #[derive(Drop)]
 pub struct Service<'a, N: AreaName> {
     pub(crate) alloc: Global,
-    pub(crate) desk: Desk<'a, N>,
+    pub(crate) desk: Desk<'a, N, List<Output>>,
     pub(crate) history: List<Entry>,
     pub(crate) spent: bool,
 }
@@ -67,7 +67,7 @@ impl<'a, N: AreaName> Service<'a, N> {
         ensures empty { IfOk result (λ service. (service.history ≡ []) × (service.seat.out ≡ [])) }
         ensures ready { IfOk result (λ service. service.spent ≡ false) }
     {
-        let desk = Desk::new(alloc, config, policy, writer)?;
+        let desk = Desk::new(alloc, config, policy, writer, List::new(alloc))?;
         Ok(Service {
             alloc,
             desk,
@@ -114,11 +114,17 @@ impl<'a, N: AreaName> Service<'a, N> {
         ensures unchanged { result.1 ≡ Err stop.Spent → (self.new ≡ self.old) × (result.0 ≡ Some reader) }
         ensures no_memory { result.1 ≡ Err stop.NoMemory → self.new.spent ≡ true }
     {
-        self.take(reader, input)
+        self.take(reader, input, List::new(self.alloc))
     }
 
-    /// Takes an input of the reader's client, and keeps its entry.
-    fn take(&mut self, reader: Reader, input: Input) -> (Option<Reader>, Result<(), CoreStop>)
+    /// Takes an input of the reader's client, and keeps its entry. Its outputs take the memory that is given.
+    fn take(
+        &mut self,
+        reader: Reader,
+        input: Input,
+        mut outputs: List<Output>,
+    ) -> (Option<Reader>, Result<(), CoreStop>)
+        requires empty { outputs ≡ [] }
         requires area { reader.table ≡ N.area }
         requires asker { reader.view.who ≡ asker_of input }
         requires declared { MayAsk reader.view.opening input }
@@ -136,14 +142,11 @@ impl<'a, N: AreaName> Service<'a, N> {
             return (Some(reader), Err(CoreStop::Spent));
         }
         self.spent = true;
-        let mut entry = Entry {
-            input,
-            outputs: List::new(self.alloc),
-        };
-        let (reader, taken) = self.desk.take(reader, &mut entry);
+        let (reader, taken) = self.desk.take(reader, &input, &mut outputs);
         let Ok(()) = taken else {
             return (reader, Err(CoreStop::NoMemory));
         };
+        let entry = Entry { input, outputs };
         if self.history.push(entry).is_err() {
             return (reader, Err(CoreStop::NoMemory));
         }
@@ -186,24 +189,19 @@ impl<'a, N: AreaName> Service<'a, N> {
         ensures unchanged { result.1 ≡ Err refusal.Spent → (self.new ≡ self.old) × (result.0 ≡ Some reader) }
         ensures no_memory { result.1 ≡ Err refusal.NoMemory → self.new.spent ≡ true }
     {
-        let Request { pair, outputs } = request;
-        self.give(outputs);
-        self.set_pair(reader, pair)
+        let Request { pair, mut outputs } = request;
+        outputs.truncate(0);
+        self.set_pair(reader, pair, outputs)
     }
 
-    /// Gives memory for the next outputs.
-    fn give(&mut self, outputs: List<Output>)
-        ensures { self.new ≡ self.old }
-    {
-        self.desk.reuse(outputs);
-    }
-
-    /// What `set` does, once the name and the value are texts.
+    /// What `set` does, once the name and the value are texts. The outputs take the memory that is given.
     fn set_pair(
         &mut self,
         reader: Reader,
         pair: Pair,
+        outputs: List<Output>,
     ) -> (Option<Reader>, Result<Accepted, SetRefusal>)
+        requires empty { outputs ≡ [] }
         requires area { reader.table ≡ N.area }
         requires client { DeclaredIn reader.view.opening reader.view.who }
         ensures set { has_entry result.1 ≡ true → HasSet self.old self.new reader result.0 pair.name pair.value result.1 }
@@ -219,7 +217,7 @@ impl<'a, N: AreaName> Service<'a, N> {
             name: pair.name,
             value: pair.value,
         };
-        let (reader, taken) = self.take(reader, input);
+        let (reader, taken) = self.take(reader, input, outputs);
         let Ok(()) = taken else {
             return (reader, Err(SetRefusal::NoMemory));
         };

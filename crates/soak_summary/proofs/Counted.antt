@@ -1,6 +1,5 @@
 -- What is counted entry by entry comes to the numbers of the history.
-use Rattle.std.proofs.Common.{◌≡◌, ℕ, ◌+◌, Bool, true, false, if◌then◌else◌, List, [], ◌∷◌, ◌++◌, length, sum_by, count_by, fold, append_assoc, length-append, refl, sym, ap, ◌∙◌, subst, arith}
-use Rattle.std.specs.List.{flat_map}
+use Rattle.std.proofs.Common.{◌≡◌, ℕ, ◌+◌, Bool, if◌then◌else◌, List, [], ◌∷◌, ◌++◌, length, count_by, length-append, refl, sym, ap, ◌∙◌, arith}
 use Rattle.std.proofs.lemmas.Grind.{common_steps}
 use Rattle.std.proofs.lemmas.List.Sums.{sum_by-cons}
 use Rattle.init_machine.specs.History.{set_in, sets_in, sets_of}
@@ -8,7 +7,7 @@ use Rattle.init_machine.specs.Props.{Props, with_set}
 use Rattle.init_machine.specs.Sets.{Set}
 use Rattle.init_machine.specs.declared.output.Output.{Output}
 use Rattle.init_machine.specs.declared.report.Entry.{Entry}
-use Rattle.soak_summary.specs.Counting.{fresh_props, is_event, is_spawn, outputs_in, put_all}
+use Rattle.soak_summary.specs.Counting.{is_event, is_spawn, outputs_in, put_all}
 use Rattle.soak_summary.specs.Counts.{Counts, counted_of, with_entries, with_entry, with_output, with_outputs}
 
 put_more : (p : Props) (first more : List Set) → put_all p (first ++ more) ≡ put_all (put_all p first) more

@@ -1,5 +1,5 @@
 -- What is counted of a history, entry by entry. No promise of the crate cites these definitions alone: `counted_of` is what they come to.
-use Rattle.std.specs.Prelude.{ℕ, ◌+◌, List, [], ◌∷◌, length, if◌then◌else◌}
+use Rattle.std.specs.Prelude.{◌≡◌, ℕ, ◌+◌, List, [], ◌∷◌, length, if◌then◌else◌}
 use Rattle.init_machine.specs.History.{set_in, sets_of}
 use Rattle.init_machine.specs.Props.{Props, used_in}
 use Rattle.init_machine.specs.declared.output.Output.{Output}
@@ -55,6 +55,10 @@ with_output c o = record {
 abbrev pub with_outputs : Counts → List Output → Counts
 with_outputs c [] = c
 with_outputs c (o ∷ outputs) = with_outputs (with_output c o) outputs
+
+-- these outputs were told to a counter
+abbrev pub IsCounted : Counts → Counts → List Output → Type 0
+IsCounted old new outputs = new ≡ with_outputs old outputs
 
 -- one entry more
 abbrev pub with_entry : Counts → Entry → Counts

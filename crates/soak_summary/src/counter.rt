@@ -1,19 +1,23 @@
 //! Counting a history, entry by entry.
 
 ghost use Rattle.std.specs.Prelude.{◌≡◌, ◌+◌, IfOk, OnOk, [], count_by};
+ghost use Rattle.init_machine.specs.Props.{with_set};
 ghost use Rattle.soak_summary.specs.Counting as spec;
-ghost use Rattle.soak_summary.specs.Counts.{counted_of, tally_with, with_entry, with_output, with_outputs};
+ghost use Rattle.soak_summary.specs.Counts.{counted_of, tally_with, with_output};
 
 use crate::store::{open_store, put_again};
 use crate::tally::Tally;
-use init_base::NoMemory;
-use init_machine::{ClientPart, Entry, ListStore, Output, PropStore, Reading};
+use init_base::{NoMemory, Pid, SharedList, Text};
+use init_machine::{ClientPart, How, ListStore, Output, PropStore, Reading, Word};
+use outputs::Outputs;
 use std::alloc::Global;
 use std::marker::Model;
 
-/// Counts the entries of a history, and puts its sets again into a plain store. To contracts it is what it has counted.
+/// Counts the entries of a history, whose outputs it is told, and puts its sets again into a plain store. To contracts it is what it
+/// has counted.
 #[derive(Drop)]
 pub struct Counter {
+    alloc: Global,
     entries: u64,
     puts: u64,
     spawns: u64,
@@ -35,6 +39,7 @@ impl Counter {
         ensures { IfOk result (λ counter. counter ≡ counted_of []) }
     {
         Ok(Counter {
+            alloc,
             entries: 0,
             puts: 0,
             spawns: 0,
@@ -43,37 +48,49 @@ impl Counter {
         })
     }
 
-    /// Counts one entry more.
-    pub fn add(&mut self, alloc: Global, entry: &Entry) -> Result<(), NoMemory>
-        ensures { OnOk result (self.new ≡ with_entry self.old entry.now) }
+    /// Counts one entry more, whose outputs are to be told.
+    pub fn begin_entry(&mut self) -> Result<(), NoMemory>
+        ensures { OnOk result (self.new ≡ record self.old { entries = self.old.entries + 1 }) }
     {
         self.entries = one_more(self.entries)?;
-        self.add_outputs(alloc, entry.outputs.items())
-    }
-
-    fn add_outputs(&mut self, alloc: Global, outputs: &[Output]) -> Result<(), NoMemory>
-        ensures { OnOk result (self.new ≡ with_outputs self.old outputs.now) }
-    {
-        for output in outputs {
-            self.add_output(alloc, output)?;
-        }
         Ok(())
     }
 
-    fn add_output(&mut self, alloc: Global, output: &Output) -> Result<(), NoMemory>
+    fn count_output(&mut self, output: &Output) -> Result<(), NoMemory>
         ensures { OnOk result (self.new ≡ with_output self.old output.now) }
     {
         match output {
-            Output::Put { name, value, .. } => {
-                put_again(alloc, &mut self.store, name.bytes(), value.bytes())?;
-                self.puts = one_more(self.puts)?;
-            }
-            Output::Spawn { .. } => self.spawns = one_more(self.spawns)?,
+            Output::Put { name, value, .. } => self.count_put(name, value),
+            Output::Spawn { .. } => self.count_spawn(),
             Output::Event { .. } | Output::Change { .. } | Output::AllProperties => {
-                self.events = one_more(self.events)?;
+                self.count_event()
             }
-            _ => (),
+            _ => Ok(()),
         }
+    }
+
+    fn count_event(&mut self) -> Result<(), NoMemory>
+        ensures { OnOk result (self.new ≡ record self.old { events = self.old.events + 1 }) }
+    {
+        self.events = one_more(self.events)?;
+        Ok(())
+    }
+
+    fn count_spawn(&mut self) -> Result<(), NoMemory>
+        ensures { OnOk result (self.new ≡ record self.old { spawns = self.old.spawns + 1 }) }
+    {
+        self.spawns = one_more(self.spawns)?;
+        Ok(())
+    }
+
+    fn count_put(&mut self, name: &Text, value: &Text) -> Result<(), NoMemory>
+        ensures { OnOk result (self.new ≡ record self.old {
+          puts = self.old.puts + 1;
+          props = with_set self.old.props name.now value.now;
+        }) }
+    {
+        put_again(self.alloc, &mut self.store, name.bytes(), value.bytes())?;
+        self.puts = one_more(self.puts)?;
         Ok(())
     }
 
@@ -89,6 +106,61 @@ impl Counter {
             found: found_in(clients)?,
             used: self.store.used(),
         })
+    }
+}
+
+impl Outputs for Counter {
+    ghost use Rattle.soak_summary.specs.Counts.{IsCounted};
+    ghost use Rattle.soak_summary.specs.Kept.Told.{told_joins};
+
+    ghost Adds = { IsCounted };
+
+    ghost joins = { told_joins };
+
+    fn push(&mut self, output: Output) -> Result<(), NoMemory> {
+        self.count_output(&output)
+    }
+
+    fn event(&mut self, _name: &Text) -> Result<(), NoMemory> {
+        self.count_event()
+    }
+
+    fn change(&mut self, _name: &Text, _value: &Text) -> Result<(), NoMemory> {
+        self.count_event()
+    }
+
+    fn action(&mut self, _file: &Text, _line: u32) -> Result<(), NoMemory> {
+        Ok(())
+    }
+
+    fn command(
+        &mut self,
+        _file: &Text,
+        _line: u32,
+        _word: Word,
+        _args: &SharedList<Text>,
+    ) -> Result<(), NoMemory> {
+        Ok(())
+    }
+
+    fn put(&mut self, _number: u64, name: &Text, value: &Text) -> Result<(), NoMemory> {
+        self.count_put(name, value)
+    }
+
+    fn stored(&mut self, _name: &Text) -> Result<(), NoMemory> {
+        Ok(())
+    }
+
+    fn spawn(&mut self, _pid: Pid, _name: &Text, _path: &Text) -> Result<(), NoMemory> {
+        self.count_spawn()
+    }
+
+    fn kill(&mut self, _pid: Pid, _name: &Text) -> Result<(), NoMemory> {
+        Ok(())
+    }
+
+    fn reap(&mut self, _pid: Pid, _name: &Text, _how: How) -> Result<(), NoMemory> {
+        Ok(())
     }
 }
 

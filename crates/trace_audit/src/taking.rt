@@ -19,7 +19,7 @@ use crate::told::{Gathered, Told};
 use crate::verdict::{Verdict, Why};
 use init_base::{List, NoMemory};
 use init_core::Core;
-use init_machine::{Config, Diagnostic, Entry, ListStore, Report};
+use init_machine::{Config, Diagnostic, Entry, ListStore, Output, Report};
 use prop_contexts::Policy;
 use script_lang::Script;
 use std::alloc::Global;
@@ -29,7 +29,9 @@ use std::mem;
 #[derive(Drop)]
 pub struct Audit {
     pub merge: Merge,
-    core: Core<ListStore>,
+    core: Core<ListStore, List<Output>>,
+    /// The outputs of the entry that was taken last.
+    outputs: List<Output>,
     /// The number of the first entry whose outputs aren't those of the machine.
     illegal: Option<u64>,
     /// What the entries tell, where some client may have read it.
@@ -52,6 +54,7 @@ impl Audit {
         Ok(Audit {
             merge: Merge::new(alloc, script)?,
             core: open(alloc, config, policy, script.words)?,
+            outputs: List::new(alloc),
             illegal: None,
             told: Gathered::new(alloc),
         })
@@ -72,7 +75,7 @@ impl Audit {
         if self.merge.strays.is_some() || self.illegal.is_some() {
             return Ok(());
         }
-        if !has_outputs(&mut self.core, entry)? {
+        if !has_outputs(&mut self.core, &mut self.outputs, entry)? {
             self.illegal = Some(self.merge.taken);
         }
         Ok(())

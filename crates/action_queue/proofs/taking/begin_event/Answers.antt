@@ -35,5 +35,5 @@ returns-clause-lines g c =
     let actions = c.args.triggers.now in
     let triggered = matches (value_in (g.S.PropStore.meaning c.args.store.now)) c.args.event in
     let is = c.in_ok-begin.ensures.begun ∙ ap (λ old. old ++ places_from 0 triggered actions) c.truncate.ensures in
-    begun_lines triggered actions c.args.pending.now.begun c.begin.new.begun (event_line c.args.event) c.args.outputs.now c.add_event_line.new.outputs c.add_action_lines.new.outputs is
+    begun_lines g.met.O.Outputs.joins triggered actions c.args.pending.now.begun c.begin.new.begun (event_line c.args.event) c.args.outputs.now c.add_event_line.new.outputs c.add_action_lines.new.outputs is
     c.in_ok-add_event_line.ensures c.in_ok-add_action_lines.ensures

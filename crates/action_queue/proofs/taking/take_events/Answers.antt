@@ -1,5 +1,4 @@
-use Rattle.std.proofs.Common.{◌<◌, ◌≤◌, ◌∷◌, ◌++◌, List, length, subst, sym, ap, ◌∙◌, arith}
-use Rattle.std.proofs.lemmas.List.{append-nil}
+use Rattle.std.proofs.Common.{◌<◌, ◌≤◌, ◌∷◌, List, length, subst, sym, ap, ◌∙◌, arith}
 use Rattle.init_machine.specs.Matches.{matches}
 use Rattle.init_machine.specs.declared.event.Event.{Event}
 use Rattle.action_queue.specs.Pending.{shown, running_of, mark_count}
@@ -20,7 +19,7 @@ loop-alloc-preserved g c =
     let idle = none_runs actions c.loop-alloc.pending.begun c.loop-alloc.pending.first c.loop-alloc.pending.command (grind (arith, c.loop-alloc-test.ensures.answer)) in
     let lone : mark_count (c.in-Some.event ∷ c.pop.new.self) ≤ 1 = subst (λ (events : List Event). mark_count events ≤ 1) c.in-Some.ensures i.kept.lone in
     let kept =
-    keeps (matches (value_in (g.S.PropStore.meaning c.args.store.now))) (matches (value_in (g.S.PropStore.meaning c.loop-alloc.store)))
+    keeps g.met.O.Outputs.joins (matches (value_in (g.S.PropStore.meaning c.args.store.now))) (matches (value_in (g.S.PropStore.meaning c.loop-alloc.store)))
     (shown actions c.args.pending.now) (shown actions c.loop-alloc.pending) (shown actions c.take_event.new.pending) c.in-Some.event c.pop.new.self
     c.args.outputs.now c.loop-alloc.outputs c.take_event.new.outputs
     (ap (λ props. matches (value_in props)) i.same) idle c.in-Some.ensures lone done.queue done.lines i.queue i.lines in
@@ -57,7 +56,8 @@ returns-in_default-clause-lines g c =
     let p = c.loop-alloc.pending in
     let idle = none_runs actions p.begun p.first p.command (grind (arith, c.loop-alloc-test.ensures.answer)) in
     let all = ends (matches (value_in (g.S.PropStore.meaning c.args.store.now))) (shown actions p) idle c.in_default.ensures.0 in
-    sym (append-nil c.loop-alloc.outputs) ∙ ap (λ lines. c.loop-alloc.outputs ++ lines) (sym all.1) ∙ c.loop-alloc.invariant.lines
+    c.loop-alloc.invariant.lines c.loop-alloc.outputs
+    (subst (g.O.Outputs.Adds c.loop-alloc.outputs c.loop-alloc.outputs) (sym all.1) (g.met.O.Outputs.joins.none c.loop-alloc.outputs))
 
 pub returns-clause-queue : goal.returns-clause-queue
 returns-clause-queue g c =
@@ -73,4 +73,5 @@ returns-clause-lines g c =
     let p = c.loop-alloc.pending in
     let runs : p.first < length p.begun = grind (arith, c.loop-alloc-test.ensures.answer) in
     let all = stands (matches (value_in (g.S.PropStore.meaning c.args.store.now))) (shown actions p) _ _ (some_runs actions p.begun p.first p.command runs) in
-    sym (append-nil c.loop-alloc.outputs) ∙ ap (λ lines. c.loop-alloc.outputs ++ lines) (sym all.1) ∙ c.loop-alloc.invariant.lines
+    c.loop-alloc.invariant.lines c.loop-alloc.outputs
+    (subst (g.O.Outputs.Adds c.loop-alloc.outputs c.loop-alloc.outputs) (sym all.1) (g.met.O.Outputs.joins.none c.loop-alloc.outputs))

@@ -1,4 +1,4 @@
-use Rattle.std.proofs.Common.{◌≡◌, ◌+◌, ◌++◌, length}
+use Rattle.std.proofs.Common.{◌≡◌, ◌+◌, length}
 use Rattle.action_queue.specs.Pending.{IsKept, shown, mark_count}
 use Rattle.action_queue.specs.Queue.{taken_in, with_taken}
 use Rattle.action_queue.proofs.taking.take_events.Given as goal
@@ -11,7 +11,7 @@ invariant-loop-alloc g l =
     record {
       kept : IsKept l.triggers l.pending;
       queue : with_taken now (taken_in props now) ≡ with_taken first (taken_in props first);
-      lines : l.outputs ++ (taken_in props now).lines ≡ l.initial.outputs ++ (taken_in props first).lines;
+      lines : (o : _) → g.O.Outputs.Adds l.outputs o (taken_in props now).lines → g.O.Outputs.Adds l.initial.outputs o (taken_in props first).lines;
       same : g.S.PropStore.meaning l.store ≡ props;
       told : g.S.PropStore.told l.store ≡ g.S.PropStore.told l.initial.store;
       spare : g.S.PropStore.spare l.store ≡ g.S.PropStore.spare l.initial.store;

@@ -14,4 +14,4 @@ returns-in_default-clause-ending g c =
 pub returns-in_default-clause-did : goal.returns-in_default-clause-did
 returns-in_default-clause-did g c =
     rw (illegal c.args.name c.args.value (state_of g.S.PropStore.meaning c.args.parts.now) (λ legal. false≢true (c.in_default.ensures.exact.1 (ap is_legal_name c.bytes.ensures ∙ legal))))
-    (does_nothing c.args.parts.now)
+    (does_nothing g.met.O.Outputs.joins c.args.parts.now)

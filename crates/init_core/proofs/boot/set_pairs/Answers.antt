@@ -11,7 +11,7 @@ loop-pair-preserved g c =
     let i = c.loop-pair.invariant in
     let left = front_is c.items-pair-items.result.now c.args.pairs.now c.loop-pair.pair-index c.pair-item.result c.items-pair-items.ensures c.loop-pair-test.true c.pair-item.is in
     record {
-      left = left_pairs c.args.pairs.now _ _ _ _ c.pair-item.result _ left i.left c.in_ok-set_pair.ensures.done;
+      left = left_pairs g.met.O.Outputs.joins c.args.pairs.now _ _ _ _ c.pair-item.result _ left i.left c.in_ok-set_pair.ensures.done;
       beside = g.met.S.PropStore.transitive _ _ _ i.beside c.in_ok-set_pair.ensures.beside;
     }
 
@@ -20,4 +20,4 @@ returns-clause-done g c =
     let now = c.loop-pair.parts in
     let none = none_left_of c.items-pair-items.result.now c.args.pairs.now c.loop-pair.pair-index c.items-pair-items.ensures c.loop-pair-test.false in
     c.loop-pair.invariant.left now
-    (subst (λ rest. Does g.S.PropStore.meaning g.S.PropStore.told now now (set_pairs (rules_of now) rest (state_of g.S.PropStore.meaning now))) (sym none) (does_nothing now))
+    (subst (λ rest. Does g.S.PropStore.meaning g.S.PropStore.told g.O.Outputs.Adds now now (set_pairs (rules_of now) rest (state_of g.S.PropStore.meaning now))) (sym none) (does_nothing g.met.O.Outputs.joins now))

@@ -9,5 +9,5 @@ returns-clause-done g c =
     let old = c.args.parts.now in
     let meaning = g.S.PropStore.meaning in
     on_ok_weaker c.ask.result
-    (subst (λ (domain : List ℕ). Does meaning g.S.PropStore.told old c.ask.new.parts (ask (rules_of old) domain c.args.name.now c.args.value.now (state_of meaning old))) c.domain_of.ensures)
+    (subst (λ (domain : List ℕ). Does meaning g.S.PropStore.told g.O.Outputs.Adds old c.ask.new.parts (ask (rules_of old) domain c.args.name.now c.args.value.now (state_of meaning old))) c.domain_of.ensures)
     c.ask.ensures.done

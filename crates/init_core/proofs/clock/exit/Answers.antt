@@ -9,7 +9,7 @@ returns-in-Some-clause-done g c =
     let old = c.args.parts.now in
     let exit = c.in-Some.ensures in
     on_ok_weaker c.reap.result
-    (exits old c.reap.new.parts c.exit.new.self c.in-Some.pid c.args.name.now c.args.status
+    (exits g.met.O.Outputs.joins old c.reap.new.parts c.exit.new.self c.in-Some.pid c.args.name.now c.args.status
     (exit.pid ∙ ap (λ (name : List ℕ). exiting old.kernel name) c.bytes.ensures) (exit.kernel ∙ ap (λ (name : List ℕ). exited old.kernel name) c.bytes.ensures))
     c.reap.ensures.done
 
@@ -18,6 +18,6 @@ returns-in-None-clause-done g c =
     let old = c.args.parts.now in
     let exit = c.in-None.ensures in
     on_ok_weaker c.push.result
-    (no_process old c.exit.new.self c.push.new.self c.args.name.now c.args.status
+    (no_process g.met.O.Outputs.joins old c.exit.new.self c.push.new.self c.args.name.now c.args.status
     (exit.pid ∙ ap (λ (name : List ℕ). exiting old.kernel name) c.bytes.ensures) (exit.kernel ∙ ap (λ (name : List ℕ). exited old.kernel name) c.bytes.ensures))
-    c.push.ensures.ok
+    c.push.ensures

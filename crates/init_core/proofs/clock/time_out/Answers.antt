@@ -12,5 +12,5 @@ returns-clause-done g c =
     let meaning = g.S.PropStore.meaning in
     let places = c.in_ok-places.ensures ∙ ap (λ (now : ℕ). places_timed_out old.services now) c.now.ensures.clock in
     on_ok_weaker c.operate_each.result
-    (subst (λ (at : List ℕ). Does meaning g.S.PropStore.told old c.operate_each.new.parts (operate_each (rules_of old) op.Timeout at (state_of meaning old))) places)
+    (subst (λ (at : List ℕ). Does meaning g.S.PropStore.told g.O.Outputs.Adds old c.operate_each.new.parts (operate_each (rules_of old) op.Timeout at (state_of meaning old))) places)
     c.operate_each.ensures.done

@@ -19,7 +19,7 @@ returns-in_default-clause-done g c =
     let old = c.args.parts.now in
     let next = c.in_ok-next.ensures in
     let none = none_next c.in_ok-next.next _ _ c.in_default.is next.next in
-    on_ok_weaker c.push.result (idles old c.next.new.self c.next.new.store c.next.new.outputs c.push.new.self next.schedule next.lines next.same next.told none) c.push.ensures.ok
+    on_ok_weaker c.push.result (idles g.met.O.Outputs.joins old c.next.new.self c.next.new.store c.next.new.outputs c.push.new.self next.schedule next.lines next.same next.told none) c.push.ensures
 
 pub returns-clause-done : goal.returns-clause-done
 returns-clause-done g c =
@@ -29,6 +29,6 @@ returns-clause-done g c =
     let placed = ap (λ (q : ScheduleView). command_at q.actions c.in-Some.place) next.schedule ∙ is.placed in
     let mid = record old { queue = c.next.new.self; store = c.next.new.store; outputs = c.next.new.outputs } in
     on_ok_weaker c.run.result
-    (runs_next old c.run.new.parts c.next.new.self c.next.new.store c.next.new.outputs is.command is.commands is.others next.schedule next.lines next.same next.told is.runs)
-    (runs_found g.S.PropStore.meaning g.S.PropStore.told mid c.run.new.parts c.run.result c.in_ok-command.command c.command.result.now is.command c.in_ok-command.ensures
+    (runs_next g.met.O.Outputs.joins old c.run.new.parts c.next.new.self c.next.new.store c.next.new.outputs is.command is.commands is.others next.schedule next.lines next.same next.told is.runs)
+    (runs_found g.S.PropStore.meaning g.S.PropStore.told g.met.O.Outputs.joins mid c.run.new.parts c.run.result c.in_ok-command.command c.command.result.now is.command c.in_ok-command.ensures
     (same_some _ _ is.command (sym c.command.ensures) placed) c.run.ensures.done)

@@ -6,5 +6,5 @@ returns-in_default-clause-done g c = λ command found. absurd (not_both _ comman
 
 pub returns-clause-done : goal.returns-clause-done
 returns-clause-done g c = λ command found.
-    runs_found g.S.PropStore.meaning g.S.PropStore.told c.args.parts.now c.run.new.parts c.run.result c.in_ok-command.command c.in-Some.command.now command c.in_ok-command.ensures
+    runs_found g.S.PropStore.meaning g.S.PropStore.told g.met.O.Outputs.joins c.args.parts.now c.run.new.parts c.run.result c.in_ok-command.command c.in-Some.command.now command c.in_ok-command.ensures
     (same_some _ _ command c.in-Some.ensures found) c.run.ensures.done

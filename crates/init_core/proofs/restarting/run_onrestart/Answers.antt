@@ -18,7 +18,7 @@ loop-place-preserved g c =
     let found = ap (λ (rules : Rules). slice_get (onrestart_of (slice_get rules.services c.args.at)) c.loop-place.place) i.rules ∙ f.is in
     let done = c.in_ok-run_at.ensures.done f.item found in
     record {
-      left = left_on effect commands _ _ _ _ f.item _ f.left i.left done (sym c.if-is_some.ensures);
+      left = left_on g.met.O.Outputs.joins effect commands _ _ _ _ f.item _ f.left i.left done (sym c.if-is_some.ensures);
       rules = done.rules ∙ i.rules;
       beside = g.met.S.PropStore.transitive _ _ _ i.beside c.in_ok-run_at.ensures.beside;
     }
@@ -29,7 +29,7 @@ returns-then-is_some-clause-done g c =
     let commands = onrestart_of (slice_get c.args.parts.now.services.defs c.args.at) in
     let f = front commands c.loop-place.place c.onrestart_count-place-end.result c.onrestart_count-place-end.ensures c.loop-place-test.true in
     let found = ap (λ (rules : Rules). slice_get (onrestart_of (slice_get rules.services c.args.at)) c.loop-place.place) i.rules ∙ f.is in
-    left_over effect commands _ _ _ _ f.item _ f.left i.left (c.in_ok-run_at.ensures.done f.item found) (sym c.if-is_some.ensures)
+    left_over g.met.O.Outputs.joins effect commands _ _ _ _ f.item _ f.left i.left (c.in_ok-run_at.ensures.done f.item found) (sym c.if-is_some.ensures)
 
 pub returns-clause-done : goal.returns-clause-done
 returns-clause-done g c =
@@ -37,4 +37,4 @@ returns-clause-done g c =
     let now = c.loop-place.parts in
     let none = none_left commands c.loop-place.place c.onrestart_count-place-end.result c.onrestart_count-place-end.ensures c.loop-place-test.false in
     c.loop-place.invariant.left now
-    (subst (λ rest. Does g.S.PropStore.meaning g.S.PropStore.told now now (each (effect (rules_of now)) rest (state_of g.S.PropStore.meaning now))) (sym none) (does_nothing now))
+    (subst (λ rest. Does g.S.PropStore.meaning g.S.PropStore.told g.O.Outputs.Adds now now (each (effect (rules_of now)) rest (state_of g.S.PropStore.meaning now))) (sym none) (does_nothing g.met.O.Outputs.joins now))

@@ -31,7 +31,7 @@ tell-requires-clause-domains g c =
 pub take_act-requires-clause-reached : goal.take_act-requires-clause-reached
 take_act-requires-clause-reached g c =
     let a = place_of (view_of c.args.traced.now) (g.K.Sink.taken c.args.out.now) (seen_by g.P.Keeper.held g.P.Keeper.TellsCrash g.P.Keeper.moment g.P.Keeper.MayLeave c.args.keeper.now) in
-    let told : TracedView = record { core = c.tell.new.core; printer = c.loop-act.traced.printer } in
+    let told : TracedView = record { core = c.tell.new.core; printer = c.loop-act.traced.printer.bytes } in
     let ok = c.in_ok-tell.ensures in
     let same = same_place (view_of c.loop-act.traced) told (g.K.Sink.taken c.loop-act.out) (seen_by g.P.Keeper.held g.P.Keeper.TellsCrash g.P.Keeper.moment g.P.Keeper.MayLeave c.loop-act.keeper) ok.same refl in
     let left = flat_map act_inputs (drop c.loop-act.act-index c.args.acts.now) in
@@ -49,7 +49,7 @@ pub returns-in_err-tell-clause-takes : goal.returns-in_err-tell-clause-takes
 returns-in_err-tell-clause-takes g c =
     let p = err_from_is_err_and c.from_residual.result c.from_residual.ensures.1 in
     let seen = seen_by g.P.Keeper.held g.P.Keeper.TellsCrash g.P.Keeper.moment g.P.Keeper.MayLeave in
-    let told : TracedView = record { core = c.tell.new.core; printer = c.loop-act.traced.printer } in
+    let told : TracedView = record { core = c.tell.new.core; printer = c.loop-act.traced.printer.bytes } in
     let here = place_of (view_of c.loop-act.traced) (g.K.Sink.taken c.loop-act.out) (seen c.loop-act.keeper) in
     rw (p.1, p.2)
     (going_ends (flat_map act_inputs c.args.acts.now) (flat_map act_inputs (drop c.loop-act.act-index c.args.acts.now))
@@ -60,7 +60,7 @@ pub returns-in_err-take_act-clause-takes : goal.returns-in_err-take_act-clause-t
 returns-in_err-take_act-clause-takes g c =
     let p = err_from_is_err_and c.from_residual-in_err-take_act.result c.from_residual-in_err-take_act.ensures.1 in
     let a = place_of (view_of c.args.traced.now) (g.K.Sink.taken c.args.out.now) (seen_by g.P.Keeper.held g.P.Keeper.TellsCrash g.P.Keeper.moment g.P.Keeper.MayLeave c.args.keeper.now) in
-    let told : TracedView = record { core = c.tell.new.core; printer = c.loop-act.traced.printer } in
+    let told : TracedView = record { core = c.tell.new.core; printer = c.loop-act.traced.printer.bytes } in
     let ok = c.in_ok-tell.ensures in
     let same = same_place (view_of c.loop-act.traced) told (g.K.Sink.taken c.loop-act.out) (seen_by g.P.Keeper.held g.P.Keeper.TellsCrash g.P.Keeper.moment g.P.Keeper.MayLeave c.loop-act.keeper) ok.same refl in
     let left = flat_map act_inputs (drop c.loop-act.act-index c.args.acts.now) in
@@ -73,7 +73,7 @@ returns-in_err-take_act-clause-takes g c =
 pub loop-act-preserved : goal.loop-act-preserved
 loop-act-preserved g c =
     let a = place_of (view_of c.args.traced.now) (g.K.Sink.taken c.args.out.now) (seen_by g.P.Keeper.held g.P.Keeper.TellsCrash g.P.Keeper.moment g.P.Keeper.MayLeave c.args.keeper.now) in
-    let told : TracedView = record { core = c.tell.new.core; printer = c.loop-act.traced.printer } in
+    let told : TracedView = record { core = c.tell.new.core; printer = c.loop-act.traced.printer.bytes } in
     let ok = c.in_ok-tell.ensures in
     let core = c.loop-act.traced.core in
     let takes = c.in_ok-take_act.ensures.takes in

@@ -1,4 +1,4 @@
-use Rattle.init_driver.proofs.Tallied.{counts_alone, counts_none, input_declared}
+use Rattle.init_driver.proofs.Tallied.{input_declared}
 use Rattle.init_driver.proofs.counting.count_act.Goals as goal
 
 pub count_input-requires : goal.count_input-requires

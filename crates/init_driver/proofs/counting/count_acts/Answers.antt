@@ -6,7 +6,7 @@ use Rattle.script_lang.specs.Inputs.{act_inputs}
 use Rattle.script_lang.specs.Laws.{IsAskAmong}
 use Rattle.init_driver.specs.Course.{told_from}
 use Rattle.init_driver.specs.Machine.{told_to}
-use Rattle.init_driver.proofs.Courses.{act_left, acts_left, after_same}
+use Rattle.init_driver.proofs.Courses.{act_left, acts_left}
 use Rattle.init_driver.proofs.Declared.{among_more}
 use Rattle.init_driver.proofs.Tallied.{counting_begins, counting_ends, counting_on, told_and_counted}
 use Rattle.init_driver.proofs.Told.{told_by_none, told_length, told_alike, told_on}

@@ -7,5 +7,5 @@ use Rattle.machine_parts.proofs.operations.kill_process.Goals as goal
 pub returns-clause-done : goal.returns-clause-done
 returns-clause-done g c =
     on_ok_weaker c.tell.result
-    (kills g.S.PropStore.meaning g.S.PropStore.told c.args.parts.now _ c.tell.new.parts c.kill.new.self _ c.args.pid c.args.name.now _ c.kill.ensures c.in_ok-share.ensures c.in_ok-push.ensures.ok refl)
+    (kills g.S.PropStore.meaning g.S.PropStore.told g.met.O.Outputs.joins c.args.parts.now _ c.tell.new.parts c.kill.new.self _ c.args.pid c.args.name.now _ c.kill.ensures refl c.in_ok-kill.ensures refl)
     c.tell.ensures.done

@@ -17,8 +17,8 @@ returns-in_default-clause-had_pid g c =
 pub returns-in_default-clause-done : goal.returns-in_default-clause-done
 returns-in_default-clause-done g c =
     let is = operates_none (rules_of c.args.parts.now) c.args.at c.args.op (state_of g.S.PropStore.meaning c.args.parts.now) c.in_default.ensures in
-    subst (λ (o : Operated). Does g.S.PropStore.meaning g.S.PropStore.told c.args.parts.now c.args.parts.now o.done) (sym is)
-    (does_nothing c.args.parts.now)
+    subst (λ (o : Operated). Does g.S.PropStore.meaning g.S.PropStore.told g.O.Outputs.Adds c.args.parts.now c.args.parts.now o.done) (sym is)
+    (does_nothing g.met.O.Outputs.joins c.args.parts.now)
 
 pub apply-requires : goal.apply-requires
 apply-requires g c = slice_get_within c.args.parts.now.services.defs c.args.at c.in-Some.service.now (sym c.in-Some.ensures)
@@ -43,6 +43,6 @@ returns-clause-done g c =
     c.in_ok-path.ensures c.in_ok-todo.ensures.services c.in_ok-todo.ensures.todo in
     on_ok_weaker c.follow.result
     (λ did.
-    does_from meaning told a (record a { services = c.apply.new.self }) c.follow.new.parts _ refl refl
+    does_from meaning told g.met.O.Outputs.joins a (record a { services = c.apply.new.self }) c.follow.new.parts _ refl refl
     (ap (λ (v : ServicesView). rules_of (record a { services = v })) c.in_ok-todo.ensures.services) refl
-    (subst (λ (o : Operated). Does meaning told (record a { services = c.apply.new.self }) c.follow.new.parts o.done) is did)) c.follow.ensures.done
+    (subst (λ (o : Operated). Does meaning told g.O.Outputs.Adds (record a { services = c.apply.new.self }) c.follow.new.parts o.done) is did)) c.follow.ensures.done

@@ -25,17 +25,17 @@ target_of (Some target) some = (target, refl)
 
 pub loop-at-init : goal.loop-at-init
 loop-at-init g c = record {
-  done = begins g.S.PropStore.meaning g.S.PropStore.told c.args.parts.now (rule_of (rules_of c.args.parts.now) c.args.op) c.args.places.now;
+  done = begins g.S.PropStore.meaning g.S.PropStore.told g.met.O.Outputs.joins c.args.parts.now (rule_of (rules_of c.args.parts.now) c.args.op) c.args.places.now;
   beside = search rules;
 }
 
 pub loop-at-preserved : goal.loop-at-preserved
 loop-at-preserved g c = record {
   done =
-      goes_on g.S.PropStore.meaning g.S.PropStore.told c.args.parts.now c.loop-at.parts c.operate.new.parts (rule_of (rules_of c.args.parts.now) c.args.op) c.args.places.now
+      goes_on g.S.PropStore.meaning g.S.PropStore.told g.met.O.Outputs.joins c.args.parts.now c.loop-at.parts c.operate.new.parts (rule_of (rules_of c.args.parts.now) c.args.op) c.args.places.now
       (drop c.loop-at.at-index c.args.places.now) (get_or c.items-at-items.result.now c.loop-at.at-index 0) (drop (c.loop-at.at-index + 1) c.args.places.now) c.loop-at.invariant.done
       (next_place c.args.places.now c.items-at-items.result.now c.loop-at.at-index c.items-at-items.ensures c.loop-at-test.true)
-      (by_rules g.S.PropStore.meaning g.S.PropStore.told c.args.parts.now c.loop-at.parts c.operate.new.parts c.args.op (get_or c.items-at-items.result.now c.loop-at.at-index 0)
+      (by_rules g.S.PropStore.meaning g.S.PropStore.told g.met.O.Outputs.joins c.args.parts.now c.loop-at.parts c.operate.new.parts c.args.op (get_or c.items-at-items.result.now c.loop-at.at-index 0)
       c.loop-at.invariant.done.does.rules c.in_ok-operate.ensures.done)
       (is_none c.operate.new.parts.over (sym c.is_some.ensures ∙ c.if-is_some.false));
   beside = search (rules, c.loop-at.invariant.beside, c.operate.ensures.beside);
@@ -44,15 +44,15 @@ loop-at-preserved g c = record {
 pub returns-then-is_some-clause-done : goal.returns-then-is_some-clause-done
 returns-then-is_some-clause-done g c =
     let over = target_of c.operate.new.parts.over (sym c.is_some.ensures ∙ c.if-is_some.true) in
-    whole g.S.PropStore.meaning g.S.PropStore.told c.args.parts.now c.operate.new.parts c.args.op c.args.places.now
-    (stops g.S.PropStore.meaning g.S.PropStore.told c.args.parts.now c.loop-at.parts c.operate.new.parts (rule_of (rules_of c.args.parts.now) c.args.op) c.args.places.now
+    whole g.S.PropStore.meaning g.S.PropStore.told g.met.O.Outputs.joins c.args.parts.now c.operate.new.parts c.args.op c.args.places.now
+    (stops g.S.PropStore.meaning g.S.PropStore.told g.met.O.Outputs.joins c.args.parts.now c.loop-at.parts c.operate.new.parts (rule_of (rules_of c.args.parts.now) c.args.op) c.args.places.now
     (drop c.loop-at.at-index c.args.places.now) (get_or c.items-at-items.result.now c.loop-at.at-index 0) (drop (c.loop-at.at-index + 1) c.args.places.now) over.0 c.loop-at.invariant.done
     (next_place c.args.places.now c.items-at-items.result.now c.loop-at.at-index c.items-at-items.ensures c.loop-at-test.true)
-    (by_rules g.S.PropStore.meaning g.S.PropStore.told c.args.parts.now c.loop-at.parts c.operate.new.parts c.args.op (get_or c.items-at-items.result.now c.loop-at.at-index 0)
+    (by_rules g.S.PropStore.meaning g.S.PropStore.told g.met.O.Outputs.joins c.args.parts.now c.loop-at.parts c.operate.new.parts c.args.op (get_or c.items-at-items.result.now c.loop-at.at-index 0)
     c.loop-at.invariant.done.does.rules c.in_ok-operate.ensures.done) over.1)
 
 pub returns-clause-done : goal.returns-clause-done
 returns-clause-done g c =
-    whole g.S.PropStore.meaning g.S.PropStore.told c.args.parts.now c.loop-at.parts c.args.op c.args.places.now
-    (ends g.S.PropStore.meaning g.S.PropStore.told c.args.parts.now c.loop-at.parts (rule_of (rules_of c.args.parts.now) c.args.op) c.args.places.now
+    whole g.S.PropStore.meaning g.S.PropStore.told g.met.O.Outputs.joins c.args.parts.now c.loop-at.parts c.args.op c.args.places.now
+    (ends g.S.PropStore.meaning g.S.PropStore.told g.met.O.Outputs.joins c.args.parts.now c.loop-at.parts (rule_of (rules_of c.args.parts.now) c.args.op) c.args.places.now
     (drop c.loop-at.at-index c.args.places.now) c.loop-at.invariant.done (no_place c.args.places.now c.items-at-items.result.now c.loop-at.at-index c.items-at-items.ensures c.loop-at-test.false))

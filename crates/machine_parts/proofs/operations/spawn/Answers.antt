@@ -19,8 +19,8 @@ returns-in_ok-tell-in-Ok-clause-done g c =
     let told = g.S.PropStore.told in
     let a = c.args.parts.now in
     let is = spawn_of_pid (rules_of a) (state_of meaning a) c.args.name.now c.args.path.now c.args.at (Ok c.in-Ok.pid) c.in-Ok.pid refl c.in-Ok.ensures.no_pid in
-    subst (λ (o : Operated). Does meaning told a c.tell.new.parts o.done) (sym is)
-    (spawns meaning told a c.enter_process.new.parts c.tell.new.parts c.spawn.new.self c.in-Ok.pid c.args.name.now c.args.path.now c.args.at
+    subst (λ (o : Operated). Does meaning told g.O.Outputs.Adds a c.tell.new.parts o.done) (sym is)
+    (spawns meaning told g.met.O.Outputs.joins a c.enter_process.new.parts c.tell.new.parts c.spawn.new.self c.in-Ok.pid c.args.name.now c.args.path.now c.args.at
     (c.in-Ok.ensures.ok ∙ ap (λ path. kernel_spawned a.kernel c.args.name.now path) c.bytes.ensures) c.in-Ok.ensures.pid
     c.in_ok-enter_process-in-Ok.ensures.done c.in_ok-tell-in-Ok.ensures.done)
 
@@ -38,6 +38,6 @@ returns-in_ok-tell-in-Err-NoPid-clause-done g c =
     let a = c.args.parts.now in
     let exact = rw c.in-Err-NoPid.field-0-is at c.in-Err-NoPid.ensures.no_pid in
     let is = spawn_without_pid (rules_of a) (state_of meaning a) c.args.name.now c.args.path.now c.args.at (Err refusal.NoPid) refl exact in
-    subst (λ (o : Operated). Does meaning told a c.tell-in-Err-NoPid.new.parts o.done) (sym is)
-    (unspawns meaning told a c.stop_unspawned.new.parts c.tell-in-Err-NoPid.new.parts c.spawn.new.self c.args.name.now c.args.at c.in-Err-NoPid.ensures.err
+    subst (λ (o : Operated). Does meaning told g.O.Outputs.Adds a c.tell-in-Err-NoPid.new.parts o.done) (sym is)
+    (unspawns meaning told g.met.O.Outputs.joins a c.stop_unspawned.new.parts c.tell-in-Err-NoPid.new.parts c.spawn.new.self c.args.name.now c.args.at c.in-Err-NoPid.ensures.err
     c.in_ok-stop_unspawned-in-Err-NoPid.ensures.done c.in_ok-tell-in-Err-NoPid.ensures.done)

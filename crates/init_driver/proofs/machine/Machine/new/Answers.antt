@@ -11,4 +11,4 @@ pub returns-clause-state : goal.returns-clause-state
 returns-clause-state g c =
     let ok = c.in_ok-desk.ensures in
     first_of c.open.result c.in_ok-desk.desk (opening_of c.args.config c.args.policy c.args.seat.view.words) c.open.ensures.desk c.open.ensures.fits
-    (ok.opening ∙ ap (λ (s : Seated). opening_of c.args.config c.args.policy s.view.words) c.new.ensures) ok.empty.0
+    (ok.opening ∙ ap (λ (s : Seated). opening_of c.args.config c.args.policy s.view.words) c.new-writer.ensures) ok.empty.0

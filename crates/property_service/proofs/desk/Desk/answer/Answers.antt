@@ -1,10 +1,8 @@
 use Rattle.std.proofs.Common.{◌≡◌, ◌++◌, ◌∷◌, [], false, Some, sym, ap, ◌∙◌, subst}
-use Rattle.init_core.specs.Core.{CoreView}
 use Rattle.init_machine.specs.State.{State}
-use Rattle.init_machine.specs.declared.report.Entry.{Entry}
 use Rattle.property_area.specs.Seats.{IsSameBeside, Seated, sets_in, store_of}
 use Rattle.property_area.specs.declared.view.AreaView.{AreaView}
-use Rattle.property_service.proofs.Moves.{Took, came_to, comes_back, entry_made, keeps_now, may_hand_out, may_note, props_back, shown_history, shown_seats, view_back, view_now}
+use Rattle.property_service.proofs.Moves.{Took, came_to, comes_back, keeps_now, may_hand_out, may_note, entry_noted, props_back, shown_history, shown_seats, told_lines, view_back, view_now}
 use Rattle.property_service.specs.Back.{ComesBackFrom}
 use Rattle.property_service.specs.Service.{ServiceView, has_seat, next_entry, recorded_service}
 use Rattle.property_service.proofs.desk.Desk.answer.Given as given
@@ -12,13 +10,13 @@ use Rattle.property_service.proofs.desk.Desk.answer.Goals.{After-store_mut-write
 use Rattle.property_service.proofs.desk.Desk.answer.Goals as goal
 
 took : (g : given.Over) (c : After-store_mut-writer g)
-    → Took g.N.AreaName.area c.self.inside.core c.self.inside.seats c.args.reader c.args.entry.now.input c.take_in-who.new.self c.store_mut-writer.result.now
+    → Took g.N.AreaName.area c.self.inside.core c.self.inside.seats c.args.reader c.args.input.now c.take_in-who.new.self c.store_mut-writer.result.now
 took g c =
     let core = c.self.inside.core in
     let first = c.take_in-who.new.self in
     let taken = c.take_in-who.ensures in
     let lent_is : c.take.new.self.store ≡ c.store_mut-writer.result.now =
-    sym (c.store_mut-writer.ensures.same ∙ ap (λ (x : CoreView Seated). x.store) c.swap_outputs.ensures.same) in
+    sym c.store_mut-writer.ensures.same in
     record {
       holds = c.self.invariant (ap (λ (s : ServiceView). s.spent) c.self.view_is ∙ c.requires.ready);
       asker = c.requires.asker;
@@ -30,8 +28,8 @@ took g c =
     }
 
 made : (g : given.Over) (c : After-store_mut-writer g)
-    → (let x : Entry = record { input = c.args.entry.now.input; outputs = c.swap_outputs.new.outputs } in x) ≡ next_entry (recorded_service c.self.inside.core.store.view false) c.args.entry.now.input
-made g c = entry_made (took g c) c.swap_outputs.new.outputs (c.swap_outputs.ensures.outputs ∙ c.in-Ok.ensures.outputs)
+    → next_entry (recorded_service c.store_mut-writer.result.now.view false) c.args.input.now ≡ next_entry (recorded_service c.self.inside.core.store.view false) c.args.input.now
+made g c = entry_noted (took g c)
 
 pub note-requires : goal.note-requires
 note-requires g c =
@@ -41,16 +39,19 @@ note-requires g c =
 pub hand_out-requires : goal.hand_out-requires
 hand_out-requires g c =
     let p = (goal.at.hand_out-requires g c).After-store_mut-writer in
-    record { client = may_hand_out (took g p) (record { input = c.args.entry.now.input; outputs = c.swap_outputs.new.outputs }) c.note.ensures.writer.1 c.take_in-who.ensures.client }
+    record { client = may_hand_out (took g p) (next_entry (recorded_service c.store_mut-writer.result.now.view false) c.args.input.now) c.note.ensures.writer.1 c.take_in-who.ensures.client }
 
-pub returns-clause-entry : goal.returns-clause-entry
-returns-clause-entry g c = made g (goal.at.returns-clause-entry g c).After-store_mut-writer ∙ ap (λ (t : ServiceView). next_entry t c.args.entry.now.input) c.self.view_is
+pub returns-clause-outputs : goal.returns-clause-outputs
+returns-clause-outputs g c =
+    let p = (goal.at.returns-clause-outputs g c).After-store_mut-writer in
+    subst (λ (t : ServiceView). g.O.Outputs.Adds c.args.outputs.now c.take.new.outputs (next_entry t c.args.input.now).outputs) c.self.view_is
+    (told_lines (took g p) g.O.Outputs.Adds c.args.outputs.now c.take.new.outputs c.in-Ok.ensures.outputs)
 
 pub returns-clause-history : goal.returns-clause-history
 returns-clause-history g c =
     let p = (goal.at.returns-clause-history g c).After-store_mut-writer in
     let now = view_now (took g p) (made g p) c.note.ensures.writer.1 c.take_in-who.ensures.client c.hand_out.ensures.writer.1 in
-    shown_history (took g p) c.hand_out.new.self.view now ∙ ap (λ (t : ServiceView). t.history ++ next_entry t c.args.entry.now.input ∷ []) c.self.view_is
+    shown_history (took g p) c.hand_out.new.self.view now ∙ ap (λ (t : ServiceView). t.history ++ next_entry t c.args.input.now ∷ []) c.self.view_is
 
 pub returns-clause-seats : goal.returns-clause-seats
 returns-clause-seats g c =
@@ -66,21 +67,19 @@ returns-clause-reader g c =
     let view = view_back t (made g p) c.note.ensures.writer.1 c.take_in-who.ensures.client c.in_ok-reader.ensures.reader.1 in
     let table : back.table ≡ c.args.reader.table =
     c.in_ok-reader.ensures.reader.0 ∙ c.note.ensures.writer.0.0 ∙ sym t.beside.0 ∙ t.came.same.0 ∙ t.holds.table ∙ sym c.requires.area in
-    subst (λ (s : ServiceView). ComesBackFrom s.history (next_entry s c.args.entry.now.input) c.args.reader back) c.self.view_is (comes_back t back table view)
+    subst (λ (s : ServiceView). ComesBackFrom s.history (next_entry s c.args.input.now) c.args.reader back) c.self.view_is (comes_back t back table view)
 
 pub invariant_of-self-2 : goal.invariant_of-self-2
 invariant_of-self-2 g c =
     let p = (goal.at.invariant_of-self-2 g c).After-store_mut-writer in
     let now = view_now (took g p) (made g p) c.note.ensures.writer.1 c.take_in-who.ensures.client c.hand_out.ensures.writer.1 in
-    let state = c.swap_outputs.new.self.state in
-    let outputs_taken = c.swap_outputs.ensures.same in
-    let took_state : state ≡ c.take.new.self.state = ap (λ (x : CoreView Seated). x.state) outputs_taken in
-    let props = ap (λ (t : State). t.props) (took_state ∙ c.in-Ok.ensures.state) in
+    let state = c.take.new.self.state in
+    let props = ap (λ (t : State). t.props) c.in-Ok.ensures.state in
     let same : store_of c.hand_out.new.self.view ≡ state.props = ap (λ (x : AreaView). store_of x) now ∙ c.store_mut-writer.ensures.props in
     λ _. keeps_now (took g p) _ now
     (c.hand_out.ensures.writer.0.0 ∙ c.note.ensures.writer.0.0)
-    (ap (λ (x : CoreView Seated). x.spent) outputs_taken ∙ c.in-Ok.ensures.ready)
-    (ap (λ (x : CoreView Seated). x.config) outputs_taken ∙ c.in-Ok.ensures.config)
-    (ap (λ (x : CoreView Seated). x.policy) outputs_taken ∙ c.in-Ok.ensures.policy)
-    (props_back state (store_of c.hand_out.new.self.view) same ∙ took_state ∙ c.in-Ok.ensures.state)
+    c.in-Ok.ensures.ready
+    c.in-Ok.ensures.config
+    c.in-Ok.ensures.policy
+    (props_back state (store_of c.hand_out.new.self.view) same ∙ c.in-Ok.ensures.state)
     (c.store_mut-writer.ensures.props ∙ props)

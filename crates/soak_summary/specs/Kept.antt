@@ -1,0 +1,2 @@
+-- What the counter keeps of the law of outputs. No contract cites it.
+pub mod Told
