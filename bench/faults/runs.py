@@ -81,6 +81,23 @@ class Runs:
         done = subprocess.run([self.program, *self.words], cwd=self.folder, env=env, capture_output=True)
         return done.returncode, done.stdout, self.stored()
 
+    def once_closed(self, handles):
+        """The status and the store of a run over the image that a run before made, which begins with these standard handles closed; no
+        store where the image is none any more."""
+        self.put_back()
+        call = {"args": [self.program, *self.words], "cwd": self.folder, "stdin": subprocess.DEVNULL, "stdout": subprocess.DEVNULL,
+                "stderr": subprocess.DEVNULL}
+        subprocess.run(**call)
+        done = subprocess.run(**call, preexec_fn=lambda: [os.close(it) for it in handles])
+        image = os.path.join(self.folder, STORE, "persist.img")
+        if not os.path.isfile(image):
+            return done.returncode, self.stored()
+        with open(image, "rb") as file:
+            try:
+                return done.returncode, text_of(file.fileno())
+            except BadImage:
+                return done.returncode, None
+
     def number(self, calls):
         """How many of these calls a run makes."""
         self.once(calls, 0, EIO)

@@ -215,7 +215,7 @@ impl<'a> Loader<'a> {
         let look = |name: &[u8], out: &mut Vec<u8>| {
             if let Some(value) = pairs.get(name)
                 && is_legal_name(name)
-                && is_legal_value(value)
+                && is_legal_value(name, value)
             {
                 out.extend_from_slice(value);
             }

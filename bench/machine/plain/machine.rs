@@ -6,7 +6,7 @@ use crate::policy::{Policy, Saved};
 use crate::rc::{Command, Config, Span, Word};
 use crate::stop::Stop;
 use crate::text::{
-    FastMap, FastSet, MAX_VALUE, Unexpanded, digits, expand, is_legal_name, split_at_byte,
+    FastMap, FastSet, MAX_VALUE, Unexpanded, digits, expand, is_legal_name, max_value, split_at_byte,
 };
 use crate::trace::Trace;
 use crate::tree::{Change, Tree};
@@ -409,9 +409,9 @@ impl<'a> Machine<'a> {
 
     // -- sets
 
-    /// The words that an absent name would add.
-    fn need(&self, name: &[u8]) -> u64 {
-        let mut need = 13;
+    /// The words that an absent name would add with a value of so many bytes.
+    fn need(&self, name: &[u8], len: usize) -> u64 {
+        let mut need = if len > MAX_VALUE { 2 + len.div_ceil(8) as u64 } else { 13 };
         let mut prefix = name;
         while !self.has_node(prefix) {
             let dot = prefix.iter().rposition(|it| *it == b'.');
@@ -448,7 +448,7 @@ impl<'a> Machine<'a> {
         if !judged.kind.admits(value) {
             return Err(Refusal::InvalidType);
         }
-        if value.len() > MAX_VALUE {
+        if value.len() > max_value(name) {
             return Err(Refusal::ValueTooLong(value.len() as u64));
         }
         if std::str::from_utf8(value).is_err() {
@@ -458,7 +458,7 @@ impl<'a> Machine<'a> {
         if number > 0 {
             return if name.starts_with(b"ro.") { Err(Refusal::ReadOnly(number)) } else { Ok(0) };
         }
-        let (used, need) = (self.area.used, self.need(name));
+        let (used, need) = (self.area.used, self.need(name, value.len()));
         if used + need > self.area.words { Err(Refusal::AreaFull(used, need)) } else { Ok(need) }
     }
 

@@ -258,7 +258,7 @@ fn pair_of<'a>(is_typed: bool, last: &[u8], line: &'a [u8]) -> Result<(&'a [u8],
         return Err("Order");
     }
     let kind = saved_kind(kind).ok_or("Kind")?;
-    let value = value_in(is_typed, word).filter(|it| is_legal_value(it) && kind.admits(it)).ok_or("Value")?;
+    let value = value_in(is_typed, word).filter(|it| is_legal_value(name, it) && kind.admits(it)).ok_or("Value")?;
     Ok((name, value))
 }
 

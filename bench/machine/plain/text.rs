@@ -140,10 +140,16 @@ pub fn is_legal_name(name: &[u8]) -> bool {
     !dot
 }
 
+/// The most bytes of a value in a short cell.
 pub const MAX_VALUE: usize = 91;
 
-pub fn is_legal_value(value: &[u8]) -> bool {
-    value.len() <= MAX_VALUE && std::str::from_utf8(value).is_ok()
+/// The most bytes of a value under the name: those of `ro.` properties may be long.
+pub fn max_value(name: &[u8]) -> usize {
+    if name.starts_with(b"ro.") { 8_191 } else { MAX_VALUE }
+}
+
+pub fn is_legal_value(name: &[u8], value: &[u8]) -> bool {
+    value.len() <= max_value(name) && std::str::from_utf8(value).is_ok()
 }
 
 #[inline]

@@ -74,12 +74,21 @@ module _ {S O : Type 0} {meaning : S → Props} {told : S → Option (List (List
   ends_so p waits outs ending is line =
       does_plain joins (ap (λ (w : Option Waiting). record (state_of meaning p) { waits = w }) is) line refl refl refl (ending_sets_none ending)
 
-  -- the line of a command was told, it ran, and its ending was told
-  pub runs_so : (p mid : Parts S O) (said outs : O) (waits : Option Waiting) (line : Output) (ending : Done) (r : Ran) → adds p.outputs said (line ∷ []) → sets_in (line ∷ []) ≡ []
-      → Does meaning told adds (record p { outputs = said }) mid r.did → ending ≡ r.ending → waits ≡ waiting_by ending mid.waits → adds mid.outputs outs (ending_line ending ∷ [])
-      → Does meaning told adds p (record mid { waits = waits; outputs = outs }) (behind (line ∷ []) (end_command r))
-  runs_so p mid said outs waits line ending r first none did is waits_is last =
-      let second = does_behind joins did (ends_so mid waits outs ending waits_is last) in
-      does_behind joins (does_plain joins {s = state_of meaning p} refl first refl refl refl none)
-      (subst (λ (d : Done). Does meaning told adds (record p { outputs = said }) (record mid { waits = waits; outputs = outs }) (behind r.did.lines (change (ended d r.did.state) (ending_line d ∷ [])))) is
-      (subst (λ (s : State). Does meaning told adds (record p { outputs = said }) (record mid { waits = waits; outputs = outs }) (behind r.did.lines (change (ended ending s) (ending_line ending ∷ [])))) did.state second))
+  -- what a command did was told, and its ending
+  pub ends_as : (p mid : Parts S O) (outs : O) (waits : Option Waiting) (ending : Done) (r : Ran) → Does meaning told adds p mid r.did → ending ≡ r.ending
+      → waits ≡ waiting_by ending mid.waits → adds mid.outputs outs (ending_line ending ∷ [])
+      → Does meaning told adds p (record mid { waits = waits; outputs = outs }) (end_command r)
+  ends_as p mid outs waits ending r did is waits_is last =
+      subst (λ (d : Done). Does meaning told adds p (record mid { waits = waits; outputs = outs }) (behind r.did.lines (change (ended d r.did.state) (ending_line d ∷ [])))) is
+      (subst (λ (s : State). Does meaning told adds p (record mid { waits = waits; outputs = outs }) (behind r.did.lines (change (ended ending s) (ending_line ending ∷ [])))) did.state
+      (does_behind joins did (ends_so mid waits outs ending waits_is last)))
+
+  -- a line that is no set was told, and then the rest was done
+  pub told_first : (p new : Parts S O) (said : O) (line : Output) (c : Change) → adds p.outputs said (line ∷ []) → sets_in (line ∷ []) ≡ []
+      → Does meaning told adds (record p { outputs = said }) new c → Does meaning told adds p new (behind (line ∷ []) c)
+  told_first p new said line c first none done = does_behind joins (does_plain joins {s = state_of meaning p} refl first refl refl refl none) done
+
+  -- a command whose arguments stand for themselves did what it does
+  pub runs_as_written : (p new : Parts S O) (c : Command) → expand_all (value_in (meaning p.store)) c.args ≡ Ok c.args
+      → Does meaning told adds p new (effect_by (rules_of p) c (Ok c.args) (state_of meaning p)) → Does meaning told adds p new (effect (rules_of p) c (state_of meaning p))
+  runs_as_written p new c is done = subst (λ (x : Change). Does meaning told adds p new x) (effect_shown (rules_of p) c c.args (Ok c.args) (state_of meaning p) refl is) done

@@ -57,7 +57,7 @@ fn expand_all<S: PropStore>(
 }
 
 /// Whether each argument is its own expansion.
-fn stand_for_themselves(args: &[Text]) -> bool
+pub fn stand_for_themselves(args: &[Text]) -> bool
     ensures { IsTrue result → (look_up : Items ℕ → Maybe (Items ℕ)) → effect_spec.expand_all look_up args.now ≡ Ok args.now }
 {
     for arg in args {

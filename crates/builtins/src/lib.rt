@@ -16,5 +16,5 @@ mod task;
 mod tree_calls;
 mod waits;
 
-pub use running::run;
+pub use running::{run, run_queued};
 pub use task::no_long_wait;

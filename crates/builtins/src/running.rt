@@ -1,15 +1,17 @@
 //! Running a command.
 
-ghost use Rattle.std.specs.Prelude.{◌≡◌, ◌++◌, ◌∷◌, [], Ok, Err, IfOk, OnOk};
+ghost use Rattle.std.specs.Prelude.{◌≡◌, ◌++◌, ◌∷◌, [], Ok, Err, IfOk, IfSome, IsSome, IsTrue, OnOk};
+ghost use Rattle.action_queue.specs.Queue.{command_at};
+ghost use Rattle.builtins.specs.Brief.{is_brief};
 ghost use Rattle.init_machine.specs.Effect.{effect, effect_by, command_line, ending_line, waiting_by};
 ghost use Rattle.init_machine.specs.Effect as spec;
 ghost use Rattle.machine_parts.specs.Parts.{Does, rules_of, state_of};
 
-use crate::expanding::expand_args;
+use crate::expanding::{expand_args, stand_for_themselves};
 use crate::performing::perform;
 use crate::task::task_of;
 use init_base::NoMemory;
-use init_machine::{Cause, Command, Done, Output, PropStore, Waiting};
+use init_machine::{Cause, Command, CommandRef, Done, Output, PropStore, Task, Waiting};
 use machine_parts::Parts;
 use outputs::Outputs;
 use std::alloc::Global;
@@ -39,6 +41,7 @@ fn wait_line(what: &Waiting) -> Result<Output, NoMemory>
 }
 
 /// The line behind a command, and what it waits for.
+#[inline(always)]
 fn end_command<O: Outputs>(
     ending: Done,
     waits: &mut Option<Waiting>,
@@ -48,7 +51,7 @@ fn end_command<O: Outputs>(
     ensures lines { OnOk result (O.Adds outputs.old outputs.new (ending_line ending ∷ [])) }
 {
     match ending {
-        Done::Ok => outputs.push(Output::Ok),
+        Done::Ok => outputs.ok(),
         Done::Failed(cause) => outputs.push(Output::Failed { cause }),
         Done::Wait(what) => {
             outputs.push(wait_line(&what)?)?;
@@ -58,7 +61,24 @@ fn end_command<O: Outputs>(
     }
 }
 
+/// Does what a task says, and tells how it ended.
+#[inline(always)]
+fn finish<S: PropStore, O: Outputs>(
+    alloc: Global,
+    parts: &mut Parts<S, O>,
+    task: Task,
+) -> Result<(), NoMemory>
+    requires { IsTrue (is_brief task) }
+    ensures done { OnOk result (Does S.meaning S.told O.Adds parts.old parts.new
+        (spec.end_command (spec.perform (rules_of parts.old) task (state_of S.meaning parts.old)))) }
+    ensures beside { S.Beside parts.old.store parts.new.store }
+{
+    let ending = perform(alloc, parts, task)?;
+    end_command(ending, &mut parts.waits, &mut parts.outputs)
+}
+
 /// Tells the line of a command whose arguments are expanded, does what it asks for, and tells how it ended.
+#[inline(never)]
 fn run_expanded<S: PropStore, O: Outputs>(
     alloc: Global,
     parts: &mut Parts<S, O>,
@@ -70,8 +90,7 @@ fn run_expanded<S: PropStore, O: Outputs>(
 {
     let task = task_of(command.word, command.args.items())?;
     add_line(&command, &mut parts.outputs)?;
-    let ending = perform(alloc, parts, task)?;
-    end_command(ending, &mut parts.waits, &mut parts.outputs)
+    finish(alloc, parts, task)
 }
 
 /// Tells the line of a command, and why its arguments could not be expanded.
@@ -102,4 +121,25 @@ pub fn run<S: PropStore, O: Outputs>(
         Ok(()) => run_expanded(alloc, parts, command),
         Err(why) => refuse(parts, command, why),
     }
+}
+
+/// Runs the command at a place of the actions. One whose arguments stand for themselves is only read.
+pub fn run_queued<S: PropStore, O: Outputs>(
+    alloc: Global,
+    parts: &mut Parts<S, O>,
+    place: CommandRef,
+) -> Result<(), NoMemory>
+    requires { IsSome (command_at parts.old.queue.actions place) }
+    ensures done { IfSome (command_at parts.old.queue.actions place) (λ command. OnOk result
+        (Does S.meaning S.told O.Adds parts.old parts.new (effect (rules_of parts.old) command (state_of S.meaning parts.old)))) }
+    ensures beside { S.Beside parts.old.store parts.new.store }
+{
+    let command = parts.queue.command(place);
+    if !stand_for_themselves(command.args.items()) {
+        let command = command.share()?;
+        return run(alloc, parts, command);
+    }
+    let task = task_of(command.word, command.args.items())?;
+    add_line(command, &mut parts.outputs)?;
+    finish(alloc, parts, task)
 }

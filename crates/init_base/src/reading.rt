@@ -4,8 +4,7 @@ ghost use Rattle.std.specs.Prelude.{◌≤◌, length, IfOk};
 ghost use Rattle.init_base.specs.Faults.{Counted, read_failed};
 ghost use Rattle.init_base.specs.Reading.{ReadsAll};
 
-use crate::memory::NoMemory;
-use crate::outside::refusal::{Failed, ReadRefusal};
+use crate::outside::refusal::ReadRefusal;
 use crate::outside::source::Source;
 use crate::text::Text;
 use std::alloc::Global;

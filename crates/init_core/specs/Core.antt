@@ -10,7 +10,8 @@ use Rattle.init_machine.specs.declared.input.Input.{Input}
 use Rattle.init_machine.specs.declared.input.Input.TheVariants as input
 use Rattle.machine_parts.specs.declared.parts.Parts.{Parts}
 
--- What the machine goes by, its state, its store of properties, and whether memory ran out at an input. The saved pairs of the configuration are in the state; no step reads those of the configuration.
+-- What the machine goes by, its state, its store of properties, and whether memory ran out at an input. The saved pairs of the
+-- configuration are in the state; no step reads those of the configuration.
 pub record CoreView (S : Type 0) : Type 0 where
   pub config : Config
   pub policy : PolicyLines

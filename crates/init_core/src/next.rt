@@ -4,7 +4,7 @@ ghost use Rattle.std.specs.Prelude.{◌≡◌, OnOk};
 ghost use Rattle.init_machine.specs.Step as spec;
 ghost use Rattle.machine_parts.specs.Parts.{Does, actions_of, rules_of, state_of};
 
-use builtins::run;
+use builtins::run_queued;
 use init_base::NoMemory;
 use init_machine::{Output, PropStore};
 use machine_parts::Parts;
@@ -23,11 +23,10 @@ fn take_and_run<S: PropStore, O: Outputs>(
     let next = parts
         .queue
         .next(alloc, &mut parts.store, &mut parts.outputs)?;
-    let Some(place) = next else {
-        return parts.outputs.push(Output::Idle);
-    };
-    let command = parts.queue.command(place).share()?;
-    run(alloc, parts, command)
+    match next {
+        Some(place) => run_queued(alloc, parts, place),
+        None => parts.outputs.push(Output::Idle),
+    }
 }
 
 /// One command runs, unless the machine waits.

@@ -16,7 +16,8 @@ use Rattle.property_area.specs.Seats.{Seated}
 use Rattle.property_service.specs.Record.{recorded}
 use Rattle.property_service.specs.Service.{ServiceView, state_after}
 
--- What it goes by, its state, the desk, and the readers: that of the main actor, and then those of the clients; and whether memory ran out at a call. The saved pairs of the configuration are in the state; no step reads those of the configuration.
+-- What it goes by, its state, the desk, and the readers: that of the main actor, and then those of the clients; and whether memory
+-- ran out at a call. The saved pairs of the configuration are in the state; no step reads those of the configuration.
 pub record MachineView : Type 0 where
   pub config : Config
   pub policy : PolicyLines

@@ -48,9 +48,9 @@ pub struct Setup {
 /// The answer is the seat of the area's writer. It has recorded the opening and the history of the report, and each client was told by
 /// the area what its part of the report has, each look-up behind a count of the sets that is its own number.
 ///
-/// `Keeper` comes only where the keeper's count of faults rose: then exactly the head and the entries before the one whose
-/// text the keeper was to take are written. `Write` comes only where the sink's count rose. After it, and after `NoMemory`, a
-/// front of the text is written.
+/// `Keeper` comes only where the keeper's count of faults rose: then exactly the head and the entries before one that stores a
+/// property are written; that the keeper refused its text is said where the keeper tells what a crash leaves. `Write` comes only
+/// where the sink's count rose. After it, and after `NoMemory`, a front of the text is written.
 ///
 /// At each refusal so many entries are written whole. The keeper then stands as at the last of them, or at the next entry:
 /// after `Write` it took each text up to there. Where it tells what a crash leaves, a crash now leaves the text that was given

@@ -1,6 +1,6 @@
 //! `race`: a script's clients on threads of their own, beside the main actor, over one service and its shared area.
 //!
-//! What a race writes is a report that the audit of traces answers Yes to (`Audited` of `trace_audit`): the history merges the
+//! What a race answers is a report that the audit of traces answers Yes to (`Audited` of `trace_audit`): the history merges the
 //! script's parts and is legal, and each client's readings answer its requests, stand, and are in order.
 #![tactic(auto)]
 

@@ -256,8 +256,8 @@ fn is_stored(output: &Output) -> bool
 /// Runs a script with its main actor and each client on a thread of its own, beside each other: takes the boot, and then
 /// whatever comes first of what the actors ask, each actor's inputs and requests in its own order.
 ///
-/// The report is one that the audit of traces answers Yes to. Behind all actors the keeper is given the text of the saved pairs
-/// once, where a property was stored. `Keeper` comes only where the keeper's count of faults rose.
+/// The report is one that the audit of traces answers Yes to. Behind all actors the keeper is given the text of the saved pairs,
+/// where a property was stored; how often, no clause says. `Keeper` comes only where the keeper's count of faults rose.
 pub fn race<R: Threads + Wait + Sync, P: Keeper, G: Gate>(
     rt: &R,
     alloc: Global,

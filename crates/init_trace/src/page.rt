@@ -1,5 +1,5 @@
-//! A page: lines that wait to be written. It is written whenever it is full, so it never holds much more than one
-//! line beside.
+//! A page: lines that wait to be written. It is written when it is full, behind a line or behind an entry that was told line by
+//! line, so it holds such an entry whole.
 
 ghost use Rattle.std.specs.Prelude.{◌≡◌, ◌≤◌, [], ◌++◌, OnOk, drop, length, map};
 ghost use Rattle.init_base.specs.Faults.{Counted, write_failed};

@@ -41,8 +41,17 @@ fn quoted_bytes(page: &mut Vec<u8>, bytes: &[u8]) -> Result<(), NoMemory>
     ensures { OnOk result (page.new.items ≡ page.old.items ++ flat_map spec.quoted_byte bytes.now) }
 {
     if are_plain(bytes) {
-        return put(page, bytes);
+        put(page, bytes)
+    } else {
+        quoted_runs(page, bytes)
     }
+}
+
+/// Adds bytes of which some aren't plain, run by run.
+#[inline(never)]
+fn quoted_runs(page: &mut Vec<u8>, bytes: &[u8]) -> Result<(), NoMemory>
+    ensures { OnOk result (page.new.items ≡ page.old.items ++ flat_map spec.quoted_byte bytes.now) }
+{
     let mut at = 0;
     while at < bytes.len() {
         at += quoted_run(page, &bytes[at..])?;

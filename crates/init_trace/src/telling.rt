@@ -9,7 +9,7 @@ ghost use Rattle.init_trace.specs.Waiting.{IsTold};
 use crate::field::{led_text, word_text, word_texts};
 use crate::line::{Line, add_action, add_command, add_process, add_put, add_reap, add_spawn};
 use crate::printer::Printer;
-use crate::quote::put_byte;
+use crate::quote::{put, put_byte};
 use init_base::{NoMemory, Pid, SharedList, Text};
 use init_machine::{How, Output, Word};
 use outputs::Outputs;
@@ -51,6 +51,10 @@ impl Outputs for Printer {
     ) -> Result<(), NoMemory> {
         add_command(&mut self.page, file, line, word, args)?;
         put_byte(&mut self.page, b'\n')
+    }
+
+    fn ok(&mut self) -> Result<(), NoMemory> {
+        put(&mut self.page, b" ok\n")
     }
 
     fn put(&mut self, number: u64, name: &Text, value: &Text) -> Result<(), NoMemory> {

@@ -12,6 +12,7 @@ mod help;
 mod noting;
 mod racing;
 mod soaking;
+mod standard;
 mod store;
 mod telling;
 mod top;
@@ -24,6 +25,7 @@ use init_base::{Fault, Keeper, List, NoMemory, Source, StdFiles, StdSink, StdSou
 use init_race::OpenGate;
 use job_reader::Status;
 use noting::Noting;
+use standard::hold_closed;
 use std::process::ExitCode;
 use std::sync::Wait;
 use std::thread::Threads;
@@ -169,6 +171,7 @@ fn fault_behind<'a>(
 }
 
 fn main(rt: HostRuntime) -> ExitCode {
+    let _held = hold_closed(&rt);
     let status = match run(&rt, &rt) {
         Ok(status) => status,
         Err(NoMemory) => {

@@ -16,8 +16,8 @@ pub fn known_findings_go()
         filter (is_new rows) (left rows findings) ≡ filter (is_new rows) findings }
 {}
 
-/// Bytes are read in one way: they are the baseline of one list of lines, or there is one first line that doesn't fit. The text of
-/// findings' baseline is that of its lines.
+/// Bytes are read in one way: they are the baseline of at most one list of lines, or there is at most one first line that doesn't fit,
+/// and never both. The text of findings' baseline is that of its lines.
 pub fn each_text_has_one_reading()
     ensures rows { (bytes : List ℕ) (rows others : List (List ℕ)) →
         IsBaseline bytes rows → IsBaseline bytes others → rows ≡ others }

@@ -29,6 +29,7 @@ pub fn is_control(name: &[u8]) -> bool
 }
 
 /// Whether the machine isn't over.
+#[inline(always)]
 pub fn check_up(over: &Option<Text>) -> Result<(), SetRefusal>
     ensures { IsAnswer result (down over.now) }
 {
@@ -55,6 +56,7 @@ pub fn check_domain(
 }
 
 /// The same, of a name whose context is known.
+#[inline(always)]
 fn check_context(policy: &Policy, by: Option<&Text>, context: &Context) -> Result<(), SetRefusal>
     ensures { (name : List ℕ) → context.now ≡ context_of policy.now name
         → IsAnswer result (denied policy.now (option_copied by.entry) name) }

@@ -28,6 +28,7 @@ fn is_persistent(name: &Text) -> bool
 }
 
 /// Queues a change of a property, where changes queue events.
+#[inline(always)]
 fn queue_change(queue: &mut Schedule, name: &Text, value: &Text) -> Result<(), NoMemory>
     ensures { OnOk result (queue.new
         ≡ record queue.old { events = queue.old.events ++ change_event queue.old.changes name.now value.now }) }
@@ -61,6 +62,7 @@ fn store_saved<O: Outputs>(
     outputs.stored(name)
 }
 
+#[inline(always)]
 fn is_awaited(waits: &Option<Waiting>, name: &Text, value: &Text) -> bool
     ensures { result ≡ awaits waits.now name.now value.now }
 {
@@ -71,6 +73,7 @@ fn is_awaited(waits: &Option<Waiting>, name: &Text, value: &Text) -> bool
 }
 
 /// A wait that ends is no more, and has a line.
+#[inline(always)]
 pub fn release<O: Outputs>(
     ends: bool,
     waits: &mut Option<Waiting>,

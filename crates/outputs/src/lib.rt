@@ -1,12 +1,11 @@
 //! `Outputs`: where the machine tells what it does, line by line.
 //!
-//! A list keeps the outputs that it is told. The page of a printer adds the text of each at once and keeps nothing else; so what
-//! others have too is told by reference, in a call for each kind of line, and is shared only where it is kept.
+//! A list keeps the outputs that it is told. The page of a printer adds the text of each at once and keeps nothing else; so the
+//! kinds of lines that are told often have a call each, by reference, and their texts are shared only where they are kept.
 #![tactic(auto)]
 
-ghost use Rattle.std.specs.Prelude.{◌∷◌, [], List as Items, OnOk};
-ghost use Rattle.init_machine.specs.declared.output.Output.{Output as OutputLem};
-ghost use Rattle.outputs.specs.Joins.{Joins};
+ghost use Rattle.std.specs.Prelude.{◌∷◌, [], OnOk};
+ghost use Rattle.outputs.specs.Joins.{Joins, Lines};
 
 use init_base::{List, NoMemory, Pid, SharedList, Text};
 use init_machine::{How, Output, Word};
@@ -14,7 +13,7 @@ use init_machine::{How, Output, Word};
 /// Where outputs are told.
 pub trait Outputs: Drop {
     /// What was told between two states, in order.
-    ghost Adds: { Self → Self → Items OutputLem → Type 0 };
+    ghost Adds: { Self → Self → Lines → Type 0 };
 
     /// Tells an output.
     fn push(&mut self, output: Output) -> Result<(), NoMemory>
@@ -65,6 +64,13 @@ pub trait Outputs: Drop {
             word,
             args: args.share()?,
         })
+    }
+
+    /// Tells that a command ended well.
+    fn ok(&mut self) -> Result<(), NoMemory>
+        ensures { OnOk result (Adds self.old self.new (Output.Ok ∷ [])) }
+    {
+        self.push(Output::Ok)
     }
 
     /// Tells an accepted set.

@@ -133,6 +133,7 @@ impl<'a> AreaWriter<'a> {
     /// Records an entry of this input: the log gets it, and the list of its client gets it as a request, with its answer, its place,
     /// and the counts of sets before and after it. Its outputs are named for proofs alone.
     pub fn note<Q: Recording>(&mut self, _input: &Input)
+        requires input { Q.entry.input ≡ _input.now }
         requires next { ComesNext self.old.view Q.entry × IsAnswered Q.entry }
         ensures writer { IsSameSeated self.old self.new × (self.new.view ≡ recording self.old.view Q.entry) }
     {

@@ -229,13 +229,6 @@ impl<'a, N: AreaName, O: Outputs> Desk<'a, N, O> {
         self.core.saved()
     }
 
-    /// Whether sets of persistent properties are saved.
-    pub fn saving(&self) -> bool
-        ensures { self.now.spent ≡ false → result ≡ (state_after self.now).saving }
-    {
-        self.core.saving()
-    }
-
     /// The policy by which sets are judged.
     pub fn policy(&self) -> &Policy
         ensures { self.now.spent ≡ false → result.now ≡ self.now.opening.policy }

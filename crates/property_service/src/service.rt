@@ -16,7 +16,7 @@ ghost use Rattle.property_area.specs.Seats.{sets_in};
 ghost use Rattle.property_service.specs.Back.{ComesBack, ComesBackFrom, has_entry};
 ghost use Rattle.property_service.specs.Record.{recorded};
 ghost use Rattle.property_service.specs.Service.{Agrees, DeclaredIn, IsNoSet, MayAsk, has_seat};
-ghost use Rattle.property_service.specs.Service.{last_outputs, next_entry, state_after};
+ghost use Rattle.property_service.specs.Service.{last_outputs, next_entry};
 ghost use Rattle.property_service.specs.Settings.{HasSet};
 
 use crate::answer::{Accepted, last_answer};
@@ -288,26 +288,5 @@ impl<'a, N: AreaName> Service<'a, N> {
         ensures { result ≡ self.now.spent }
     {
         self.spent
-    }
-
-    /// The properties to be saved.
-    pub fn saved(&self) -> &List<Pair>
-        ensures { self.now.spent ≡ false → result.now ≡ (state_after self.now).saved }
-    {
-        self.desk.saved()
-    }
-
-    /// Whether sets of persistent properties are saved.
-    pub fn saving(&self) -> bool
-        ensures { self.now.spent ≡ false → result ≡ (state_after self.now).saving }
-    {
-        self.desk.saving()
-    }
-
-    /// The policy by which sets are judged.
-    pub fn policy(&self) -> &Policy
-        ensures { self.now.spent ≡ false → result.now ≡ self.now.opening.policy }
-    {
-        self.desk.policy()
     }
 }

@@ -20,9 +20,9 @@ use std::alloc::Global;
 use std::hint::spin_loop;
 use std::sync::{Mutex, MutexGuard, Wait};
 
-/// How many pauses of the processor a client makes behind each look at a service that another has, before it sleeps. They double: a
-/// client that sets again and again keeps the service for some sets, so that what a set writes moves seldom from processor to
-/// processor; and all of them take longer than to sleep and to be woken.
+/// How many pauses of the processor a client makes behind each look at a lock that another client has. Behind the last it sleeps. To
+/// sleep and be woken takes less time than all of them, and more than the first few; and while others pause long, a client that sets
+/// again and again keeps the lock for some sets, so that the words that a set writes move seldom between processors.
 const PAUSES: [u32; 7] = [64, 128, 256, 512, 1_024, 2_048, 4_096];
 
 /// Makes so many pauses.
@@ -33,7 +33,8 @@ fn pause(count: u32) {
     }
 }
 
-/// A service that any number of threads may call. It serves the area that its last type parameter names.
+/// A service that any number of threads may call. It serves the area that its last type parameter names. What a call promises of the
+/// service itself isn't said through the lock, so `Spent`, as want of memory, may come at any call.
 #[derive(Drop)]
 pub struct Shared<'a, N: AreaName> {
     alloc: Global,
@@ -50,7 +51,7 @@ impl<'a, N: AreaName> Shared<'a, N> {
     }
 
     /// The service, once no other client has it.
-    fn enter<R: Wait>(&self, rt: &R) -> MutexGuard<'_, Service<'a, N>> {
+    fn locked<R: Wait>(&self, rt: &R) -> MutexGuard<'_, Service<'a, N>> {
         for pauses in PAUSES {
             if let Some(service) = self.lock.try_lock() {
                 return service;
@@ -75,8 +76,8 @@ impl<'a, N: AreaName> Shared<'a, N> {
         ensures unchanged { result.1 ≡ Err refusal.Spent → result.0 ≡ Some reader }
     {
         match Request::of(self.alloc, name, value) {
-            Ok(request) => self.enter(rt).set_request(reader, request),
-            Err(NoMemory) => self.enter(rt).run_out(reader),
+            Ok(request) => self.locked(rt).set_request(reader, request),
+            Err(NoMemory) => self.locked(rt).run_out(reader),
         }
     }
 
@@ -86,7 +87,7 @@ impl<'a, N: AreaName> Shared<'a, N> {
         ensures reader { IfOk result.1 (λ count. IsSomeAnd result.0 (λ back. ComesBack reader back (Told (Synced count)) count)) }
         ensures unchanged { result.1 ≡ Err stop.Spent → result.0 ≡ Some reader }
     {
-        self.enter(rt).sync(reader)
+        self.locked(rt).sync(reader)
     }
 
     /// `Service::input`, behind the lock.
@@ -101,7 +102,7 @@ impl<'a, N: AreaName> Shared<'a, N> {
         ensures reader { OnOk result.1 (IsSomeAnd result.0 (ComesBackWith input None reader)) }
         ensures unchanged { result.1 ≡ Err stop.Spent → result.0 ≡ Some reader }
     {
-        self.enter(rt).input(reader, input)
+        self.locked(rt).input(reader, input)
     }
 
     /// The service, which nobody shares any more.

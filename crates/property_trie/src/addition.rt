@@ -16,7 +16,7 @@ ghost use Rattle.property_trie.specs.Additions.{new_cell_word, new_cell, IsAddin
 
 use crate::lacking::Missing;
 use crate::part::node_size;
-use crate::rule::{Added, Sought, TrieRule};
+use crate::rule::{Added, TrieRule};
 use crate::stores::{fresh_word, interior_link, property_link};
 use crate::walk::part_len;
 use atomic_table::{Seat, Table};

@@ -6,7 +6,7 @@ ghost use Rattle.init_machine.specs.WellFormed.{IsWellFormed};
 ghost use Rattle.property_area.specs.Area.{begins};
 ghost use Rattle.race_bench.specs.Clients.{IsClient};
 
-use crate::clients::{Kind, Made, OWN, Stage, Task};
+use crate::clients::{Kind, Made, Stage, Task};
 use crate::seating::seat_clients;
 use init_base::{List, NoMemory, Text};
 use init_machine::Config;

@@ -247,26 +247,36 @@ fn promoted(alloc: Global, matches: &ArgMatches<'_>) -> Result<Promoted, WordsRe
         return Ok(Promoted::Nothing);
     }
     let mut kinds = List::new(alloc);
+    let mut has_all = false;
     for list in lists {
-        if list.as_bytes() == EVERY_KIND.as_bytes() {
-            return Ok(Promoted::All);
-        }
-        add_kinds(alloc, &mut kinds, list.as_bytes())?;
+        has_all = add_kinds(alloc, &mut kinds, list.as_bytes())? || has_all;
     }
-    Ok(Promoted::Kinds(kinds))
+    Ok(if has_all {
+        Promoted::All
+    } else {
+        Promoted::Kinds(kinds)
+    })
 }
 
-/// Adds the kinds of a list, whose names are parted by commas.
-fn add_kinds(alloc: Global, kinds: &mut List<About>, list: &[u8]) -> Result<(), WordsRefusal> {
+/// Adds the kinds of a list, whose names are parted by commas. Answers whether the word for all kinds is among them.
+fn add_kinds(alloc: Global, kinds: &mut List<About>, list: &[u8]) -> Result<bool, WordsRefusal> {
+    let mut has_all = false;
     for name in list.split(|byte| *byte == b',') {
-        match about_of(name) {
-            Some(About::Error(_)) | None => {
-                return Err(WordsRefusal::UnknownKind(Text::of(alloc, name)?));
-            }
-            Some(kind) => kinds.push(kind)?,
+        if name == EVERY_KIND.as_bytes() {
+            has_all = true;
+        } else {
+            kinds.push(kind_of(alloc, name)?)?;
         }
     }
-    Ok(())
+    Ok(has_all)
+}
+
+/// A kind that can be told as an error.
+fn kind_of(alloc: Global, name: &[u8]) -> Result<About, WordsRefusal> {
+    match about_of(name) {
+        Some(About::Error(_)) | None => Err(WordsRefusal::UnknownKind(Text::of(alloc, name)?)),
+        Some(kind) => Ok(kind),
+    }
 }
 
 /// The words that are allowed.

@@ -12,7 +12,7 @@ ghost use Rattle.rc_lint.specs.Told.{IsTold, Told};
 use crate::message::Teller;
 use crate::request::Request;
 use crate::source::{Source, Sources};
-use init_base::{Files, List, NoMemory, Text};
+use init_base::{Files, List, NoMemory};
 use init_machine::Diagnostic;
 use lint_findings::{About, Finding, WarningKind};
 use rc_import::LoadRefusal;

@@ -28,7 +28,9 @@ use request::Request;
 use status::Status;
 use std::fs;
 use std::process::ExitCode;
-use telling::{tell, tell_baseline, tell_no_file, tell_unknown_format, tell_unknown_kind};
+use telling::{
+    print_told, tell, tell_baseline, tell_no_file, tell_unknown_format, tell_unknown_kind,
+};
 use top::{keep_known, lint};
 use watched::Watched;
 
@@ -138,7 +140,7 @@ fn answer_asked(rt: &HostRuntime, asked: &mut Asked) -> Result<u8, NoMemory> {
 fn answer(rt: &HostRuntime, refusal: WordsRefusal) -> Result<u8, NoMemory> {
     match refusal {
         WordsRefusal::Told(error) => {
-            let is_told = error.print(rt).is_ok();
+            let is_told = print_told(rt, &error);
             Ok(if is_told && !error.use_stderr() {
                 0
             } else {

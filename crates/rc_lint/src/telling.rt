@@ -1,7 +1,7 @@
 //! What is printed to standard error.
 
 use crate::status::Status;
-use init_base::{Fault, Text};
+use init_base::{Fault, NoMemory, Text};
 use lint_baseline::BaselineRefusal;
 use rc_import::LoadRefusal;
 use std::string::String;
@@ -36,10 +36,34 @@ fn tell_refusal(rt: &HostRuntime, refusal: &LoadRefusal, fault: Option<&Fault>) 
     }
 }
 
+/// What the reader of words has to say, or that it couldn't be written. Answers whether it was.
+pub fn print_told(rt: &HostRuntime, told: &clap::Error) -> bool {
+    match told.print(rt) {
+        Ok(()) => true,
+        Err(error) => {
+            let _ = tell_unwritten(rt, error);
+            false
+        }
+    }
+}
+
+/// That standard output couldn't be written, and what the system said.
+fn tell_unwritten(rt: &HostRuntime, error: io::Error) -> io::Result<()> {
+    eprintln!(rt; "rc-lint: write fault")?;
+    match Text::of(rt.alloc(), b"standard output") {
+        Ok(path) => tell_fault(rt, Some(&Fault { path, error })),
+        Err(NoMemory) => Ok(()),
+    }
+}
+
 /// A kind that can't be told as an error, and those that can.
 pub fn tell_unknown_kind(rt: &HostRuntime, name: &Text) -> io::Result<()> {
-    let name = String::from_utf8_lossy(rt.alloc(), name.bytes())?;
-    eprintln!(rt; "rc-lint: --werror: no kind of a warning or a hint: {name}")?;
+    if name.is_empty() {
+        eprintln!(rt; "rc-lint: --werror: a kind is empty")?;
+    } else {
+        let name = String::from_utf8_lossy(rt.alloc(), name.bytes())?;
+        eprintln!(rt; "rc-lint: --werror: no kind of a warning or a hint: {name}")?;
+    }
     eprintln!(rt;
         "rc-lint: the kinds are all, NotModelled, NoService, NoClass, UnheardEvent, UnsentEvent, ByteOrderMark, SpannedLines and CapitalHeader"
     )

@@ -4,7 +4,6 @@ ghost use Rattle.std.specs.Prelude.{◌≡◌, ◌≤◌, ◌+◌, IfOk, length,
 ghost use Rattle.std.specs.Io.{ReadsAtMost};
 
 use crate::memory::NoMemory;
-use crate::outside::refusal::{IoRefusal, ReadRefusal};
 use crate::text::Text;
 use std::alloc::{AllocError, Global};
 use std::fs;

@@ -1,4 +1,4 @@
-use Rattle.std.proofs.Common.{◌≡◌, ◌++◌, ◌∷◌, [], false, Some, sym, ap, ◌∙◌, subst}
+use Rattle.std.proofs.Common.{◌≡◌, ◌++◌, ◌∷◌, [], false, Some, refl, sym, ap, ◌∙◌, subst}
 use Rattle.init_machine.specs.State.{State}
 use Rattle.property_area.specs.Seats.{IsSameBeside, Seated, sets_in, store_of}
 use Rattle.property_area.specs.declared.view.AreaView.{AreaView}
@@ -34,7 +34,7 @@ made g c = entry_noted (took g c)
 pub note-requires : goal.note-requires
 note-requires g c =
     let p = (goal.at.note-requires g c).After-store_mut-writer in
-    record { next = may_note (took g p) _ (made g p) }
+    record { input = refl; next = may_note (took g p) _ (made g p) }
 
 pub hand_out-requires : goal.hand_out-requires
 hand_out-requires g c =

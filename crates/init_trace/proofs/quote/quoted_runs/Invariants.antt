@@ -1,7 +1,7 @@
 use Rattle.std.proofs.Common.{◌≡◌, ◌++◌, ◌-◌, ◌≤◌, drop, length}
 use Rattle.std.specs.List.{flat_map}
 use Rattle.init_trace.specs.Quoted.{quoted_byte}
-use Rattle.init_trace.proofs.quote.quoted_bytes.Given as goal
+use Rattle.init_trace.proofs.quote.quoted_runs.Given as goal
 
 -- what is left decides
 abbrev pub invariant-loop-at : goal.invariant-loop-at
