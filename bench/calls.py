@@ -7,6 +7,12 @@ import sys
 import time
 
 
+def programs(name):
+    """The words that begin a call of the proved program, whose first word chooses, and of the plain one."""
+    proved, plain = sys.argv[1:3]
+    return (proved, name), (plain,)
+
+
 def start(words):
     try:
         return subprocess.Popen(words, stdout=subprocess.PIPE)

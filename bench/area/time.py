@@ -7,7 +7,7 @@ import statistics
 import sys
 
 sys.path.insert(0, os.path.dirname(os.path.dirname(os.path.abspath(__file__))))
-from calls import run, run_beside, seconds_of_one
+from calls import programs, run, run_beside, seconds_of_one
 
 FEW, MANY = 100_000, 1_600_000
 ROUNDS = 5
@@ -19,7 +19,7 @@ MAPS = {kind: kind.replace("read", "map").replace("absent", "map_absent") for ki
 
 def nanoseconds(program, kind, names):
     timed = run_beside if kind.endswith("_beside") else run
-    return seconds_of_one([program, kind, str(names)], FEW, MANY, lambda count: b"%d\n" % count, timed) * 1e9
+    return seconds_of_one([*program, kind, str(names)], FEW, MANY, lambda count: b"%d\n" % count, timed) * 1e9
 
 
 def medians(timed, names):
@@ -45,7 +45,7 @@ def print_checks(proved, plain, names):
 
 
 def main():
-    proved, plain = sys.argv[1:]
+    proved, plain = programs("area")
     print_checks(proved, plain, LONG_NAMES)
     for names in (1_000, 30_000):
         timed = [(program, kind) for kind in ("name", *READS, "put") for program in (proved, plain)]

@@ -5,17 +5,17 @@ import statistics
 import sys
 
 sys.path.insert(0, os.path.dirname(os.path.dirname(os.path.abspath(__file__))))
-from calls import seconds_of_one
+from calls import programs, seconds_of_one
 
 FEW, MANY = 1_000_000, 11_000_000
 
 
 def nanoseconds(program, kind):
-    return seconds_of_one([program, kind], FEW, MANY, lambda count: b"%d\n" % count) * 1e9
+    return seconds_of_one([*program, kind], FEW, MANY, lambda count: b"%d\n" % count) * 1e9
 
 
 def main():
-    proved, plain = sys.argv[1:]
+    proved, plain = programs("cell")
     for kind in ("read", "write"):
         rounds = [(nanoseconds(proved, kind), nanoseconds(plain, kind)) for _ in range(9)]
         a, b = (statistics.median(times) for times in zip(*rounds))

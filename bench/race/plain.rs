@@ -1,6 +1,6 @@
 // Clients on threads in plain Rust, for comparison: a lock round a small sequential machine, which judges a set, puts it into the
 // words of an area and keeps a history, and readers over the words without a lock. `plain sets|reads|mixed|beside CLIENTS N` as
-// `race_bench` has it; `plain map_sets|map_reads|map_mixed|map_beside CLIENTS N`, over a hash map, with the machine and the map
+// `benches race` has it; `plain map_sets|map_reads|map_mixed|map_beside CLIENTS N`, over a hash map, with the machine and the map
 // behind one lock for reading and writing.
 mod area;
 mod machine;

@@ -6,7 +6,7 @@ import statistics
 import sys
 
 sys.path.insert(0, os.path.dirname(os.path.dirname(os.path.abspath(__file__))))
-from calls import run_elapsed, seconds_of_one
+from calls import programs, run_elapsed, seconds_of_one
 
 ROUNDS = 7
 # How many calls all clients make together, in the short run and in the long one.
@@ -18,7 +18,7 @@ READERS = (1, 2, 4)
 def nanoseconds(program, kind, of, clients):
     few, many = (calls // clients for calls in CALLS[of])
     wanted = lambda count: b"%d\n" % (count * clients)
-    return seconds_of_one([program, kind, str(clients)], few, many, wanted, run_elapsed) / clients * 1e9
+    return seconds_of_one([*program, kind, str(clients)], few, many, wanted, run_elapsed) / clients * 1e9
 
 
 def medians(timed, of, clients):
@@ -27,7 +27,7 @@ def medians(timed, of, clients):
 
 
 def main():
-    proved, plain = sys.argv[1:]
+    proved, plain = programs("race")
     for of in CALLS:
         timed = [(proved, of), (plain, of), (plain, f"map_{of}")]
         for clients in READERS if of == "beside" else CLIENTS:

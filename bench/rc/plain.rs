@@ -1,4 +1,4 @@
-//! The reading of rc_bench in plain Rust: the same lines of the same words, as vectors of vectors of bytes.
+//! The reading of `benches rc` in plain Rust: the same lines of the same words, as vectors of vectors of bytes.
 use std::mem::take;
 
 const BYTES: usize = 1_048_576;

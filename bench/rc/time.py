@@ -5,7 +5,7 @@ import statistics
 import sys
 
 sys.path.insert(0, os.path.dirname(os.path.dirname(os.path.abspath(__file__))))
-from calls import seconds_of_one
+from calls import programs, seconds_of_one
 
 FEW, MANY = 2, 12
 # The lines and the diagnostics of each shape. A line outside a section is a diagnostic; the text of `line` ends within quotes,
@@ -21,11 +21,11 @@ SHAPES = {
 
 
 def milliseconds(program, mode, shape, found):
-    return seconds_of_one([program, mode, shape], FEW, MANY, lambda _: b"%d\n" % found) * 1e3
+    return seconds_of_one([*program, mode, shape], FEW, MANY, lambda _: b"%d\n" % found) * 1e3
 
 
 def main():
-    proved, plain = sys.argv[1:]
+    proved, plain = programs("rc")
     for shape, (lines, diagnostics) in SHAPES.items():
         rounds = [
             (

@@ -5,7 +5,7 @@ import sys
 import time
 
 sys.path.insert(0, os.path.dirname(os.path.dirname(os.path.abspath(__file__))))
-from calls import end, seconds_of_one, start
+from calls import end, programs, seconds_of_one, start
 
 # the bytes of a text
 SIZES = (1 << 10, 64 << 10, 1 << 20, 16 << 20)
@@ -26,19 +26,20 @@ def elapsed(words):
 
 
 def milliseconds(program, image, size, few, many):
-    return seconds_of_one([program, image, str(size)], few, many, lambda times: b"%d\n" % times, elapsed) * 1e3
+    return seconds_of_one([*program, image, str(size)], few, many, lambda times: b"%d\n" % times, elapsed) * 1e3
 
 
 def many_of(program, image, size):
     """How many replaces take long enough to be timed."""
     many = 12
-    while many < 1 << 18 and min(elapsed([program, image, str(size), str(many)])[0] for _ in range(3)) < SECONDS:
+    while many < 1 << 18 and min(elapsed([*program, image, str(size), str(many)])[0] for _ in range(3)) < SECONDS:
         many *= 4
     return many
 
 
 def main():
-    proved, plain, folder = sys.argv[1:]
+    proved, plain = programs("store")
+    folder = sys.argv[3]
     for size in SIZES:
         images = [os.path.join(folder, f"{name}.{size}") for name in ("proved", "plain")]
         many = many_of(plain, images[1], size)

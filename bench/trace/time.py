@@ -5,7 +5,7 @@ import statistics
 import sys
 
 sys.path.insert(0, os.path.dirname(os.path.dirname(os.path.abspath(__file__))))
-from calls import seconds_of_one
+from calls import programs, seconds_of_one
 
 FEW, MANY = 1, 4
 # the bytes of an entry of each shape
@@ -15,11 +15,11 @@ SIZES = (1 << 20, 4 << 20, 16 << 20)
 
 def milliseconds(program, shape, size):
     found = b"%d\n" % (size // SHAPES[shape])
-    return seconds_of_one([program, shape, str(size)], FEW, MANY, lambda _: found) * 1e3
+    return seconds_of_one([*program, shape, str(size)], FEW, MANY, lambda _: found) * 1e3
 
 
 def main():
-    proved, plain = sys.argv[1:]
+    proved, plain = programs("trace")
     for shape in SHAPES:
         for size in SIZES:
             rounds = [(milliseconds(proved, shape, size), milliseconds(plain, shape, size)) for _ in range(7)]

@@ -2,5 +2,5 @@ pub mod ByName
 pub mod Index
 pub mod Pending
 pub mod Queue
-pub mod Tests
 pub mod Triggers
+pub mod internal

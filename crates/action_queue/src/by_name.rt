@@ -4,10 +4,10 @@ ghost use Rattle.std.specs.Prelude.{◌≡◌, ◌++◌, ◌∷◌, [], ℕ, Lis
 ghost use Rattle.std.specs.Str.{bytes_eq};
 ghost use Rattle.action_queue.specs.ByName.{places_of};
 
+use collections::{Spelled, TextKey};
 use indexmap::IndexMap;
 use init_base::NoMemory;
 use std::alloc::Global;
-use text_index::{Spelled, TextKey};
 
 /// Lists of places, each under a name. A name without one has the empty list.
 #[derive(Drop)]

@@ -6,7 +6,7 @@ ghost use Rattle.std.specs.Option.{option_copied};
 ghost use Rattle.init_machine.specs.Matches.{matches, has_event, has_no_event, holds_for, tests};
 ghost use Rattle.init_machine.specs.Matches as spec;
 ghost use Rattle.action_queue.specs.Queue.{value_in, has_legal_name};
-ghost use Rattle.action_queue.specs.Tests.{holds_after};
+ghost use Rattle.action_queue.specs.internal.Tests.{holds_after};
 
 use init_base::{List, PropName, Text};
 use init_machine::{Action, Event, Pair, PropStore, PropTest, has_value};

@@ -4,7 +4,7 @@ ghost use Rattle.std.specs.Prelude.{◌≡◌, ◌<◌, ◌≤◌, ◌+◌, [], 
 ghost use Rattle.serial_value.specs.Cell.{IsReader, updating};
 ghost use Rattle.serial_value.specs.Steps.{IsSameSeat};
 ghost use Rattle.serial_value.specs.One.{the_name, the_place};
-ghost use Rattle.area_tests.specs.Stops.{at_stop};
+ghost use Rattle.area_tests.specs.internal.Stops.{at_stop};
 
 use init_base::{PropName, PropValue, Text};
 use serial_value::{

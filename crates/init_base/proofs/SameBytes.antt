@@ -5,7 +5,7 @@ use Rattle.std.proofs.lemmas.Grind.{same_number_lists}
 use Rattle.std.specs.Bool.{MatchBool}
 use Rattle.std.specs.Cmp.Lexicographic.{bytes_decides}
 use Rattle.std.specs.Str.{bytes_eq}
-use Rattle.init_base.specs.SameBytes.{AreSameIn}
+use Rattle.init_base.specs.internal.SameBytes.{AreSameIn}
 
 differ : (one other : List ℕ) → one ≢ other → false ≡ bytes_eq one other
 differ one other not =

@@ -8,7 +8,7 @@ pub mod Outside
 pub mod Quoted
 pub mod Reading
 pub mod Resolve
-pub mod SameBytes
 pub mod Text
 pub mod Tree
 pub mod Value
+pub mod internal

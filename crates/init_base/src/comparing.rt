@@ -4,7 +4,7 @@ ghost use Rattle.std.specs.Prelude.{◌≡◌, ◌≢◌, ◌+◌, ◌<◌, ◌�
 ghost use Rattle.std.specs.Bool.{MatchBool};
 ghost use Rattle.std.specs.Str.{bytes_eq};
 ghost use Rattle.std.specs.Int.{w32, w64, from_le_bytes};
-ghost use Rattle.init_base.specs.SameBytes.{AreSameIn, eight_at, four_at};
+ghost use Rattle.init_base.specs.internal.SameBytes.{AreSameIn, eight_at, four_at};
 
 /// Whether bytes are the same. Lists of 4 to 32 bytes, as most names are, are compared word by word; words may overlap.
 pub fn same_bytes(one: &[u8], other: &[u8]) -> bool

@@ -17,7 +17,7 @@ use Rattle.outputs.specs.Joins.{Joins}
 use Rattle.machine_parts.specs.Parts.{Does, state_of, rules_of}
 use Rattle.machine_parts.specs.Schedule.{ScheduleView, booted}
 use Rattle.machine_parts.specs.declared.parts.Parts.{Parts}
-use Rattle.init_core.specs.Stage.{stage_in}
+use Rattle.init_core.specs.internal.Stage.{stage_in}
 use Rattle.init_core.proofs.Boots.{pairs_boot}
 use Rattle.machine_parts.proofs.Doing.{does_plain, does_both, does_more, unset_sets_none}
 

@@ -13,7 +13,7 @@ use Rattle.std.proofs.lemmas.Bool.Decides.{nat_tests}
 use Rattle.init_machine.specs.Pairs.{pair, is_before, with_saved, last_pairs_onto}
 use Rattle.init_machine.specs.declared.config.Pair.{Pair}
 use Rattle.init_core.proofs.Fronts.{front_is}
-use Rattle.init_core.specs.ByName.{pair_of, pairs_in}
+use Rattle.init_core.specs.internal.ByName.{pair_of, pairs_in}
 
 -- what an order of two texts says of the tests of `with_saved`
 record IsOrder (o : Ordering) (name other : List ℕ) : Type 0 where

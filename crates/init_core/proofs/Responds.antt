@@ -11,7 +11,7 @@ use Rattle.init_machine.specs.declared.output.Output.TheVariants as output
 use Rattle.outputs.specs.Joins.{Joins}
 use Rattle.machine_parts.specs.Parts.{Does, state_of, rules_of}
 use Rattle.machine_parts.specs.declared.parts.Parts.{Parts}
-use Rattle.init_core.specs.Down.{is_down}
+use Rattle.init_core.specs.internal.Down.{is_down}
 use Rattle.init_core.proofs.Nexts.{is_up, is_down as tells_down}
 
 not_down : (over : Option (List ℕ)) (i j : Input) → i ≡ j → false ≡ is_down over i → false ≡ is_down over j

@@ -1,8 +1,6 @@
-pub mod ByName
 pub mod Completed
 pub mod Core
-pub mod Down
 pub mod Lending
 pub mod Opened
 pub mod Reaped
-pub mod Stage
+pub mod internal

@@ -4,7 +4,7 @@ ghost use Rattle.std.specs.Prelude.{◌≡◌, IfOk, OnOk, false};
 ghost use Rattle.init_machine.specs.Changes.{nothing};
 ghost use Rattle.init_machine.specs.Step as spec;
 ghost use Rattle.machine_parts.specs.Parts.{Does, rules_of, state_of};
-ghost use Rattle.init_core.specs.Stage.{stage_in};
+ghost use Rattle.init_core.specs.internal.Stage.{stage_in};
 
 use crate::last_pairs::last_pairs;
 use crate::read::is_charger;

@@ -2,7 +2,7 @@
 
 ghost use Rattle.std.specs.Prelude.{◌≡◌, IfOk};
 ghost use Rattle.init_machine.specs.Pairs as spec;
-ghost use Rattle.init_core.specs.ByName.{pairs_in};
+ghost use Rattle.init_core.specs.internal.ByName.{pairs_in};
 
 use init_base::{List, NoMemory, Text};
 use init_machine::Pair;

@@ -4,7 +4,7 @@ ghost use Rattle.std.specs.Prelude.{◌≡◌, OnOk};
 ghost use Rattle.init_machine.specs.Step as step_spec;
 ghost use Rattle.machine_parts.specs.Parts.{Does, rules_of, state_of};
 ghost use Rattle.init_core.specs.Core.{config_of, IsDeclared};
-ghost use Rattle.init_core.specs.Down as down_spec;
+ghost use Rattle.init_core.specs.internal.Down as down_spec;
 
 use crate::boot::boot;
 use crate::client::set_of_client;

@@ -18,8 +18,8 @@ use Rattle.machine_laws.proofs.Counted.{last_values, sets_count}
 use Rattle.machine_laws.proofs.Options.{none_is_no_value}
 use Rattle.property_area.specs.Readers.{seen_by}
 use Rattle.property_area.specs.declared.view.AreaView.{AreaView}
-use Rattle.serial_value.specs.Kept.Lists.{seen_through-end}
-use Rattle.serial_value.specs.Kept.Places.{at_below}
+use Rattle.serial_value.specs.impl_laws.Lists.{seen_through-end}
+use Rattle.serial_value.specs.impl_laws.Places.{at_below}
 use Rattle.init_driver.specs.Readings.{read_as, read_now}
 use Rattle.init_driver.specs.Told.{TellsRead}
 

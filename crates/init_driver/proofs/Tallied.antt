@@ -25,7 +25,7 @@ use Rattle.soak_summary.specs.Counting.{tally_of}
 use Rattle.soak_summary.specs.Counts.{Counts, counted_of, tally_with, with_entries, with_outputs}
 use Rattle.soak_summary.specs.declared.tally.Tally.{Tally}
 use Rattle.soak_summary.proofs.Counted.{counted_all, entries_more}
-use Rattle.init_driver.specs.Counted.{CountsOn, inputs_in}
+use Rattle.init_driver.specs.internal.Counted.{CountsOn, inputs_in}
 use Rattle.init_driver.specs.Machine.{MachineView, StaysSo, entry_of, step_of}
 use Rattle.init_driver.specs.Run.{Due, report_from, report_of}
 use Rattle.init_driver.specs.Seat.{HasRecorded}

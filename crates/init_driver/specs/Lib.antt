@@ -7,4 +7,4 @@ pub mod Machine
 pub mod Seat
 pub mod Learning
 pub mod Course
-pub mod Counted
+pub mod internal

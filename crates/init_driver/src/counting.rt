@@ -3,7 +3,7 @@
 ghost use Rattle.std.specs.Prelude.{◌≡◌, ◌≤◌, ◌∷◌, ℕ, [], List as Items, All, IfOk, OnOk, false, length, replicate};
 ghost use Rattle.std.specs.List.{flat_map};
 ghost use Rattle.init_core.specs.Core.{IsDeclared, opening_of, without_saved};
-ghost use Rattle.init_driver.specs.Counted.{CountsOn, inputs_in, is_step};
+ghost use Rattle.init_driver.specs.internal.Counted.{CountsOn, inputs_in, is_step};
 ghost use Rattle.init_driver.specs.Course.{HasDone, told_from};
 ghost use Rattle.init_driver.specs.Machine.{told_to};
 ghost use Rattle.init_driver.specs.Run.{AsksAreMet, report_from, report_of};

@@ -2,8 +2,8 @@
 use Rattle.std.proofs.Common.{◌≡◌, ℕ, suc, ◌+◌, ◌*◌, ◌≤◌, Bool, true, false, not, ◌&&◌, ◌==◌, nat_lt, List, [], ◌∷◌, ◌++◌, length, Option, Some, refl, ap, ◌∙◌, ⊎_elim, arith, length-append, if◌then◌else◌}
 use Rattle.std.proofs.lemmas.Bool.{cases_Bool}
 use Rattle.std.specs.List.{flat_map}
-use Rattle.init_machine.specs.Kept.Nodes.{words_beyond}
-use Rattle.init_machine.specs.Kept.Room.{numbers_full}
+use Rattle.init_machine.specs.internal.Nodes.{words_beyond}
+use Rattle.init_machine.specs.Room.{numbers_full}
 use Rattle.init_machine.specs.Props.{Props, full_for, is_absent, lookup_in, sizes_of, used_in}
 use Rattle.init_machine.specs.declared.store.Full.{Full}
 use Rattle.init_machine.specs.declared.store.Full.TheVariants.{Words}

@@ -4,7 +4,7 @@ use Rattle.std.specs.Str.{bytes_eq}
 use Rattle.std.proofs.lemmas.Slice.Eq.{bytes_eq-Decides}
 use Rattle.std.proofs.lemmas.Bool.Decides.{nat_tests}
 use Rattle.std.proofs.lemmas.Bool.{both_ways}
-use Rattle.init_machine.specs.Kept.Nodes.{SameMembers, total_beyond}
+use Rattle.init_machine.specs.internal.Nodes.{SameMembers, total_beyond}
 use Rattle.init_machine.specs.Words.{is_among, distinct}
 
 pub same_bytes : (x y : List ℕ) → bytes_eq x y ≡ true → x ≡ y

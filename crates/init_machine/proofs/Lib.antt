@@ -1,10 +1,8 @@
 pub mod Ample
 pub mod DistinctSums
-pub mod Entries
 pub mod LegalNames
 pub mod LookUps
 pub mod Needs
-pub mod Nodes
 pub mod Numbers
 pub mod Prefixes
 pub mod Sets

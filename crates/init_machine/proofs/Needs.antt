@@ -8,7 +8,7 @@ use Rattle.std.proofs.lemmas.List.Sums.{sum-map}
 use Rattle.std.proofs.lemmas.List.Recursion.{is_sum_by}
 use Rattle.std.proofs.lemmas.List.Sorted.{list_any-IsPermutation, sum_by-IsPermutation, IsPermutation-map, IsPermutation-to_front}
 use Rattle.init_machine.specs.Words.{is_among, distinct, prefixes_of, node_words, nodes_of, Sized, names_in, cell_words, cells_of, used_of, need_of}
-use Rattle.init_machine.specs.Kept.Nodes.{SameMembers, total_beyond, words_beyond}
+use Rattle.init_machine.specs.internal.Nodes.{SameMembers, total_beyond, words_beyond}
 use Rattle.init_machine.proofs.DistinctSums.{there_already, IsSet, total, total-same, total-front, among-append}
 use Rattle.init_machine.proofs.Prefixes.{prefixes-are, set-parts}
 

@@ -8,7 +8,7 @@ pub mod Facts
 pub mod FileTree
 pub mod HasText
 pub mod History
-pub mod Kept
+pub mod internal
 pub mod Kernel
 pub mod Laws
 pub mod Marks
@@ -18,6 +18,7 @@ pub mod Pairs
 pub mod Policy
 pub mod Props
 pub mod Reaping
+pub mod Room
 pub mod Serial
 pub mod Services
 pub mod Sets

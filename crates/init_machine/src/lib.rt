@@ -3,7 +3,8 @@
 //!
 //! `specs/` has the definitions of the documented machine over these types: `State`, `Matches`, `Effect`, `Step`,
 //! `History`. A store's meaning is a finite map from names to values and numbers; `put` changes it
-//! at one name alone, and can't fail behind `room` and `reserve`.
+//! at one name alone, and can't fail behind `room` and `reserve`. `room.rt` has the tests of room that stores share; the plain
+//! store is the crate `list_store`.
 #![tactic(auto)]
 
 mod action;
@@ -15,13 +16,13 @@ mod event;
 mod input;
 mod laws;
 mod limit;
-mod list_store;
 mod look_up;
 mod node;
 mod number;
 mod output;
 mod policy;
 mod report;
+mod room;
 mod service;
 mod store;
 mod task;
@@ -41,13 +42,13 @@ pub use laws::{
     held_takes_nothing, order_is_free,
 };
 pub use limit::Limit;
-pub use list_store::{ListStore, cell_words};
 pub use look_up::has_value;
 pub use node::Node;
 pub use number::decimal;
 pub use output::{Cause, FsRefusal, How, Output, SetRefusal};
 pub use policy::{AllowLine, Context, PolicyView};
 pub use report::{ClientPart, Entry, Reading, Report};
+pub use room::{cell_words, check_numbers, check_room, has_room_for_any};
 pub use service::{Critical, Marks, Move, Op, ServiceDef};
 pub use store::{Full, PropStore};
 pub use task::{Done, Task, TreeCall};

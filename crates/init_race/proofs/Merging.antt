@@ -20,7 +20,7 @@ use Rattle.script_lang.specs.Laws.{set_by, set_in}
 use Rattle.script_lang.specs.Merges.{Merges, is_main}
 use Rattle.script_lang.specs.declared.script.Script.{Script}
 use Rattle.init_race.specs.Acting.{inputs_in}
-use Rattle.init_race.specs.Ended.{EachDone, IsDone, IsMainDone}
+use Rattle.init_race.specs.internal.Ended.{EachDone, IsDone, IsMainDone}
 use Rattle.init_race.specs.declared.actors.Acted.{Acted}
 use Rattle.init_race.proofs.Parts.{parts_set}
 use Rattle.init_race.proofs.Records.{first_input, inputs_are, sets_are}

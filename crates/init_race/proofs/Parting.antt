@@ -4,7 +4,7 @@ use Rattle.std.proofs.lemmas.List.{append-nil, append_assoc, length-append}
 use Rattle.init_machine.specs.declared.report.ClientPart.{ClientPart}
 use Rattle.property_area.specs.Seats.{Seated}
 use Rattle.script_lang.specs.declared.script.Client.{Client}
-use Rattle.init_race.specs.Ended.{next_part, part_with, parts_of, readers_of, told_to}
+use Rattle.init_race.specs.internal.Ended.{next_part, part_with, parts_of, readers_of, told_to}
 use Rattle.init_race.specs.declared.actors.Acted.{Acted}
 
 drop_next : (clients : List Client) (n : ℕ) (client : Client) → slice_get clients n ≡ Some client → drop n clients ≡ client ∷ drop (n + 1) clients

@@ -27,7 +27,7 @@ use Rattle.script_lang.specs.declared.script.Client.{Client}
 use Rattle.script_lang.specs.declared.script.Script.{Script}
 use Rattle.trace_audit.specs.Audited.{Audited}
 use Rattle.init_race.specs.Acting.{IsPart, IsThrough}
-use Rattle.init_race.specs.Ended.{EachDone, IsDone, IsMainDone, ComeBack, parts_of, readers_of, told_to}
+use Rattle.init_race.specs.internal.Ended.{EachDone, IsDone, IsMainDone, ComeBack, parts_of, readers_of, told_to}
 use Rattle.init_race.specs.Race.{AreRaced, HasEnded, HaveReadings}
 use Rattle.init_race.specs.Seating.{AllSeated, EachSeated, IsBooted, IsSeated}
 use Rattle.init_race.specs.Threads.{EachThrough, MayAct}

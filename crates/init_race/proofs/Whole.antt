@@ -19,7 +19,7 @@ use Rattle.script_lang.specs.Inputs.{part_of}
 use Rattle.script_lang.specs.declared.script.Client.{Client}
 use Rattle.script_lang.specs.declared.script.Script.{Script}
 use Rattle.trace_audit.specs.Audited.{Audited, EachHolds, ReadingsHold, answer_all, client_of, list_of, requests_from}
-use Rattle.init_race.specs.Ended.{EachDone, IsDone, IsMainDone, parts_of}
+use Rattle.init_race.specs.internal.Ended.{EachDone, IsDone, IsMainDone, parts_of}
 use Rattle.init_race.specs.declared.actors.Acted.{Acted}
 use Rattle.init_race.proofs.Merging.{race_merges}
 use Rattle.init_race.proofs.Parts.{parts_answer, parts_list}

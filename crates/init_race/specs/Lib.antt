@@ -1,7 +1,7 @@
 pub mod Acting
 pub mod Asks
-pub mod Ended
 pub mod Keeping
 pub mod Race
 pub mod Seating
 pub mod Threads
+pub mod internal

@@ -6,7 +6,7 @@ ghost use Rattle.init_core.specs.Core.{opening_of};
 ghost use Rattle.init_driver.specs.Keeper.{seen_by};
 ghost use Rattle.init_driver.specs.Run.{AsksAreMet};
 ghost use Rattle.init_machine.specs.WellFormed.{IsWellFormed};
-ghost use Rattle.init_race.specs.Ended.{AreAll, ComeBack, next_part, readers_of, told_to};
+ghost use Rattle.init_race.specs.internal.Ended.{AreAll, ComeBack, next_part, readers_of, told_to};
 ghost use Rattle.init_race.specs.Keeping.{Gives, given_behind, has_failed, stored_in};
 ghost use Rattle.init_race.specs.Race.{AreRaced, HasEnded, HasRecorded, KeepsRace};
 ghost use Rattle.init_race.specs.Threads.{MayAct};

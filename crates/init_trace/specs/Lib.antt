@@ -1,6 +1,6 @@
 pub mod Fields
 pub mod InRange
-pub mod Kept
+pub mod impl_laws
 pub mod Law
 pub mod Line
 pub mod Quoted

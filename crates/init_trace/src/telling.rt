@@ -17,7 +17,7 @@ use outputs::Outputs;
 /// Each output is a line of the entry that was begun.
 impl Outputs for Printer {
     ghost use Rattle.init_trace.specs.Waiting.{IsTold};
-    ghost use Rattle.init_trace.specs.Kept.Told.{told_joins};
+    ghost use Rattle.init_trace.specs.impl_laws.Told.{told_joins};
 
     ghost Adds = { IsTold };
 

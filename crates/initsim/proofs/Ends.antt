@@ -9,8 +9,8 @@ use Rattle.init_driver.specs.declared.refusal.DriveRefusal.TheVariants as refusa
 use Rattle.init_machine.specs.declared.limit.Limit.{Limit}
 use Rattle.init_machine.specs.declared.limit.Limit.TheVariants as limits
 use Rattle.init_trace.specs.Written.{TakesFront}
-use Rattle.init_words.specs.declared.form.Form.{Form}
-use Rattle.init_words.specs.declared.form.Form.TheVariants.{Run, Check, Audit}
+use Rattle.command_line.specs.declared.form.Form.{Form}
+use Rattle.command_line.specs.declared.form.Form.TheVariants.{Run, Check, Audit}
 use Rattle.job_reader.specs.Check.{CheckWrites, IsCheckStatus}
 use Rattle.job_reader.specs.Endings.{IsRunLimit, IsRunStatus}
 use Rattle.job_reader.specs.Prepared.{Performs, WritesText}

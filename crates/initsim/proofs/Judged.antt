@@ -19,7 +19,7 @@ use Rattle.job_reader.specs.declared.status.Status.TheVariants as status
 use Rattle.job_reader.specs.declared.stop.Stop.{Stop}
 use Rattle.job_reader.specs.declared.stop.Stop.TheVariants as stop
 use Rattle.rc_import.specs.World.{World}
-use Rattle.initsim.specs.Judging.{ending_of}
+use Rattle.initsim.specs.internal.Judging.{ending_of}
 use Rattle.initsim.specs.Top.{IsAsBefore}
 
 pub judged_script : {T : Type 0} (result : Result T Stop) (bytes : List ℕ) (left : Option (List ℕ))

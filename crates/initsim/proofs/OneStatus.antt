@@ -5,8 +5,8 @@ use Rattle.init_base.specs.Tree.{file_at}
 use Rattle.init_machine.specs.declared.config.Pair.{Pair}
 use Rattle.init_machine.specs.declared.limit.Limit.{Limit}
 use Rattle.init_machine.specs.declared.limit.Limit.TheVariants as limits
-use Rattle.init_words.specs.declared.form.Form.{Form}
-use Rattle.init_words.specs.declared.form.Form.TheVariants.{Run, Race, Check, Audit, Soak}
+use Rattle.command_line.specs.declared.form.Form.{Form}
+use Rattle.command_line.specs.declared.form.Form.TheVariants.{Run, Race, Check, Audit, Soak}
 use Rattle.job_reader.specs.Policy.{HasPolicy, IsBadLine, IsBadPolicyAt, IsPolicyTooLarge}
 use Rattle.job_reader.specs.Run.{Course, IsCourseOf}
 use Rattle.job_reader.specs.Script.{HasScript}

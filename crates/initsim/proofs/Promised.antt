@@ -1,8 +1,8 @@
 -- The promise of the top call, form by form.
 use Rattle.std.proofs.Common.{◌≡◌, ◌↔◌, ℕ, Option, Some, None, refl, sym, subst, inl}
 use Rattle.std.specs.Prelude.{⊤, IfSome}
-use Rattle.init_words.specs.declared.form.Form.{Form}
-use Rattle.init_words.specs.declared.form.Form.TheVariants.{Run, Race, Check, Audit, Soak}
+use Rattle.command_line.specs.declared.form.Form.{Form}
+use Rattle.command_line.specs.declared.form.Form.TheVariants.{Run, Race, Check, Audit, Soak}
 use Rattle.job_reader.specs.Check.{IsCheckStatus}
 use Rattle.job_reader.specs.Counts.{AreCounted, IsDoneUnlessRisen}
 use Rattle.job_reader.specs.Endings.{IsAuditStatus, IsRunStatus}

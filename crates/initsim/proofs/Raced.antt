@@ -8,7 +8,7 @@ use Rattle.init_machine.specs.declared.report.Report.{Report}
 use Rattle.init_race.specs.Race.{KeepsNot, race_given}
 use Rattle.init_race.specs.declared.refusal.RaceRefusal.TheVariants as refusal
 use Rattle.init_trace.specs.Report.{TextOf}
-use Rattle.init_words.specs.declared.form.Form.TheVariants.{Race}
+use Rattle.command_line.specs.declared.form.Form.TheVariants.{Race}
 use Rattle.job_reader.specs.Counts.{AreCounted, SomeReadRose, counts_of}
 use Rattle.job_reader.specs.Prepared.{WritesText}
 use Rattle.job_reader.specs.Run.{Course, IsCourseOf}

@@ -6,7 +6,7 @@ use Rattle.init_driver.specs.Keeper.{KeeperView, Took}
 use Rattle.init_machine.specs.declared.report.Report.{Report}
 use Rattle.init_race.specs.Race.{HasRecorded as HasRecordedRace, race_given}
 use Rattle.init_trace.specs.Report.{TextOf}
-use Rattle.init_words.specs.declared.form.Form.TheVariants.{Race, Run}
+use Rattle.command_line.specs.declared.form.Form.TheVariants.{Race, Run}
 use Rattle.job_reader.specs.Prepared.{Performs, WritesText}
 use Rattle.job_reader.specs.Run.{Course, IsCourseOf}
 use Rattle.job_reader.specs.declared.status.Status.{Status}

@@ -8,9 +8,9 @@ use Rattle.std.proofs.lemmas.Bool.{leb-true}
 use Rattle.init_driver.proofs.Keepers.{took_nothing}
 use Rattle.init_driver.specs.Keeper.{KeeperView}
 use Rattle.init_driver.specs.Run.{report_of}
-use Rattle.init_words.specs.Form.{form_of}
-use Rattle.init_words.specs.Services.{begins_number, services_in}
-use Rattle.init_words.specs.declared.form.Form.TheVariants.{Run, Race, Check, Audit, Soak}
+use Rattle.command_line.specs.Form.{form_of}
+use Rattle.command_line.specs.Services.{begins_number, services_in}
+use Rattle.command_line.specs.declared.form.Form.TheVariants.{Run, Race, Check, Audit, Soak}
 use Rattle.job_reader.specs.Counts.{AreCounted, Counts, IsDoneUnlessRisen, counts_of}
 use Rattle.job_reader.specs.Endings.{IsRunStatus}
 use Rattle.job_reader.specs.Prepared.{IsFit, IsSetupOf, WritesText, course_of}

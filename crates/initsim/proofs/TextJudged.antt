@@ -9,7 +9,7 @@ use Rattle.job_reader.specs.declared.stop.Stop.{Stop}
 use Rattle.job_reader.specs.declared.stop.Stop.TheVariants as stop
 use Rattle.trace_audit.specs.declared.verdict.Verdict.{Verdict}
 use Rattle.trace_reader.specs.Reports.{IsTextOf}
-use Rattle.initsim.specs.Judging.{JudgesText, ending_of}
+use Rattle.initsim.specs.internal.Judging.{JudgesText, ending_of}
 use Rattle.initsim.specs.Verdict.{IsVerdictOn}
 
 text_of : (bytes text : List ℕ) (left : Option (List ℕ)) (report : Report) → GivesTrace bytes left (Ok text) → IsTextOf text report → IsTraceOf bytes report

@@ -6,4 +6,4 @@ pub mod Seats
 pub mod SoakEnds
 pub mod Top
 pub mod Promise
-pub mod Judging
+pub mod internal

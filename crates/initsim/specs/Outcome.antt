@@ -13,8 +13,8 @@ use Rattle.init_machine.specs.declared.limit.Limit.TheVariants as limits
 use Rattle.init_machine.specs.declared.report.Report.{Report}
 use Rattle.init_trace.specs.Report.{DiagnosticsText}
 use Rattle.init_trace.specs.Written.{TakesFront}
-use Rattle.init_words.specs.declared.form.Form.{Form}
-use Rattle.init_words.specs.declared.form.Form.TheVariants as form
+use Rattle.command_line.specs.declared.form.Form.{Form}
+use Rattle.command_line.specs.declared.form.Form.TheVariants as form
 use Rattle.job_reader.specs.Policy.{HasPolicy, IsBadPolicyAt, IsPolicyTooLarge}
 use Rattle.job_reader.specs.Run.{Course, IsCourseOf, due_of_course, run_text}
 use Rattle.job_reader.specs.Script.{HasScript}

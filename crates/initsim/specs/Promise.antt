@@ -1,8 +1,8 @@
 -- What the top call promises: how it ends, as its objects show it.
 use Rattle.std.specs.Prelude.{◌≡◌, ◌↔◌, ◌⊎◌, ℕ, List, Option, Some, None, IfSome}
 use Rattle.init_driver.specs.Keeper.{KeeperView}
-use Rattle.init_words.specs.declared.form.Form.{Form}
-use Rattle.init_words.specs.declared.form.Form.TheVariants as form
+use Rattle.command_line.specs.declared.form.Form.{Form}
+use Rattle.command_line.specs.declared.form.Form.TheVariants as form
 use Rattle.job_reader.specs.Check.{IsCheckStatus}
 use Rattle.job_reader.specs.Counts.{AreCounted, Counts, IsDoneUnlessRisen}
 use Rattle.job_reader.specs.Endings.{IsRunStatus}

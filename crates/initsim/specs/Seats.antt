@@ -6,8 +6,8 @@ use Rattle.init_driver.specs.Run.{report_of}
 use Rattle.init_driver.specs.Seat.{HasRecorded}
 use Rattle.init_machine.specs.declared.report.Report.{Report}
 use Rattle.init_race.specs.Race.{HasRecorded as HasRecordedRace}
-use Rattle.init_words.specs.declared.form.Form.{Form}
-use Rattle.init_words.specs.declared.form.Form.TheVariants as form
+use Rattle.command_line.specs.declared.form.Form.{Form}
+use Rattle.command_line.specs.declared.form.Form.TheVariants as form
 use Rattle.job_reader.specs.Run.{Course, IsCourseOf, run_text}
 use Rattle.job_reader.specs.declared.status.Status.{Status}
 use Rattle.job_reader.specs.declared.status.Status.TheVariants as status

@@ -1,8 +1,8 @@
 -- What the top call leaves alone, and what it can do.
 use Rattle.std.specs.Prelude.{◌≡◌, ℕ, ⊤, ◌⊎◌, Option, Some, None, IsSomeAnd}
 use Rattle.init_base.specs.Faults.{Rose}
-use Rattle.init_words.specs.declared.form.Form.{Form}
-use Rattle.init_words.specs.declared.form.Form.TheVariants as form
+use Rattle.command_line.specs.declared.form.Form.{Form}
+use Rattle.command_line.specs.declared.form.Form.TheVariants as form
 use Rattle.job_reader.specs.Script.{HasScript}
 use Rattle.job_reader.specs.Store.{HasStore}
 use Rattle.job_reader.specs.Trace.{HasTrace}

@@ -3,8 +3,8 @@
 ghost use Rattle.std.specs.Prelude.{◌≡◌, ℕ, IfErr, IfOk, IfSome, List as Items, Some};
 ghost use Rattle.init_base.specs.Faults.{Counted};
 ghost use Rattle.init_driver.specs.Keeper.{seen_by};
-ghost use Rattle.init_words.specs.declared.form.Form.TheVariants as Form;
-ghost use Rattle.initsim.specs.Judging.{JudgesText, ending_of};
+ghost use Rattle.command_line.specs.declared.form.Form.TheVariants as Form;
+ghost use Rattle.initsim.specs.internal.Judging.{JudgesText, ending_of};
 ghost use Rattle.initsim.specs.Outcome.{Ends, IsJudged, TellRun, Told, shown_as, sources_of};
 ghost use Rattle.initsim.specs.Top.{IsAsBefore};
 ghost use Rattle.initsim.specs.Verdict.{IsVerdictOn};

@@ -4,32 +4,28 @@
 //! trace and output, and makes that call.
 #![tactic(auto)]
 
-mod audit_causes;
+mod arguments;
 mod auditing;
-mod causes;
-mod command_line;
 mod help;
 mod noting;
 mod racing;
 mod soaking;
 mod standard;
-mod store;
 mod telling;
 mod top;
 mod verdict;
 
-use causes::{tell_bad_image, tell_cause};
-use command_line::words_of;
+use arguments::words_of;
 use help::{is_help, tell_help};
 use init_base::{Fault, Keeper, List, NoMemory, Source, StdFiles, StdSink, StdSource, Text};
 use init_race::OpenGate;
 use job_reader::Status;
 use noting::Noting;
+use second_line::{Named, TreeStore, cause_line, image_line, last_fault, store_below};
 use standard::hold_closed;
 use std::process::ExitCode;
 use std::sync::Wait;
 use std::thread::Threads;
-use store::{TreeStore, last_fault, store_below};
 use telling::{tell, tell_misuse};
 use top::initsim;
 
@@ -39,7 +35,7 @@ struct Outside<'a> {
     files: StdFiles<'a, HostRuntime>,
     script: StdSource<'a, HostRuntime>,
     trace: StdSource<'a, HostRuntime>,
-    keeper: TreeStore<'a>,
+    keeper: TreeStore<'a, HostRuntime>,
 }
 
 /// Makes the objects. They are taken out of their answers together, so that only one end lets some of them go.
@@ -84,7 +80,10 @@ fn source_at<'a>(
     StdSource::at(rt, rt.alloc(), &path)
 }
 
-fn store_at<'a>(rt: &'a HostRuntime, words: &List<Text>) -> Result<TreeStore<'a>, NoMemory> {
+fn store_at<'a>(
+    rt: &'a HostRuntime,
+    words: &List<Text>,
+) -> Result<TreeStore<'a, HostRuntime>, NoMemory> {
     let root = word_at(words, 1)?;
     store_below(rt, &root)
 }
@@ -130,12 +129,20 @@ fn tell_end(
 ) {
     let fault = fault_behind(status, outside, &out.sink);
     let _ = tell(rt, status, fault);
+    let named = Named { rt, words };
     if fault.is_none() && outside.keeper.faults() > 0 {
-        tell_bad_image(rt, words);
+        tell_line(rt, image_line(&named));
     }
-    tell_cause(rt, status, words, out.first());
+    tell_line(rt, cause_line(&named, status, out.first()));
     if status == Status::Usage {
         let _ = tell_usage(rt, words);
+    }
+}
+
+/// Prints a second line, where there is one.
+fn tell_line(rt: &HostRuntime, line: Option<String>) {
+    if let Some(line) = line {
+        let _ = eprintln!(rt; "initsim: {line}");
     }
 }
 

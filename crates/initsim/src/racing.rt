@@ -3,7 +3,7 @@
 ghost use Rattle.std.specs.Prelude.{◌≡◌, ℕ, IfSome, List as Items, Option, Some};
 ghost use Rattle.init_driver.specs.Keeper.{seen_by};
 ghost use Rattle.init_trace.specs.Report.{TextOf};
-ghost use Rattle.init_words.specs.declared.form.Form.TheVariants as Form;
+ghost use Rattle.command_line.specs.declared.form.Form.TheVariants as Form;
 ghost use Rattle.initsim.specs.Outcome.{Ends, TellRun, Told, shown_as, sources_of};
 ghost use Rattle.initsim.specs.Racing.{PerformsRace};
 ghost use Rattle.initsim.specs.Seats.{GivesOwn, GivesSeat, RaceGives, Records};

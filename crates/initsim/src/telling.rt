@@ -1,7 +1,7 @@
 //! What is printed to standard error.
 
+use command_line::{FormName, Misuse, Place, WordFault, misuse_of};
 use init_base::{Fault, List, Text};
-use init_words::{FormName, Misuse, Place, WordFault, misuse_of};
 use job_reader::Status;
 use persist_file::StoreCause;
 use refusal_causes::ShownPath;

@@ -5,7 +5,7 @@ use Rattle.std.specs.HashMap.{HashMap, UpdatesBy}
 use Rattle.std.specs.Prelude.{Vec, unwrap_or}
 use Rattle.std.specs.Str.{bytes_eq}
 use Rattle.init_base.proofs.ByBytes.{apart, other_entries, same_bytes}
-use Rattle.lint_baseline.specs.Code.{count_in}
+use Rattle.lint_baseline.specs.internal.Rows.{count_in}
 
 pub same_test : (bs cs : List ℕ) → bytes_eq bs cs ≡ bytes_eq cs bs
 same_test bs cs = nat_list_eq_equiv.symm bs cs

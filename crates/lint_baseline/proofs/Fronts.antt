@@ -8,7 +8,7 @@ use Rattle.std.proofs.lemmas.List.{take-append-drop}
 use Rattle.std.proofs.lemmas.Grind.{flat_map-append}
 use Rattle.std.proofs.lemmas.List.Folds.{list_all-append}
 use Rattle.lint_baseline.specs.Baseline.{BeginsWithNext, IsUnfitAt, are_rows, ascend, baseline_text, ended, is_row, lacks}
-use Rattle.lint_baseline.specs.Code.{TakesRow}
+use Rattle.lint_baseline.specs.internal.Rows.{TakesRow}
 use Rattle.lint_baseline.proofs.Cuts.{same_cut, has_it}
 
 pub join : (a b : Bool) → a ≡ true → b ≡ true → (a && b) ≡ true

@@ -1,4 +1,4 @@
 pub mod Baseline
 pub mod Left
 pub mod Outside
-pub mod Code
+pub mod internal

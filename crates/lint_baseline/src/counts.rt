@@ -2,7 +2,7 @@
 
 ghost use Rattle.std.specs.Prelude.{◌≡◌, ◌+◌, ◌-◌, ◌<◌, ◌^◌, ℕ, List, OnOk, IfOk, nat_lt, if◌then◌else◌};
 ghost use Rattle.std.specs.Str.{bytes_eq};
-ghost use Rattle.lint_baseline.specs.Code.{count_in};
+ghost use Rattle.lint_baseline.specs.internal.Rows.{count_in};
 
 use init_base::NoMemory;
 use std::alloc::Global;

@@ -3,7 +3,7 @@
 ghost use Rattle.std.specs.Prelude.{◌≡◌, ◌-◌, ◌++◌, ◌∷◌, [], ℕ, List as Items, IfOk, OnOk, nat_lt, if◌then◌else◌};
 ghost use Rattle.std.specs.Str.{bytes_eq};
 ghost use Rattle.lint_baseline.specs.Baseline as baseline_spec;
-ghost use Rattle.lint_baseline.specs.Code.{count_in};
+ghost use Rattle.lint_baseline.specs.internal.Rows.{count_in};
 ghost use Rattle.lint_baseline.specs.Left.{known};
 ghost use Rattle.lint_baseline.specs.Left as left_spec;
 

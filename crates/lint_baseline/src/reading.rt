@@ -5,7 +5,7 @@ ghost use Rattle.init_base.specs.Quoted as quoted_spec;
 ghost use Rattle.lint_baseline.specs.Baseline.{ascend, are_rows, behind_word, word_of, BeginsWithNext, IsBaseline, IsRefused, lacks};
 ghost use Rattle.lint_baseline.specs.Baseline as baseline_spec;
 ghost use Rattle.init_machine.specs.Pairs as pairs_spec;
-ghost use Rattle.lint_baseline.specs.Code.{TakesRow};
+ghost use Rattle.lint_baseline.specs.internal.Rows.{TakesRow};
 
 use crate::refusal::BaselineRefusal;
 use init_base::{List, NoMemory, Text, unquoted};

@@ -23,7 +23,7 @@ use Rattle.model_kernel.specs.declared.refusal.SpawnRefusal.TheVariants as refus
 use Rattle.model_kernel.specs.Kernel.{spawned as kernel_spawned, killed as kernel_killed}
 use Rattle.outputs.specs.Joins.{Joins}
 use Rattle.services.specs.Services.{ServicesView, move_of, with_op}
-use Rattle.machine_parts.specs.Operations.{with_step}
+use Rattle.machine_parts.specs.internal.Operations.{with_step}
 use Rattle.machine_parts.specs.Parts.{Does, actions_of, rules_of, state_of}
 use Rattle.machine_parts.specs.declared.parts.Parts.{Parts}
 use Rattle.machine_parts.proofs.Doing.{does_both, does_more, does_plain, unset_sets_none}

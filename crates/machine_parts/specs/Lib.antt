@@ -1,5 +1,5 @@
 pub mod Answers
 pub mod Environment
-pub mod Operations
 pub mod Parts
 pub mod Schedule
+pub mod internal

@@ -11,7 +11,7 @@ ghost use Rattle.init_machine.specs.Setting as setting_spec;
 ghost use Rattle.services.specs.Services.{place_named};
 ghost use Rattle.init_machine.specs.declared.output.Output.TheVariants as output;
 ghost use Rattle.machine_parts.specs.Answers.{IsAnswer};
-ghost use Rattle.machine_parts.specs.Operations.{with_step};
+ghost use Rattle.machine_parts.specs.internal.Operations.{with_step};
 ghost use Rattle.machine_parts.specs.Parts.{Does, rules_of, state_of};
 
 use crate::judging::{check_domain, check_up, is_control, legal_name};

@@ -5,7 +5,7 @@ use Rattle.std.proofs.lemmas.List.{append-nil, get_or-take, length-take-le, take
 use Rattle.std.specs.List.{list_all, slice_split, onto_first}
 use Rattle.std.specs.Str.{bytes_eq}
 use Rattle.init_machine.specs.FileTree.{parts_of, same_path, is_below}
-use Rattle.model_fs.specs.Paths.{is_no_slash}
+use Rattle.model_fs.specs.internal.Paths.{is_no_slash}
 
 -- the first part is there
 pub split_some : (p : ℕ → Bool) (xs : List ℕ) → (first : List ℕ) × (rest : List (List ℕ)) × (slice_split p xs ≡ first ∷ rest)

@@ -9,7 +9,7 @@ use Rattle.std.specs.Cmp.Lexicographic.{bytes_decides}
 use Rattle.std.specs.List.{list_any}
 use Rattle.std.specs.Str.{bytes_eq}
 use Rattle.indexmap.specs.IndexSet.{insert_key}
-use Rattle.text_index.specs.Texts.{with_text}
+use Rattle.collections.specs.Texts.{with_text}
 use Rattle.init_machine.specs.FileTree.{same_path}
 use Rattle.model_fs.specs.Steps.{path_behind, path_of, paths_onto, paths_of, place_of, with_path, same_parent, same_step, AreDistinct, IsStepAt, IsNumbered}
 use Rattle.model_fs.specs.declared.places.Step.{Step}

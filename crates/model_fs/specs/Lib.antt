@@ -1,4 +1,4 @@
 pub mod Calls
 pub mod Entries
-pub mod Paths
 pub mod Steps
+pub mod internal

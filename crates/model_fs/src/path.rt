@@ -4,7 +4,7 @@ ghost use Rattle.std.specs.Prelude.{◌≡◌, ◌≢◌, ◌-◌, ◌<◌, ◌�
 ghost use Rattle.std.specs.List.{list_any, list_all};
 ghost use Rattle.init_machine.specs.FileTree.{parts_of};
 ghost use Rattle.init_machine.specs.FileTree as spec;
-ghost use Rattle.model_fs.specs.Paths.{is_no_slash};
+ghost use Rattle.model_fs.specs.internal.Paths.{is_no_slash};
 
 /// The length of the longest text of a path.
 const MAX_LEN: usize = 4096;

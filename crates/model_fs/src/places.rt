@@ -5,11 +5,11 @@
 
 use crate::noted::{Noted, slot_of};
 use crate::path::is_path;
+use collections::TextIndex;
 use indexmap::{IndexMap, IndexSet};
 use init_base::NoMemory;
 use std::alloc::Global;
 use std::marker::Model;
-use text_index::TextIndex;
 
 /// How a path is reached: from the place of its parent, by its last part. The root has no parent, and no part: its
 /// number stands for nothing.

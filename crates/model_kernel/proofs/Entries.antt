@@ -8,7 +8,7 @@ use Rattle.std.specs.Option.{option_map}
 use Rattle.std.specs.Ordering.{nat_cmp, is_eq}
 use Rattle.std.specs.Str.{bytes_eq}
 use Rattle.std.specs.declared.cmp.Ordering.TheVariants.{Greater}
-use Rattle.agenda.proofs.Ascending.{AreAbove, Ascends, ascends_from_sorted}
+use Rattle.collections.proofs.Ascending.{AreAbove, Ascends, ascends_from_sorted}
 use Rattle.init_machine.specs.Kernel.{marked}
 use Rattle.model_kernel.specs.Living.{AreBelow, AreNumbered, living, pids, process_at, slain, with_pid, without_pid}
 use Rattle.model_kernel.specs.Parts.{process_of}

@@ -7,9 +7,9 @@ use Rattle.std.specs.List.Sorted.{IsStrictlySortedBy}
 use Rattle.std.specs.Map.{keys_of, lookup, set_value}
 use Rattle.std.specs.Option.{option_map}
 use Rattle.std.specs.Ordering.{nat_cmp}
-use Rattle.agenda.proofs.Ascending.{itself}
-use Rattle.agenda.proofs.Held.{due_from_held}
-use Rattle.agenda.specs.Moments.{is_due, is_held}
+use Rattle.collections.proofs.Ascending.{itself}
+use Rattle.collections.proofs.Held.{due_from_held}
+use Rattle.collections.specs.Moments.{is_due, is_held}
 use Rattle.init_machine.specs.Kernel.{has_ended, is_past}
 use Rattle.model_kernel.proofs.Entries.{at_its_pid, flip, numbered_at, numbered_marked, process_found, tie}
 use Rattle.model_kernel.specs.Living.{AreListed, AreNumbered, IsListed, is_over, living, process_at, slain, with_pid}

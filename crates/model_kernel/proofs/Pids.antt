@@ -4,7 +4,7 @@ use Rattle.std.proofs.lemmas.Grind.{common_steps}
 use Rattle.std.specs.List.{cons_option, list_any}
 use Rattle.std.specs.List.Sorted.{IsStrictlySortedBy}
 use Rattle.std.specs.Ordering.{nat_cmp}
-use Rattle.agenda.proofs.Ascending.{AreAbove, Ascends, itself, none_above, same_ascending, ascends_from_sorted}
+use Rattle.collections.proofs.Ascending.{AreAbove, Ascends, itself, none_above, same_ascending, ascends_from_sorted}
 use Rattle.init_machine.specs.Kernel.{Process, has_ended, marked}
 use Rattle.model_kernel.specs.Living.{AreBelow, found, is_over, pids, with_pid, without_pid}
 

@@ -8,7 +8,7 @@ use Rattle.std.specs.Str.{bytes_eq}
 use Rattle.init_machine.specs.Kernel.{last_time}
 use Rattle.init_machine.specs.declared.config.Plan.{Plan}
 use Rattle.model_kernel.specs.Kernel.{end_in_time, paths_of}
-use Rattle.text_index.proofs.Places.{position_by_text}
+use Rattle.collections.proofs.Places.{position_by_text}
 
 -- what is found is at the first place that passes
 find_at_place : {A : Type 0} (p : A → Bool) (xs : List A) → find p xs ≡ slice_get xs (position_or_len p xs)

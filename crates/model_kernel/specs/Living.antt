@@ -6,7 +6,7 @@ use Rattle.std.specs.List.Sorted.{IsStrictlySortedBy}
 use Rattle.std.specs.Map.{keys_of, lookup}
 use Rattle.std.specs.Option.{option_map}
 use Rattle.std.specs.Ordering.{nat_cmp}
-use Rattle.agenda.specs.Moments.{is_held}
+use Rattle.collections.specs.Moments.{is_held}
 use Rattle.init_machine.specs.Kernel.{Process, has_ended}
 use Rattle.model_kernel.specs.Parts.{end_of}
 use Rattle.model_kernel.specs.declared.process.Process.{Process as ProcessInMemory}

@@ -1,7 +1,7 @@
 //! The processes that live, in the order of their pids, and when they end.
 
 use crate::process::{End, Process};
-use agenda::Agenda;
+use collections::Agenda;
 use init_base::{List, NoMemory};
 use std::alloc::Global;
 use std::collections::BTreeMap;
@@ -163,7 +163,7 @@ ghost use Rattle.std.specs.Map.{keys_of, lookup, set_value, values_of};
 ghost use Rattle.std.specs.Option.{option_copied, option_map};
 ghost use Rattle.std.specs.Ordering.{nat_cmp};
 ghost use Rattle.std.specs.Str.{bytes_eq};
-ghost use Rattle.agenda.specs.Moments.{is_held};
+ghost use Rattle.collections.specs.Moments.{is_held};
 ghost use Rattle.model_kernel.specs.Living.{slain};
 
 /// Puts the end of a process in order, where it is planned.

@@ -1,11 +1,11 @@
 //! The plans of processes, each found by its path.
 
 use crate::process::End;
+use collections::TextIndex;
 use init_base::{List, NoMemory};
 use init_machine::Plan;
 use std::alloc::Global;
 use std::marker::Model;
-use text_index::TextIndex;
 
 /// Plans of paths that differ.
 #[derive(Drop)]

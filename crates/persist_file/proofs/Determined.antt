@@ -7,7 +7,7 @@ use Rattle.std.proofs.lemmas.Bool.{and_parts}
 use Rattle.std.proofs.lemmas.List.Splits.{join_with_byte-slice_split}
 use Rattle.init_machine.specs.declared.config.Pair.{Pair}
 use Rattle.persist_file.specs.Causes.{head_reading, of_version, parts_at, version_of, IsRefused, IsUnfitAt}
-use Rattle.persist_file.specs.Readings.{behind_head, reading, rest_reading, text_reading, Answers}
+use Rattle.persist_file.specs.internal.Readings.{behind_head, reading, rest_reading, text_reading, Answers}
 use Rattle.persist_file.specs.Store.{Entry, are_entries, are_saved, ended, head_line, is_fit, lines_text, pairs_of, text_of, IsStore}
 use Rattle.persist_file.specs.declared.refusal.StoreCause.{StoreCause}
 use Rattle.persist_file.specs.declared.refusal.StoreRefusal.{StoreRefusal}

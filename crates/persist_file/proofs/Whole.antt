@@ -8,7 +8,7 @@ use Rattle.std.proofs.lemmas.List.Splits.{join_with_byte-slice_split}
 use Rattle.init_machine.specs.Pairs.{is_before}
 use Rattle.init_machine.specs.declared.config.Pair.{Pair}
 use Rattle.persist_file.specs.Causes.{is_above, last_name, line_reading, next_reading, parts_at}
-use Rattle.persist_file.specs.Readings.{behind_line, rest_reading}
+use Rattle.persist_file.specs.internal.Readings.{behind_line, rest_reading}
 use Rattle.persist_file.specs.Store.{Entry, are_saved, ended, entry, is_fit, is_saved, line_text, lines_text, names_ascend, pairs_of}
 use Rattle.persist_file.specs.declared.refusal.StoreCause.{StoreCause}
 use Rattle.persist_file.specs.declared.refusal.StoreCause.TheVariants as cause

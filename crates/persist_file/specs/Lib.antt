@@ -1,4 +1,4 @@
 pub mod Store
 pub mod Causes
-pub mod Readings
 pub mod Examples
+pub mod internal

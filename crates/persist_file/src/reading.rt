@@ -6,7 +6,7 @@ ghost use Rattle.init_base.specs.Value.{is_short_value};
 ghost use Rattle.init_machine.specs.Pairs as pairs_spec;
 ghost use Rattle.persist_file.specs.Causes.{last_name, line_reading, parts_at, with_value, IsRefused};
 ghost use Rattle.persist_file.specs.Causes as causes_spec;
-ghost use Rattle.persist_file.specs.Readings.{reading, rest_reading, text_reading, Answers};
+ghost use Rattle.persist_file.specs.internal.Readings.{reading, rest_reading, text_reading, Answers};
 ghost use Rattle.persist_file.specs.Store.{IsStore};
 ghost use Rattle.persist_file.specs.Store as store_spec;
 

@@ -5,12 +5,12 @@ ghost use Rattle.std.specs.List.{list_any};
 ghost use Rattle.std.specs.Str.{bytes_eq};
 ghost use Rattle.prop_contexts.specs.Allowances.{is_pair_for, is_pair_of, same_words};
 
+use collections::{Spelled, TextKey};
 use indexmap::{Equivalent, IndexSet};
 use init_base::{List, NoMemory, same_bytes};
 use init_machine::AllowLine;
 use std::alloc::Global;
 use std::marker::Model;
-use text_index::{Spelled, TextKey};
 
 /// A domain and a label.
 #[derive(Debug, PartialEq, Eq, Hash, Drop)]

@@ -14,12 +14,12 @@ ghost use Rattle.prop_contexts.specs.Walks.{IsWalked};
 
 use crate::digest_set::DigestSet;
 use crate::name_lengths::NameLengths;
+use collections::{Spelled, TextKey};
 use indexmap::IndexMap;
 use init_base::{NoMemory, same_bytes};
 use init_machine::Context;
 use std::alloc::Global;
 use std::marker::Model;
-use text_index::{Spelled, TextKey};
 
 /// The contexts of lines by their names, in the order of the lines.
 #[derive(Drop)]

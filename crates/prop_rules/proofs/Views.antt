@@ -13,9 +13,9 @@ use Rattle.init_base.proofs.FirstPlaces.{any_by_place}
 use Rattle.init_machine.proofs.ValuePut.{value_put}
 use Rattle.init_machine.specs.Props.{Property, Props, is_absent, lookup_in, value_in, value_of, with_set}
 use Rattle.init_machine.specs.declared.config.Pair.{Pair}
-use Rattle.text_index.specs.Texts.{with_text}
+use Rattle.collections.specs.Texts.{with_text}
 use Rattle.prop_rules.specs.View.{found_or, last_pair, legal_value_of}
-use Rattle.prop_rules.specs.Code.Views.{Shows, with_legal}
+use Rattle.prop_rules.specs.internal.Views.{Shows, with_legal}
 
 -- ---- places of names
 

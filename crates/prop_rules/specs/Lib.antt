@@ -1,5 +1,5 @@
 pub mod Answers
 pub mod Build
-pub mod Code
+pub mod internal
 pub mod Pieces
 pub mod View

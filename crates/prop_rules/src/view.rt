@@ -6,12 +6,13 @@ ghost use Rattle.init_base.specs.Value.{LegalValue};
 ghost use Rattle.init_machine.specs.Props.{is_absent, lookup_in, value_in, with_set};
 ghost use Rattle.init_machine.specs.declared.config.Pair.{Pair as AnyPair};
 ghost use Rattle.prop_rules.specs.View as spec;
-ghost use Rattle.prop_rules.specs.Code.Views.{Shows, with_legal};
+ghost use Rattle.prop_rules.specs.internal.Views.{Shows, with_legal};
 
+use collections::TextIndex;
 use init_base::{List, NoMemory, PropName, PropValue};
-use init_machine::{ListStore, Pair, PropStore};
+use init_machine::{Pair, PropStore};
+use list_store::ListStore;
 use std::alloc::Global;
-use text_index::TextIndex;
 
 /// The capacity of the view, in words: as many as can be counted.
 const CAPACITY: u64 = u64::MAX;

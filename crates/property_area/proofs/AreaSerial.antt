@@ -15,9 +15,9 @@ use Rattle.property_trie.proofs.Extending.{extends_self}
 use Rattle.property_area.specs.declared.view.AreaView.{AreaView}
 use Rattle.property_area.specs.Area.{tree_now, cell_of, Moment, world_of, WordsHold, PartHolds, ViewHolds, AreaHolds}
 use Rattle.property_area.specs.Seats.{settled_view}
-use Rattle.property_area.specs.Kept.Trees.{mark_now, mark_high, adding_else, node_lies, word_else}
-use Rattle.property_area.specs.Kept.Frame.{Mine, mine, clients_later, After, writes, goes_on}
-use Rattle.property_area.specs.Kept.CellStores.{now, stands_beside, serial_apart}
+use Rattle.property_area.specs.impl_laws.Trees.{mark_now, mark_high, adding_else, node_lies, word_else}
+use Rattle.property_area.specs.impl_laws.Frame.{Mine, mine, clients_later, After, writes, goes_on}
+use Rattle.property_area.specs.impl_laws.CellStores.{now, stands_beside, serial_apart}
 
 module _ (words : List ℕ) (m : Moment) (h : WordsHold words m) (id : ℕ) (v : AreaView) (view : ViewHolds words m id v) (making : Option Making)
     (is : v.cell ≡ Writer (sets_of v.cell) making) where

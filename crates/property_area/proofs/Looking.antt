@@ -13,13 +13,13 @@ use Rattle.serial_value.specs.declared.view.CellView.{CellView}
 use Rattle.serial_value.specs.declared.view.CellView.TheVariants.{Writer}
 use Rattle.serial_value.specs.declared.read.CellAnswer.TheVariants.{Found}
 use Rattle.serial_value.specs.Cell.{HasShortCell, Begins, Answers, accepted}
-use Rattle.serial_value.specs.Kept.Serials.{layout}
-use Rattle.serial_value.specs.Kept.Places.{at_below}
-use Rattle.serial_value.specs.Kept.Sets.{last_at, none_at, at_last_set}
-use Rattle.serial_value.specs.Kept.Bodies.{least_len}
+use Rattle.serial_value.specs.impl_laws.Serials.{layout}
+use Rattle.serial_value.specs.impl_laws.Places.{at_below}
+use Rattle.serial_value.specs.impl_laws.Sets.{last_at, none_at, at_last_set}
+use Rattle.serial_value.specs.impl_laws.Bodies.{least_len}
 use Rattle.property_trie.specs.Parts.{parts_of}
 use Rattle.property_trie.specs.Tree.{find, each_once}
-use Rattle.init_machine.specs.Kept.Room.{full_with, numbers_full}
+use Rattle.init_machine.specs.Room.{full_with, numbers_full}
 use Rattle.init_machine.proofs.Ample.{room_for_any}
 use Rattle.init_machine.proofs.LegalNames.{legal_short}
 use Rattle.property_trie.specs.TrieSteps.{tree_of, sizes_of, knowing, Finds, HasCellAt, CellInside, Lacks}
@@ -27,8 +27,8 @@ use Rattle.property_trie.specs.Additions.{mark_of, new_place}
 use Rattle.property_area.specs.declared.view.AreaView.{AreaView}
 use Rattle.property_area.specs.Area.{SetsFit, with_cell, with_trie, noted}
 use Rattle.property_area.specs.Room.{some_need}
-use Rattle.property_area.specs.Kept.Sets.{no_set}
-use Rattle.property_area.specs.Kept.Fits.{all_short, fit_more}
+use Rattle.property_area.specs.impl_laws.Sets.{no_set}
+use Rattle.property_area.specs.impl_laws.Fits.{all_short, fit_more}
 use Rattle.property_area.specs.Meaning.{props_of}
 use Rattle.atomic_table.specs.Seated.{TableId}
 use Rattle.property_trie.specs.TrieSteps.{IsAtRest}

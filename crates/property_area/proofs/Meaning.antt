@@ -16,15 +16,15 @@ use Rattle.init_base.specs.Value.{max_value_len}
 use Rattle.init_machine.specs.Words.{is_among, Sized, names_in, cell_words, nodes_of, node_words, prefixes_of, need_of}
 use Rattle.init_machine.proofs.Needs.{held_needs, need_by_new_nodes}
 use Rattle.init_machine.proofs.Sets.{names-put, names-sizes, absent-among, absent_takes, held_takes, number_left}
-use Rattle.init_machine.specs.Kept.Room.{full_with}
+use Rattle.init_machine.specs.Room.{full_with}
 use Rattle.init_machine.specs.declared.store.Full.{Full}
 use Rattle.init_machine.specs.declared.store.Full.TheVariants.{Words, Numbers}
 use Rattle.std.proofs.lemmas.Bool.Decides.{nat_tests}
 use Rattle.atomic_table.specs.Seated.{TableId}
 use Rattle.serial_value.specs.Cell.{HasShortCell}
 use Rattle.serial_value.specs.Steps.{HasCell}
-use Rattle.serial_value.specs.Kept.Places.{at_below}
-use Rattle.serial_value.specs.Kept.Sets.{none_more, first_last, last_behind, last_once, last_at}
+use Rattle.serial_value.specs.impl_laws.Places.{at_below}
+use Rattle.serial_value.specs.impl_laws.Sets.{none_more, first_last, last_behind, last_once, last_at}
 use Rattle.property_trie.specs.Parts.{parts_of}
 use Rattle.property_trie.specs.Tree.{Trie, find, node_sizes, each_once_from, each_once}
 use Rattle.property_trie.specs.TrieSteps.{sizes_of, tree_of}
@@ -34,11 +34,11 @@ use Rattle.property_trie.proofs.Lies.{cell_wide}
 use Rattle.property_trie.proofs.Tries.{finds_its_names}
 use Rattle.property_trie.proofs.Placed.{trie_more}
 use Rattle.property_area.specs.Meaning.{props_from, props_of}
-use Rattle.property_area.specs.Kept.Making.{name_eq, name_differs, same_or_other}
+use Rattle.property_area.specs.impl_laws.Making.{name_eq, name_differs, same_or_other}
 use Rattle.property_area.specs.Area.{SetsFit}
 use Rattle.property_area.specs.Room.{some_need}
-use Rattle.property_area.specs.Kept.Sets.{names_end, no_set}
-use Rattle.property_area.specs.Kept.Trees.{trie_same}
+use Rattle.property_area.specs.impl_laws.Sets.{names_end, no_set}
+use Rattle.property_area.specs.impl_laws.Trees.{trie_same}
 
 -- a set more
 pub props_more : (p : Props) (sets : List Set) (name value : List ℕ) → props_from p (sets ++ (name, value) ∷ []) ≡ with_set (props_from p sets) name value

@@ -24,8 +24,8 @@ use Rattle.serial_value.specs.declared.view.CellView.{CellView}
 use Rattle.serial_value.specs.declared.view.CellView.TheVariants.{Writer, Reader}
 use Rattle.serial_value.specs.Cell.{sets_of, name_of}
 use Rattle.serial_value.specs.World.{World, ListHolds, ReaderHolds}
-use Rattle.serial_value.specs.Kept.Lists.{MayTell, tells, seen_through-end, in_order-end}
-use Rattle.serial_value.specs.Kept.Places.{at_end}
+use Rattle.serial_value.specs.impl_laws.Lists.{MayTell, tells, seen_through-end, in_order-end}
+use Rattle.serial_value.specs.impl_laws.Places.{at_end}
 use Rattle.serial_value.proofs.Agains.{few_by_sets}
 use Rattle.property_area.specs.declared.view.Client.{Client}
 use Rattle.property_area.specs.declared.view.AreaView.{AreaView}
@@ -35,8 +35,8 @@ use Rattle.property_area.specs.declared.view.Arrival.{Arrival}
 use Rattle.property_area.specs.Area.{requests_in, requests_of, out_seat, list_in, Moment, world_of, WordsHold, ClientsHold, Brings, ArrivalHolds, AskedHolds, PartHolds, ViewHolds, AreaHolds}
 use Rattle.property_area.specs.Seats.{sets_in, IsStill}
 use Rattle.property_area.specs.Readers.{client_in, others_in, IsIn, without, handing, handed, client_of, arriving, put_away, spent, synced, seen_by, caught, asker_of, request_of, recording, opening_with, ComesNext, EachClientStands}
-use Rattle.property_area.specs.Kept.Requests.{requests_told, requests_asked, requests_own, requests_other, asked_told}
-use Rattle.property_area.specs.Kept.Frame.{St, Carried, Mine, mine, reads}
+use Rattle.property_area.specs.impl_laws.Requests.{requests_told, requests_asked, requests_own, requests_other, asked_told}
+use Rattle.property_area.specs.impl_laws.Frame.{St, Carried, Mine, mine, reads}
 
 -- an empty list that begins with the sets that there are, or with none
 fresh_list : (w : World) (began more : List Set) → w.sets ≡ began ++ more → ListHolds w began []

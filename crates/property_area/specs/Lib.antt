@@ -3,5 +3,5 @@ pub mod Seats
 pub mod Readers
 pub mod Meaning
 pub mod Room
-pub mod Kept
+pub mod impl_laws
 pub mod Places

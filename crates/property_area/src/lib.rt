@@ -2,7 +2,7 @@
 //!
 //! The words are a head, the trie of the names and the cells of the values, as docs/AREA.md lays them out. `WordArea` is the
 //! rule that the table keeps between any two steps (`specs/Area.antt`): it meets `CellRule` and `TrieRule`, so that
-//! `write_cell`, `read_cell`, `find`, `need` and `add` serve on it. Why each kind of step keeps it stands in `specs/Kept/`, a
+//! `write_cell`, `read_cell`, `find`, `need` and `add` serve on it. Why each kind of step keeps it stands in `specs/impl_laws/`, a
 //! file for each.
 #![tactic(auto)]
 

@@ -4,10 +4,10 @@ ghost use Rattle.std.specs.Prelude.{◌≡◌, ℕ, List as Items, None, Some, O
 ghost use Rattle.std.specs.Str.{bytes_eq};
 ghost use Rattle.property_area.specs.Places.{place_in, Notes};
 
+use collections::{Spelled, TextKey};
 use indexmap::IndexMap;
 use init_base::NoMemory;
 use std::alloc::Global;
-use text_index::{Spelled, TextKey};
 
 /// The places of cells by their names. A place for which memory lacks isn't noted.
 #[derive(Drop)]

@@ -19,10 +19,10 @@ impl TableRule<(), AreaView, u64> for WordArea {
 impl CellRule<AreaView, u64> for WordArea {
     ghost use Rattle.std.specs.Prelude.{refl};
     ghost use Rattle.property_area.specs.Area.{with_cell as with_area_cell, noted as noted_area, Linked as LinkedArea, Settled as SettledArea};
-    ghost use Rattle.property_area.specs.Kept.CellSteps.{area_backup, area_dirty, area_value};
-    ghost use Rattle.property_area.specs.Kept.Accepting.{area_clean};
-    ghost use Rattle.property_area.specs.Kept.CellLoads.{area_first, area_copied, area_last};
-    ghost use Rattle.property_area.specs.Kept.Lists.{area_writer, area_lists};
+    ghost use Rattle.property_area.specs.impl_laws.CellSteps.{area_backup, area_dirty, area_value};
+    ghost use Rattle.property_area.specs.impl_laws.Accepting.{area_clean};
+    ghost use Rattle.property_area.specs.impl_laws.CellLoads.{area_first, area_copied, area_last};
+    ghost use Rattle.property_area.specs.impl_laws.Lists.{area_writer, area_lists};
 
     fn no_call(&self) {}
 
@@ -80,10 +80,10 @@ impl CellRule<AreaView, u64> for WordArea {
 impl TrieRule<AreaView, u64> for WordArea {
     ghost use Rattle.std.specs.Prelude.{refl};
     ghost use Rattle.property_area.specs.Area.{with_trie as with_area_trie};
-    ghost use Rattle.property_area.specs.Kept.Walks.{area_followed, area_length, area_word, area_cell_link};
-    ghost use Rattle.property_area.specs.Kept.Fresh.{area_fresh};
-    ghost use Rattle.property_area.specs.Kept.Nodes.{area_node};
-    ghost use Rattle.property_area.specs.Kept.Linking.{area_linked};
+    ghost use Rattle.property_area.specs.impl_laws.Walks.{area_followed, area_length, area_word, area_cell_link};
+    ghost use Rattle.property_area.specs.impl_laws.Fresh.{area_fresh};
+    ghost use Rattle.property_area.specs.impl_laws.Nodes.{area_node};
+    ghost use Rattle.property_area.specs.impl_laws.Linking.{area_linked};
 
     ghost trie = { λ v. v.trie };
 

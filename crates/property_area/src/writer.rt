@@ -8,12 +8,12 @@ use crate::handing::{
 };
 use crate::index::Index;
 use crate::reader::Reader;
-use crate::room::{check_numbers, check_room, has_room_for_any};
+use crate::room::check_room;
 use crate::store::{look_up, number_of, set, words_needed};
 use crate::view::AreaView;
 use atomic_table::Seat;
 use init_base::{ClientId, NoMemory, PropName, PropValue};
-use init_machine::{Config, Full, Input, PolicyView, PropStore};
+use init_machine::{Config, Full, Input, PolicyView, PropStore, check_numbers, has_room_for_any};
 use std::alloc::Global;
 use std::marker::{Brand, Model};
 
@@ -154,7 +154,7 @@ impl<'a> AreaWriter<'a> {
 impl<'a> PropStore for AreaWriter<'a> {
     ghost use Rattle.std.specs.Prelude.{◌≡◌, ◌≤◌, Some, IsOk, OnOk};
     ghost use Rattle.property_area.specs.Seats.{sets_in, store_of, IsSameBeside};
-    ghost use Rattle.property_area.specs.Kept.Stores.{same_itself, same_on};
+    ghost use Rattle.property_area.specs.impl_laws.Stores.{same_itself, same_on};
 
     ghost meaning = { λ s. store_of s.view };
 

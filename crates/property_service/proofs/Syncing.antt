@@ -22,8 +22,8 @@ use Rattle.property_service.proofs.Seats.{keeps_seats}
 use Rattle.property_service.specs.Back.{ComesBack}
 use Rattle.property_service.specs.Desk.{DeskHolds}
 use Rattle.property_service.specs.Service.{ServiceView, has_seat, recorded_service}
-use Rattle.serial_value.specs.Kept.Lists.{in_order-end}
-use Rattle.serial_value.specs.Kept.Places.{at_end}
+use Rattle.serial_value.specs.impl_laws.Lists.{in_order-end}
+use Rattle.serial_value.specs.impl_laws.Places.{at_end}
 
 same_told : (r r' : Reading) → Told r ≡ Told r' → r ≡ r'
 same_told r r' e = cc

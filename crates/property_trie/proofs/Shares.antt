@@ -5,7 +5,7 @@ use Rattle.std.specs.List.{flat_map}
 use Rattle.std.proofs.Math.Seq.{drop-nil}
 use Rattle.std.proofs.lemmas.Bool.{ltb-true, ltb-false}
 use Rattle.std.proofs.lemmas.Bool.Decides.{nat_tests}
-use Rattle.init_machine.specs.Kept.Nodes.{total_beyond}
+use Rattle.init_machine.specs.internal.Nodes.{total_beyond}
 use Rattle.init_machine.specs.Words.{is_among, prefixes_of, node_words, Sized, names_in, cell_words, need_of}
 use Rattle.init_machine.proofs.DistinctSums.{total, among-append}
 use Rattle.init_machine.proofs.Needs.{sum-total, need_beyond}

@@ -54,7 +54,7 @@ fn word_of_node(part: &[u8], k: usize) -> u64
 }
 
 /// Word `k` of a new cell.
-#[tactic(auto, using(serial_value::specs::Kept::Bodies::cell_words_body))]
+#[tactic(auto, using(serial_value::specs::impl_laws::Bodies::cell_words_body))]
 fn word_of_cell(number: u64, value: &[u8], k: usize) -> u64
     requires within { length value.now ≤ 8191 }
     requires number { number < 2 ^ 55 }

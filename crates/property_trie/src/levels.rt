@@ -16,10 +16,10 @@ ghost use Rattle.property_trie.specs.Levels as spec;
 use crate::level::Level;
 use crate::part::node_size;
 use crate::walk::part_len;
+use collections::{Spelled, TextKey};
 use indexmap::IndexMap;
 use init_base::NoMemory;
 use std::alloc::Global;
-use text_index::{Spelled, TextKey};
 
 /// The byte between two parts.
 const DOT: u8 = b'.';

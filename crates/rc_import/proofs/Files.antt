@@ -6,7 +6,7 @@ use Rattle.rc_parse.specs.declared.parsed.Import.{Import}
 use Rattle.rc_parse.specs.declared.parsed.Parsed.{Parsed}
 use Rattle.rc_import.specs.Limits.{SoFar, with_bytes, with_file}
 use Rattle.rc_import.specs.World.{World}
-use Rattle.rc_import.specs.Code.Steps.{Holds, MeansFiles, ReachesImports, Stands}
+use Rattle.rc_import.specs.internal.Steps.{Holds, MeansFiles, ReachesImports, Stands}
 use Rattle.rc_import.specs.declared.loading.Loading.{Loading}
 
 is_not_below : (a b : ℕ) → b ≤ a → nat_lt a b ≡ false

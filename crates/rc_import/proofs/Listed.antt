@@ -4,7 +4,7 @@ use Rattle.std.proofs.lemmas.List.Sorted.{length_permutation}
 use Rattle.init_base.specs.Outside.{ListsFew, ListsNames}
 use Rattle.init_base.specs.Tree.{names_in}
 use Rattle.rc_import.specs.Names.{in_byte_order}
-use Rattle.rc_import.specs.Code.Listings.{ListsInOrder}
+use Rattle.rc_import.specs.internal.Listings.{ListsInOrder}
 use Rattle.rc_import.proofs.Sorted.{same_order}
 
 listed_names : (tree : Option (List (List ℕ × List ℕ))) (dir : List ℕ) (names sorted : List (List ℕ)) → ListsNames tree dir (Ok (Some names)) → length names ≤ 1024

@@ -8,7 +8,7 @@ use Rattle.rc_import.specs.Answers.{IsAnswer}
 use Rattle.rc_import.specs.Limits.{SoFar, loaded, loaded_from, loaded_of, nothing, onward, with_all}
 use Rattle.rc_import.specs.Order.{Met, at_file, at_first, at_target, directories, in_directory, order, root_file}
 use Rattle.rc_import.specs.World.{IsWorld, World}
-use Rattle.rc_import.specs.Code.Steps.{Follows, FollowsFile, Holds, IsGatheredOf, Stands, Stops}
+use Rattle.rc_import.specs.internal.Steps.{Follows, FollowsFile, Holds, IsGatheredOf, Stands, Stops}
 use Rattle.rc_import.specs.declared.loaded.Loaded.{Loaded}
 use Rattle.rc_import.specs.declared.loaded.LoadRefusal.{LoadRefusal}
 use Rattle.rc_import.specs.declared.loaded.LoadRefusal.TheVariants.{NoInit, ReadFault, TooLarge, TooMany, NoMemory}

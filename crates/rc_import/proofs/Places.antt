@@ -13,8 +13,8 @@ use Rattle.rc_import.specs.Names.{in_byte_order}
 use Rattle.rc_import.specs.Order.{Met, File, at_directory, at_expanded, at_file, at_import, at_path, at_target, fault}
 use Rattle.rc_import.specs.Paths.{bare, file_in, is_absolute}
 use Rattle.rc_import.specs.World.{IsWorld, World}
-use Rattle.rc_import.specs.Code.Listings.{HasNames, ListsInOrder}
-use Rattle.rc_import.specs.Code.Steps.{Follows, FollowsFile, Holds, IsFile, Reaches, ReachesFile, ReachesImports, Stands, Stops, imports_at}
+use Rattle.rc_import.specs.internal.Listings.{HasNames, ListsInOrder}
+use Rattle.rc_import.specs.internal.Steps.{Follows, FollowsFile, Holds, IsFile, Reaches, ReachesFile, ReachesImports, Stands, Stops, imports_at}
 use Rattle.rc_import.specs.declared.loaded.LoadLimit.TheVariants as limits
 use Rattle.rc_import.specs.declared.loaded.LoadRefusal.{LoadRefusal}
 use Rattle.rc_import.specs.declared.loaded.LoadRefusal.TheVariants.{NoInit, ReadFault, TooLarge, TooMany, NoMemory}

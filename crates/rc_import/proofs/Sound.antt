@@ -48,7 +48,7 @@ use Rattle.rc_parse.specs.declared.trigger.Trigger.{Trigger}
 use Rattle.rc_parse.specs.declared.trigger.Trigger.TheVariants.{Event, Test}
 use Rattle.rc_parse.specs.declared.trigger.Triggers.{Triggers}
 use Rattle.rc_parse.specs.declared.merging.Merger.{Merger}
-use Rattle.rc_import.specs.Code.Sound.{AreSound, IsGathered}
+use Rattle.rc_import.specs.internal.Sound.{AreSound, IsGathered}
 
 -- ---- tests
 

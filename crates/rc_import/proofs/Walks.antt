@@ -4,7 +4,7 @@ use Rattle.std.specs.List.{flat_map}
 use Rattle.rc_import.specs.Limits.{SoFar, onward, with_all, with_met}
 use Rattle.rc_import.specs.Order.{Met}
 use Rattle.rc_import.specs.World.{IsWorld, World}
-use Rattle.rc_import.specs.Code.Steps.{Continues, Follows, Holds, Reaches, Stops}
+use Rattle.rc_import.specs.internal.Steps.{Continues, Follows, Holds, Reaches, Stops}
 use Rattle.rc_import.specs.declared.loaded.LoadRefusal.{LoadRefusal}
 use Rattle.rc_import.specs.declared.loaded.LoadRefusal.TheVariants.{NoInit, ReadFault, TooLarge, TooMany, NoMemory}
 use Rattle.rc_import.specs.declared.loading.Loading.{Loading}

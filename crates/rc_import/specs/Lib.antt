@@ -1,5 +1,5 @@
 pub mod Answers
-pub mod Code
+pub mod internal
 pub mod Limits
 pub mod Names
 pub mod Order

@@ -12,7 +12,7 @@ ghost use Rattle.rc_import.specs.Order.{at_first, directories, in_directory};
 ghost use Rattle.rc_import.specs.Paths as paths_spec;
 ghost use Rattle.rc_import.specs.Stores.{IsKept};
 ghost use Rattle.rc_import.specs.World.{IsWorld, World};
-ghost use Rattle.rc_import.specs.Code.Steps.{Follows, FollowsFile, IsGatheredOf};
+ghost use Rattle.rc_import.specs.internal.Steps.{Follows, FollowsFile, IsGatheredOf};
 
 use crate::gathered::Gathered;
 use crate::gathers::Gathers;

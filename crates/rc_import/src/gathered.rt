@@ -5,7 +5,7 @@ ghost use Rattle.init_machine.specs.WellFormed.{IsWellFormed};
 ghost use Rattle.init_machine.specs.declared.service.ServiceDef.{ServiceDef};
 ghost use Rattle.rc_parse.specs.Files.{Reads};
 ghost use Rattle.rc_parse.specs.Kept.{Kept, agains_behind, kept};
-ghost use Rattle.rc_import.specs.Code.Sound.{AreSound};
+ghost use Rattle.rc_import.specs.internal.Sound.{AreSound};
 
 use crate::gathers::Gathers;
 use init_base::{List, NoMemory, Text};
@@ -26,7 +26,7 @@ impl Model for Gathered {
 
     ghost Value = { Merger };
 
-    ghost use Rattle.rc_import.specs.Code.Sound.{IsGathered};
+    ghost use Rattle.rc_import.specs.internal.Sound.{IsGathered};
 
     ghost view = { λ g. g.merger };
 

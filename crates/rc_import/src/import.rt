@@ -10,7 +10,7 @@ ghost use Rattle.rc_import.specs.Answers.{HasItsNumber, is_read_fault};
 ghost use Rattle.rc_import.specs.Order.{at_expanded, at_file, at_import, at_path, at_target, fault};
 ghost use Rattle.rc_import.specs.Paths as spec;
 ghost use Rattle.rc_import.specs.Stores.{IsKept};
-ghost use Rattle.rc_import.specs.Code.Steps.{Follows, FollowsFile};
+ghost use Rattle.rc_import.specs.internal.Steps.{Follows, FollowsFile};
 
 use crate::gathers::Gathers;
 use crate::listing::list;

@@ -3,7 +3,7 @@
 ghost use Rattle.std.specs.Prelude.{◌≡◌, IfOk, OnOk};
 ghost use Rattle.init_base.specs.Faults.{Counted};
 ghost use Rattle.rc_import.specs.Answers.{HasItsNumber, is_read_fault};
-ghost use Rattle.rc_import.specs.Code.Listings.{ListsInOrder};
+ghost use Rattle.rc_import.specs.internal.Listings.{ListsInOrder};
 ghost use Rattle.rc_import.specs.Names as spec;
 
 use crate::loaded::{LoadLimit, LoadRefusal};

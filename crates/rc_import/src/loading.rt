@@ -9,7 +9,7 @@ ghost use Rattle.rc_import.specs.Limits as spec;
 ghost use Rattle.rc_import.specs.Order.{fault};
 ghost use Rattle.rc_import.specs.World.{IsWorld, World};
 ghost use Rattle.rc_parse.specs.declared.parsed.Parsed.{Parsed};
-ghost use Rattle.rc_import.specs.Code.Steps.{Follows, IsFile, IsShort, MeansFiles, ReachesImports, ReadsContent, Stands};
+ghost use Rattle.rc_import.specs.internal.Steps.{Follows, IsFile, IsShort, MeansFiles, ReachesImports, ReadsContent, Stands};
 
 use crate::gathers::Gathers;
 use crate::loaded::{LoadLimit, LoadRefusal};

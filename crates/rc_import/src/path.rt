@@ -3,7 +3,7 @@
 ghost use Rattle.std.specs.Prelude.{◌≡◌, ◌∷◌, ◌++◌, ◌≤◌, IfOk, length};
 ghost use Rattle.init_machine.specs.Expand as expand_spec;
 ghost use Rattle.init_machine.specs.Props.{value_in};
-ghost use Rattle.rc_import.specs.Code.Steps.{IsExpanded};
+ghost use Rattle.rc_import.specs.internal.Steps.{IsExpanded};
 ghost use Rattle.rc_import.specs.Stores.{IsKept};
 ghost use Rattle.rc_import.specs.Paths as paths_spec;
 

@@ -5,7 +5,7 @@ use Rattle.std.specs.List.{flat_map}
 use Rattle.rc_parse.specs.Lines.{Section, is_header, lines_before_header, sections}
 use Rattle.rc_tokens.specs.Lines.{Line}
 use Rattle.rc_parse.specs.Lines.{is_on, is_service}
-use Rattle.rc_lint.specs.Code.Steps.{is_excused_at}
+use Rattle.rc_lint.specs.internal.Steps.{is_excused_at}
 use Rattle.rc_lint.specs.Excused.{all_taken_elsewhere, good_header, numbers_of, taken_elsewhere}
 use Rattle.rc_lint.specs.declared.excuse.Part.TheVariants as part
 

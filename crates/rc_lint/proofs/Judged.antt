@@ -6,8 +6,8 @@ use Rattle.std.proofs.lemmas.List.{drop_all}
 use Rattle.std.proofs.lemmas.List.Elements.{All-get_or}
 use Rattle.std.proofs.lemmas.Option.{slice_get-get_or}
 use Rattle.init_machine.specs.declared.diagnostic.Diagnostic.{Diagnostic}
-use Rattle.rc_lint.specs.Code.Judged.{told_by}
-use Rattle.rc_lint.specs.Code.Sources.{AreSourcesOf, HasSourceAt, IsSourceOf}
+use Rattle.rc_lint.specs.internal.Judged.{told_by}
+use Rattle.rc_lint.specs.internal.Sources.{AreSourcesOf, HasSourceAt, IsSourceOf}
 use Rattle.rc_lint.specs.Excused.{all_taken_elsewhere, errors_among, is_excusable, is_excused}
 use Rattle.rc_lint.specs.Told.{Told, lines_at}
 use Rattle.rc_lint.specs.declared.source.Source.{Source}

@@ -17,7 +17,7 @@ use Rattle.rc_import.specs.declared.loaded.LoadLimit.TheVariants as limits
 use Rattle.rc_import.specs.declared.loaded.LoadRefusal.{LoadRefusal}
 use Rattle.rc_import.specs.declared.loaded.LoadRefusal.TheVariants as why
 use Rattle.rc_import.proofs.BuildFiles.{both_read}
-use Rattle.rc_lint.specs.Code.Steps.{AreBuildFiles, GivesBuildFile, GivesBuildFiles, GivesText, RefusesText}
+use Rattle.rc_lint.specs.internal.Steps.{AreBuildFiles, GivesBuildFile, GivesBuildFiles, GivesText, RefusesText}
 use Rattle.rc_lint.specs.Loads.{IsWorldOf, Tree, behind_build_file, build_text, faults_of, loaded, pairs_of, system_path, vendor_path, with_build_files}
 
 -- ---- build files

@@ -7,8 +7,8 @@ use Rattle.std.proofs.lemmas.Option.{slice_get_within}
 use Rattle.std.proofs.lemmas.List.Elements.{All-append, All-cons}
 use Rattle.std.proofs.lemmas.Slice.Eq.{bytes_eq-Decides}
 use Rattle.rc_tokens.specs.Lines.{Line}
-use Rattle.rc_lint.specs.Code.Sources.{AreSourcesOf, HasSourceAt, IsSourceOf}
-use Rattle.rc_lint.specs.Code.Steps.{HasNumbers}
+use Rattle.rc_lint.specs.internal.Sources.{AreSourcesOf, HasSourceAt, IsSourceOf}
+use Rattle.rc_lint.specs.internal.Steps.{HasNumbers}
 use Rattle.rc_lint.specs.Excused.{all_taken_elsewhere}
 use Rattle.rc_lint.specs.Told.{Told, lines_at}
 use Rattle.rc_lint.specs.declared.source.Source.{Source}

@@ -11,8 +11,8 @@ use Rattle.rc_import.specs.Answers.{IsAnswer, is_read_fault}
 use Rattle.rc_import.specs.declared.loaded.Loaded.{Loaded}
 use Rattle.rc_import.specs.declared.loaded.LoadRefusal.{LoadRefusal}
 use Rattle.rc_import.specs.declared.loaded.LoadRefusal.TheVariants as why
-use Rattle.rc_lint.specs.Code.Reported.{status_of}
-use Rattle.rc_lint.specs.Code.Sources.{IsLater}
+use Rattle.rc_lint.specs.internal.Reported.{status_of}
+use Rattle.rc_lint.specs.internal.Sources.{IsLater}
 use Rattle.rc_lint.specs.Keeps.{IsUnkept, LintKeeps}
 use Rattle.rc_lint.specs.Loads.{loaded}
 use Rattle.rc_lint.specs.Says.{IsReport, IsUnwritten, LintSays, ReportsFront, Tells}

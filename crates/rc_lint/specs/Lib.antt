@@ -5,4 +5,4 @@ pub mod Excused
 pub mod Status
 pub mod Says
 pub mod Keeps
-pub mod Code
+pub mod internal

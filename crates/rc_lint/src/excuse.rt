@@ -5,8 +5,8 @@ ghost use Rattle.std.specs.List.{list_any};
 ghost use Rattle.init_base.specs.Tree.{has_name};
 ghost use Rattle.rc_parse.specs.Lines.{lines_before_header};
 ghost use Rattle.rc_parse.specs.Triggers.{is_equals_sign, triggers_of};
-ghost use Rattle.rc_lint.specs.Code.Steps.{HasNumbers};
-ghost use Rattle.rc_lint.specs.Code.Steps as steps_spec;
+ghost use Rattle.rc_lint.specs.internal.Steps.{HasNumbers};
+ghost use Rattle.rc_lint.specs.internal.Steps as steps_spec;
 ghost use Rattle.rc_lint.specs.Excused.{all_taken_elsewhere, good_header, number_if, numbers_of};
 ghost use Rattle.rc_lint.specs.Excused as excused_spec;
 

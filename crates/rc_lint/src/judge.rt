@@ -3,8 +3,8 @@
 ghost use Rattle.std.specs.Prelude.{◌≡◌, ◌++◌, IfErr, IfOk, OnOk};
 ghost use Rattle.init_base.specs.Faults.{Counted};
 ghost use Rattle.rc_import.specs.Answers.{is_read_fault};
-ghost use Rattle.rc_lint.specs.Code.Judged.{told_by};
-ghost use Rattle.rc_lint.specs.Code.Sources.{IsLater};
+ghost use Rattle.rc_lint.specs.internal.Judged.{told_by};
+ghost use Rattle.rc_lint.specs.internal.Sources.{IsLater};
 ghost use Rattle.rc_lint.specs.Excused.{errors_among};
 ghost use Rattle.lint_findings.specs.Findings.{diagnostics_of};
 ghost use Rattle.rc_lint.specs.Told.{IsTold, Told};

@@ -6,7 +6,7 @@ ghost use Rattle.rc_import.specs.Answers.{IsAnswer, is_read_fault};
 ghost use Rattle.rc_import.specs.World.{World};
 ghost use Rattle.rc_lint.specs.Loads.{IsWorldOf};
 ghost use Rattle.rc_lint.specs.Loads as spec;
-ghost use Rattle.rc_lint.specs.Code.Steps.{GivesBuildFile, GivesBuildFiles, GivesText};
+ghost use Rattle.rc_lint.specs.internal.Steps.{GivesBuildFile, GivesBuildFiles, GivesText};
 
 use init_base::{Files, ReadRefusal, Text};
 use prop_rules::{BuildProps, boot_view, build_props};

@@ -10,14 +10,15 @@ mod word;
 
 use crate::source::Source;
 use crate::watched::SeenFiles;
+use collections::TextIndex;
 use init_base::{NoMemory, Text};
-use init_machine::{Config, DiagKind, Diagnostic, ListStore, ServiceDef};
+use init_machine::{Config, DiagKind, Diagnostic, ServiceDef};
 use lint_findings::Place;
+use list_store::ListStore;
 use prop_rules::boot_view;
 use rc_parse::{arguments, first_word};
 use std::alloc::Global;
 pub use text::Message;
-use text_index::TextIndex;
 
 /// What is known of a tree where its diagnostics are told.
 #[derive(Drop)]

@@ -5,12 +5,13 @@ ghost use Rattle.std.specs.List.{list_any};
 ghost use Rattle.init_base.specs.Faults.{Counted};
 ghost use Rattle.init_machine.specs.declared.diagnostic.Diagnostic.{Diagnostic as AnyDiagnostic};
 ghost use Rattle.rc_import.specs.Answers.{is_read_fault};
-ghost use Rattle.rc_lint.specs.Code.Sources.{AreSourcesOf, HasSourceAt, IsLater, IsSourceOf};
+ghost use Rattle.rc_lint.specs.internal.Sources.{AreSourcesOf, HasSourceAt, IsLater, IsSourceOf};
 ghost use Rattle.rc_lint.specs.Excused as excused_spec;
 ghost use Rattle.rc_lint.specs.Told.{IsTold, Told, lines_at};
 ghost use Rattle.rc_lint.specs.Told as told_spec;
 
 use crate::excuse::{Part, taken_elsewhere};
+use collections::TextIndex;
 use init_base::{Files, List, NoMemory, ReadRefusal, Text};
 use init_machine::{DiagKind, Diagnostic};
 use rc_import::LoadRefusal;
@@ -18,7 +19,6 @@ use rc_parse::{is_header, is_on, is_service};
 use rc_tokens::{Line, LineSlice, TokenRefusal, Tokens, lines};
 use std::alloc::Global;
 use std::collections::HashSet;
-use text_index::TextIndex;
 
 /// The most bytes of a file.
 const MOST_BYTES: usize = 1_048_576;

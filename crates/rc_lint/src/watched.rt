@@ -4,9 +4,9 @@ ghost use Rattle.std.specs.Prelude.{◌≡◌, ℕ, List as Items, Option as May
 
 use crate::loading::{SYSTEM_PATH, VENDOR_PATH};
 use crate::quotes::spanned_line;
+use collections::TextIndex;
 use init_base::{Files, Found, List, NoMemory, Text};
 use std::alloc::Global;
-use text_index::TextIndex;
 
 const BYTE_ORDER_MARK: &[u8] = b"\xef\xbb\xbf";
 

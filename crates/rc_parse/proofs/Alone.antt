@@ -4,7 +4,7 @@ use Rattle.std.specs.List.{before_first, flat_map, list_any, position}
 use Rattle.init_base.specs.Name.{is_legal_name}
 use Rattle.init_machine.specs.declared.diagnostic.DiagKind.{DiagKind}
 use Rattle.init_machine.specs.declared.diagnostic.DiagKind.TheVariants.{BadTrigger, TwiceProp}
-use Rattle.rc_parse.specs.Code.Skimming.{settled}
+use Rattle.rc_parse.specs.internal.Skimming.{settled}
 use Rattle.init_machine.specs.declared.diagnostic.Diagnostic.{Diagnostic}
 use Rattle.rc_parse.specs.Lines.{Section, arguments, first_word}
 use Rattle.rc_parse.specs.Readings.{IsReading, diagnostic, is_bad, values}

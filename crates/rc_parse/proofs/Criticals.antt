@@ -7,7 +7,7 @@ use Rattle.std.proofs.lemmas.Bool.{cond-true, or_left, or_right, lt-ltb}
 use Rattle.init_machine.specs.declared.diagnostic.DiagKind.{DiagKind}
 use Rattle.init_machine.specs.declared.diagnostic.DiagKind.TheVariants.{BadOption}
 use Rattle.init_machine.specs.declared.service.Critical.{Critical}
-use Rattle.rc_parse.specs.Code.Parts.{with_first, with_part}
+use Rattle.rc_parse.specs.internal.Parts.{with_first, with_part}
 use Rattle.rc_parse.specs.Readings.{is_bad, IsReading, values}
 use Rattle.rc_parse.specs.Values.{critical_for, critical_of, last_value, part_of, target_part, targets_in, targets_of, window_part, window_of, windows_in, windows_of}
 use Rattle.rc_parse.specs.declared.critical.CriticalPart.{CriticalPart}

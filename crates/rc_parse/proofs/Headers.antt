@@ -6,7 +6,7 @@ use Rattle.std.proofs.lemmas.List.Sums.{prefix_len-le-length}
 use Rattle.std.specs.List.{position_or_len}
 use Rattle.rc_tokens.specs.Lines.{Line}
 use Rattle.rc_parse.specs.Lines.{sections, is_header, lines_before_header}
-use Rattle.rc_parse.specs.Code.Adding.{from_header, section_of}
+use Rattle.rc_parse.specs.internal.Adding.{from_header, section_of}
 
 pub none_before : (line : Line) (lines : List Line) → is_header line ≡ true → lines_before_header (line ∷ lines) ≡ []
 none_before line lines is = ap (λ (b : Bool). take (cond (not b) (1 + position_or_len is_header lines) 0) (line ∷ lines)) is

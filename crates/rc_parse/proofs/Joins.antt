@@ -6,7 +6,7 @@ use Rattle.std.proofs.lemmas.Bool.{lt-ltb}
 use Rattle.init_machine.specs.declared.action.PropTest.{PropTest}
 use Rattle.init_machine.specs.declared.diagnostic.DiagKind.{DiagKind}
 use Rattle.init_machine.specs.declared.diagnostic.DiagKind.TheVariants.{BadTrigger}
-use Rattle.rc_parse.specs.Code.Joining.{with_trigger, with_reading, then_joined, behind_joiner, joined_onto, joined_of}
+use Rattle.rc_parse.specs.internal.Joining.{with_trigger, with_reading, then_joined, behind_joiner, joined_onto, joined_of}
 use Rattle.rc_parse.specs.Readings.{is_bad, IsReading, values}
 use Rattle.rc_parse.specs.Triggers.{is_joiner, trigger_of, odd_words, joiners, events_in, tests_in, events_of, tests_of, good_triggers, first_of}
 use Rattle.rc_parse.specs.declared.fault.Fault.{Fault}

@@ -5,7 +5,7 @@ use Rattle.std.specs.BTreeSet.{BTreeSet, contains}
 use Rattle.std.specs.Cmp.Lexicographic.{slice_cmp}
 use Rattle.std.specs.Ordering.{nat_cmp, is_eq}
 use Rattle.std.specs.Str.{bytes_eq}
-use Rattle.rc_parse.specs.Code.Names.{has_name}
+use Rattle.rc_parse.specs.internal.Names.{has_name}
 
 either : (first second : Bool) → cond first true second ≡ (first || second)
 either true second = refl

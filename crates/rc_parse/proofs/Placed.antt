@@ -13,7 +13,7 @@ use Rattle.rc_parse.specs.Readings.{diagnosed}
 use Rattle.rc_parse.specs.Sections.{Sections, header_args, command_at, setting_at, action_diagnostics, service_diagnostics, import_diagnostics, diagnostics_of, orphan_diagnostics, cut}
 use Rattle.rc_parse.specs.Services.{is_service_header}
 use Rattle.rc_parse.specs.Triggers.{triggers_of}
-use Rattle.rc_parse.specs.Code.Adding.{section_of}
+use Rattle.rc_parse.specs.internal.Adding.{section_of}
 use Rattle.rc_parse.specs.declared.parsed.Parsed.{Parsed}
 use Rattle.rc_parse.specs.declared.trigger.Triggers.{Triggers}
 

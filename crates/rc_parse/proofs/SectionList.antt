@@ -10,7 +10,7 @@ use Rattle.rc_tokens.specs.Lines.{Line, Tokens}
 use Rattle.rc_parse.specs.Lines.{Section, sections, is_header, is_on, lines_before_header}
 use Rattle.rc_parse.specs.Sections.{Sections, header_args, commands_of, has_command, action_under, actions_of, services_of, imports_of, diagnostics_of, orphan_diagnostics, cut}
 use Rattle.rc_parse.specs.Triggers.{triggers_of}
-use Rattle.rc_parse.specs.Code.Adding.{from_header, section_of, with_diagnostics, with_section, with_sections}
+use Rattle.rc_parse.specs.internal.Adding.{from_header, section_of, with_diagnostics, with_section, with_sections}
 use Rattle.rc_parse.specs.declared.parsed.Parsed.{Parsed}
 use Rattle.rc_parse.specs.declared.trigger.Triggers.{Triggers}
 use Rattle.rc_parse.proofs.Headers.{one_section, same_sections, is_first_header}

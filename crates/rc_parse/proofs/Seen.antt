@@ -3,7 +3,7 @@ use Rattle.std.proofs.Common.{◌≡◌, ℕ, ◌<◌, Bool, true, false, ◌||�
 use Rattle.std.specs.List.{list_any}
 use Rattle.std.specs.BTreeSet.{BTreeSet}
 use Rattle.std.specs.Str.{bytes_eq}
-use Rattle.rc_parse.specs.Code.Names.{has_name}
+use Rattle.rc_parse.specs.internal.Names.{has_name}
 use Rattle.rc_parse.specs.Triggers.{has_twice}
 use Rattle.rc_parse.proofs.NameSets.{HasMore, has_more}
 use Rattle.init_machine.specs.declared.action.PropTest.{PropTest}

@@ -8,11 +8,11 @@ use Rattle.init_machine.specs.declared.action.Action.{Action}
 use Rattle.init_machine.specs.declared.diagnostic.Diagnostic.{Diagnostic}
 use Rattle.init_machine.specs.declared.service.ServiceDef.{ServiceDef}
 use Rattle.rc_tokens.specs.Lines.{Line}
-use Rattle.rc_parse.specs.Code.Adding.{section_of, setting_diagnostics, with_section}
+use Rattle.rc_parse.specs.internal.Adding.{section_of, setting_diagnostics, with_section}
 use Rattle.rc_parse.specs.Lines.{arguments, is_on, is_service}
 use Rattle.rc_parse.specs.Sections.{actions_of, services_of, imports_of, diagnostics_of, settings_of}
 use Rattle.rc_parse.specs.Services.{is_service_header, service_with, is_disabled, is_oneshot, is_override, classes_in, criticals_in, periods_in, timeouts_in, commands_in, kept_in}
-use Rattle.rc_parse.specs.Code.Settings.{with_setting, with_settings}
+use Rattle.rc_parse.specs.internal.Settings.{with_setting, with_settings}
 use Rattle.rc_parse.specs.Values.{last_value}
 use Rattle.rc_parse.specs.declared.parsed.Import.{Import}
 use Rattle.rc_parse.specs.declared.parsed.Parsed.{Parsed}

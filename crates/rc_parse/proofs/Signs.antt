@@ -4,7 +4,7 @@ use Rattle.std.specs.List.{list_any, position, position_or_len, slice_range}
 use Rattle.std.specs.Option.{IsSome, is_some}
 use Rattle.std.proofs.Math.Nat.{sub-zero}
 use Rattle.init_base.proofs.FirstPlaces.{any_by_place}
-use Rattle.rc_parse.specs.Code.Joining.{Parts}
+use Rattle.rc_parse.specs.internal.Joining.{Parts}
 use Rattle.rc_parse.specs.Triggers.{is_equals_sign}
 use Rattle.rc_parse.proofs.Firsts.{all_behind}
 

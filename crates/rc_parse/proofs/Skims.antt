@@ -7,8 +7,8 @@ use Rattle.init_machine.specs.declared.service.ServiceDef.{ServiceDef}
 use Rattle.rc_tokens.specs.Lines.{Line, Tokens}
 use Rattle.rc_parse.specs.Lines.{Section, sections, is_header, lines_before_header}
 use Rattle.rc_parse.specs.Sections.{Sections, services_of, imports_of, diagnostics_of, orphan_diagnostics, cut}
-use Rattle.rc_parse.specs.Code.Adding.{from_header, section_of}
-use Rattle.rc_parse.specs.Code.Skimming.{with_found, with_skim, with_skims}
+use Rattle.rc_parse.specs.internal.Adding.{from_header, section_of}
+use Rattle.rc_parse.specs.internal.Skimming.{with_found, with_skim, with_skims}
 use Rattle.rc_parse.specs.Skims.{mark_of, skim_of}
 use Rattle.rc_parse.specs.declared.parsed.Parsed.{Parsed}
 use Rattle.rc_parse.specs.declared.skimmed.ServiceMark.{ServiceMark}

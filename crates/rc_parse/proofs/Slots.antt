@@ -22,7 +22,7 @@ use Rattle.init_machine.specs.declared.diagnostic.DiagKind.TheVariants.{ServiceA
 use Rattle.init_machine.specs.declared.service.ServiceDef.{ServiceDef}
 use Rattle.rc_parse.specs.Readings.{diagnostic}
 use Rattle.rc_parse.specs.Kept.{is_named, is_again, kept_behind, not_overridden, merged, agains_behind}
-use Rattle.rc_parse.specs.Code.Merging.{standing, place_of, has_name, holds, is_only_at, is_placed, IsVacated}
+use Rattle.rc_parse.specs.internal.Merging.{standing, place_of, has_name, holds, is_only_at, is_placed, IsVacated}
 
 -- ---- names
 

@@ -2,7 +2,7 @@
 use Rattle.std.proofs.Common.{◌≡◌, ℕ, Bool, true, false, ◌==◌, if◌then◌else◌, List, length, map, ap, ◌∙◌, Result, Ok, Err}
 use Rattle.init_machine.specs.declared.diagnostic.DiagKind.{DiagKind}
 use Rattle.init_machine.specs.declared.diagnostic.DiagKind.TheVariants.{NoTrigger, BadTrigger, TwiceProp}
-use Rattle.rc_parse.specs.Code.Joining.{joined_of}
+use Rattle.rc_parse.specs.internal.Joining.{joined_of}
 use Rattle.rc_parse.specs.Readings.{IsReading}
 use Rattle.rc_parse.specs.Triggers.{has_twice, has_bad_trigger, triggers_of}
 use Rattle.rc_parse.specs.declared.fault.Fault.{Fault}

@@ -11,4 +11,4 @@ pub mod Places
 pub mod Kept
 pub mod Skims
 pub mod Names
-pub mod Code
+pub mod internal

@@ -1,7 +1,7 @@
 //! Action sections.
 
 ghost use Rattle.std.specs.Prelude.{◌≡◌, ◌++◌, true, IfOk, OnOk};
-ghost use Rattle.rc_parse.specs.Code.Adding.{command_diagnostics, section_of, with_action, with_section};
+ghost use Rattle.rc_parse.specs.internal.Adding.{command_diagnostics, section_of, with_action, with_section};
 ghost use Rattle.rc_parse.specs.Lines.{is_on};
 ghost use Rattle.rc_parse.specs.Readings.{diagnosed, values};
 ghost use Rattle.rc_parse.specs.Sections.{command_at, commands_of};

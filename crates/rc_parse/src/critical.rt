@@ -3,7 +3,7 @@
 ghost use Rattle.std.specs.Prelude.{◌≡◌, ◌-◌, Some, None, if◌then◌else◌, nat_eq, codes, drop, take, length, IfOk, MatchOption};
 ghost use Rattle.std.specs.List.{ends_with, starts_with};
 ghost use Rattle.std.specs.Option.{option_copied};
-ghost use Rattle.rc_parse.specs.Code.Parts.{mark_of, with_part};
+ghost use Rattle.rc_parse.specs.internal.Parts.{mark_of, with_part};
 ghost use Rattle.rc_parse.specs.Readings.{IsReading};
 ghost use Rattle.rc_parse.specs.Values.{critical_of, part_of, parts_at_default, target_part, window_of};
 ghost use Rattle.rc_parse.specs.Values as spec;

@@ -2,7 +2,7 @@
 
 ghost use Rattle.std.specs.Prelude.{◌≡◌, ◌∷◌, ◌++◌, ◌==◌, [], OnOk, if◌then◌else◌, length};
 ghost use Rattle.init_machine.specs.declared.diagnostic.DiagKind.TheVariants as kinds;
-ghost use Rattle.rc_parse.specs.Code.Adding.{section_of};
+ghost use Rattle.rc_parse.specs.internal.Adding.{section_of};
 ghost use Rattle.rc_parse.specs.Lines as spec;
 ghost use Rattle.rc_parse.specs.Readings.{diagnostic};
 ghost use Rattle.rc_parse.specs.Sections.{cut, import_diagnostics, import_with, orphan_diagnostics};

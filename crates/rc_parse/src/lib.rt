@@ -6,7 +6,7 @@
 //! diagnostics, and keep no actions and of services no more than their names. The words of commands and the
 //! arguments that they take stand in `init_machine`, with the type `Word`; the words of options stand in `option_word`,
 //! and the arguments that they take in the table of `table`, which code and definitions share. What the code's loops say
-//! of themselves is in `specs/Code/` and is no part of any promise.
+//! of themselves is in `specs/internal/` and is no part of any promise.
 #![tactic(auto)]
 
 mod action;

@@ -2,7 +2,7 @@
 
 ghost use Rattle.std.specs.Prelude.{◌≡◌};
 ghost use Rattle.std.specs.List.{position_or_len};
-ghost use Rattle.rc_parse.specs.Code.Adding.{from_header};
+ghost use Rattle.rc_parse.specs.internal.Adding.{from_header};
 ghost use Rattle.rc_parse.specs.Lines.{lines_before_header};
 ghost use Rattle.rc_parse.specs.Lines as spec;
 

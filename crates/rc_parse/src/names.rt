@@ -9,10 +9,10 @@ ghost use Rattle.rc_parse.specs.Skims.{mark_of};
 
 use crate::parsed::diagnose;
 use crate::skimmed::ServiceMark;
+use collections::TextIndex;
 use init_base::{List, NoMemory};
 use init_machine::{DiagKind, Diagnostic};
 use std::alloc::Global;
-use text_index::TextIndex;
 
 /// The names of the services that were read.
 #[derive(Drop)]

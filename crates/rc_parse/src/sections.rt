@@ -2,7 +2,7 @@
 
 ghost use Rattle.std.specs.Prelude.{◌≡◌, false, IsTrue, IfOk, OnOk};
 ghost use Rattle.std.specs.List.{list_all};
-ghost use Rattle.rc_parse.specs.Code.Adding.{section_of, with_section};
+ghost use Rattle.rc_parse.specs.internal.Adding.{section_of, with_section};
 ghost use Rattle.rc_parse.specs.Lines as spec;
 ghost use Rattle.rc_parse.specs.Sections.{Sections, has_command};
 

@@ -1,13 +1,13 @@
 //! Service sections.
 
 ghost use Rattle.std.specs.Prelude.{◌≡◌, ◌++◌, ◌∷◌, [], true, false, IfOk, OnOk};
-ghost use Rattle.rc_parse.specs.Code.Adding.{section_of, setting_diagnostics, with_section};
+ghost use Rattle.rc_parse.specs.internal.Adding.{section_of, setting_diagnostics, with_section};
 ghost use Rattle.rc_parse.specs.Lines.{is_on, is_service};
 ghost use Rattle.rc_parse.specs.Readings.{diagnosed, values};
 ghost use Rattle.rc_parse.specs.Sections.{setting_at, settings_of};
 ghost use Rattle.rc_parse.specs.Services.{service_with};
 ghost use Rattle.rc_parse.specs.Services as spec;
-ghost use Rattle.rc_parse.specs.Code.Settings.{with_setting, with_settings};
+ghost use Rattle.rc_parse.specs.internal.Settings.{with_setting, with_settings};
 
 use crate::fault::Fault;
 use crate::lines::Section;

@@ -1,8 +1,8 @@
 //! The options of a service.
 
 ghost use Rattle.std.specs.Prelude.{◌≡◌, ◌*◌, ℕ, List as Items};
-ghost use Rattle.rc_parse.specs.Code.Skimming.{overriding};
-ghost use Rattle.rc_parse.specs.Code.Skimming as skimming_spec;
+ghost use Rattle.rc_parse.specs.internal.Skimming.{overriding};
+ghost use Rattle.rc_parse.specs.internal.Skimming as skimming_spec;
 ghost use Rattle.rc_parse.specs.Options.{onrestart_of, row_of, seconds_of, setting_of};
 ghost use Rattle.rc_parse.specs.Options as options_spec;
 ghost use Rattle.rc_parse.specs.Readings.{IsReading};

@@ -2,8 +2,8 @@
 
 ghost use Rattle.std.specs.Prelude.{◌≡◌, ◌++◌, true, false, IfOk, OnOk};
 ghost use Rattle.std.specs.List.{list_any};
-ghost use Rattle.rc_parse.specs.Code.Adding.{command_diagnostics, section_of, setting_diagnostics};
-ghost use Rattle.rc_parse.specs.Code.Skimming.{settled, with_skim};
+ghost use Rattle.rc_parse.specs.internal.Adding.{command_diagnostics, section_of, setting_diagnostics};
+ghost use Rattle.rc_parse.specs.internal.Skimming.{settled, with_skim};
 ghost use Rattle.rc_parse.specs.Lines as spec;
 ghost use Rattle.rc_parse.specs.Readings.{IsReading, diagnosed, values};
 ghost use Rattle.rc_parse.specs.Sections.{Sections, action_diagnostics, command_at, orphan_diagnostics, setting_at, settings_of};

@@ -4,7 +4,7 @@ ghost use Rattle.std.specs.Prelude.{◌≡◌, [], ◌∷◌, ◌++◌, ℕ, tru
 ghost use Rattle.std.specs.List.{list_any};
 ghost use Rattle.std.specs.Option.{option_to_list};
 ghost use Rattle.std.specs.Str.{bytes_eq};
-ghost use Rattle.rc_parse.specs.Code.Merging.{IsVacated, is_placed, place_of, standing};
+ghost use Rattle.rc_parse.specs.internal.Merging.{IsVacated, is_placed, place_of, standing};
 ghost use Rattle.rc_parse.specs.Kept.{is_again, is_named, merged};
 
 use init_base::{List, NoMemory};
@@ -25,7 +25,7 @@ pub struct Standing {
 impl Model for Standing {
     ghost use Rattle.std.specs.Prelude.{ℕ, List, IsTrue};
     ghost use Rattle.init_machine.specs.declared.service.ServiceDef.{ServiceDef};
-    ghost use Rattle.rc_parse.specs.Code.Merging.{is_placed, place_of, standing};
+    ghost use Rattle.rc_parse.specs.internal.Merging.{is_placed, place_of, standing};
 
     ghost Value = { List ServiceDef };
 

@@ -3,8 +3,8 @@
 ghost use Rattle.std.specs.Prelude.{◌≡◌, false, IfOk, MatchOption, map};
 ghost use Rattle.std.specs.List.{list_any, position};
 ghost use Rattle.std.specs.Option.{option_copied};
-ghost use Rattle.rc_parse.specs.Code.Joining.{Parts, joined_of, with_trigger};
-ghost use Rattle.rc_parse.specs.Code.Joining as joining_spec;
+ghost use Rattle.rc_parse.specs.internal.Joining.{Parts, joined_of, with_trigger};
+ghost use Rattle.rc_parse.specs.internal.Joining as joining_spec;
 ghost use Rattle.rc_parse.specs.Readings.{IsReading, is_bad};
 ghost use Rattle.rc_parse.specs.Triggers.{has_twice, is_equals_sign, test_of, trigger_of, triggers_of};
 ghost use Rattle.rc_parse.specs.Triggers as triggers_spec;

@@ -2,7 +2,7 @@
 use Rattle.std.proofs.Common.{◌≡◌, ℕ, List, [], ◌∷◌, Option, refl, sym, ap, subst, ◌∙◌}
 use Rattle.rc_tokens.specs.Grammar.{Item, Ending, IsReading}
 use Rattle.rc_tokens.specs.Lines.{Line, Tokens, lines_of, dropped_of, Lines}
-use Rattle.rc_tokens.specs.Code.Steps.{start}
+use Rattle.rc_tokens.specs.internal.Steps.{start}
 use Rattle.rc_tokens.proofs.Pieces.{outcome}
 use Rattle.rc_tokens.proofs.Stretches.{line_parts, kept_lines, dropped_line, lines_same, dropped_same}
 use Rattle.rc_tokens.proofs.Items.{items_run, joined, some_stretch}

@@ -7,7 +7,7 @@ use Rattle.std.specs.List.{list_any}
 use Rattle.rc_tokens.specs.Grammar.{is_blank, is_line_feed, is_hash, stops, has_none, Piece, plain, quoted, escape, folded, piece_bytes, is_quoted, PieceFits, pieces_bytes, PiecesFit, begin_with_hash, Item, blank, line_end, comment, token, item_bytes, ItemFits, items_bytes, ItemsFit, Ending, whole, open_quote, lone_backslash, ending_bytes, EndingFits}
 use Rattle.rc_tokens.specs.Lines.{Line, Tokens, has_any, word_of, counts, line_number, all_but_last}
 use Rattle.rc_tokens.proofs.Stretches.{no_tokens, put_before, onto_first_line, ending_line, line_parts, with_words, last_number, kept_lines, dropped_line}
-use Rattle.rc_tokens.specs.Code.Steps.{number_after, in_word, between, in_comment, ended_token, with_token, with_line, begun_token}
+use Rattle.rc_tokens.specs.internal.Steps.{number_after, in_word, between, in_comment, ended_token, with_token, with_line, begun_token}
 use Rattle.rc_tokens.specs.declared.reader.Mode.TheVariants as mode
 use Rattle.rc_tokens.specs.declared.reader.Reader.{Reader}
 use Rattle.rc_tokens.proofs.Bytes.{plain_facts, feed_is}

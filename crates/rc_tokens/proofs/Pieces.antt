@@ -7,8 +7,8 @@ use Rattle.std.proofs.lemmas.Bool.{not-true, or_parts, and_parts, eqb-true}
 use Rattle.std.specs.List.{count_by, fold, list_all, list_any}
 use Rattle.rc_tokens.specs.Grammar.{is_space, is_line_feed, is_quote, is_plain, begins, has_none, LineEnd, bare, returned, Piece, plain, quoted, escape, folded, piece_bytes, escaped, spelled, is_quoted, PieceFits, pieces_bytes, PiecesFit}
 use Rattle.rc_tokens.specs.Lines.{Tokens, word_of}
-use Rattle.rc_tokens.specs.Code.Steps as steps
-use Rattle.rc_tokens.specs.Code.Steps.{run, finished, number_after, with_byte, in_word, in_quotes, after_backslash, after_return, in_fold}
+use Rattle.rc_tokens.specs.internal.Steps as steps
+use Rattle.rc_tokens.specs.internal.Steps.{run, finished, number_after, with_byte, in_word, in_quotes, after_backslash, after_return, in_fold}
 use Rattle.rc_tokens.specs.declared.reader.Mode.{Mode}
 use Rattle.rc_tokens.specs.declared.reader.Mode.TheVariants as mode
 use Rattle.rc_tokens.specs.declared.reader.Reader.{Reader}

@@ -5,7 +5,7 @@ use Rattle.std.proofs.lemmas.List.{length-map, map-append, drop-append-le, take-
 use Rattle.std.proofs.lemmas.List.Folds.{list_all-append}
 use Rattle.std.specs.List.{list_all}
 use Rattle.rc_tokens.specs.Lines.{Line}
-use Rattle.rc_tokens.specs.Code.Ranges.{part, words_at, lines_at, Spelling, spelling_of, is_within, AreWithin}
+use Rattle.rc_tokens.specs.internal.Ranges.{part, words_at, lines_at, Spelling, spelling_of, is_within, AreWithin}
 use Rattle.rc_tokens.specs.declared.range.Mark.{Mark}
 use Rattle.rc_tokens.specs.declared.range.Range.{Range}
 

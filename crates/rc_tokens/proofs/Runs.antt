@@ -6,7 +6,7 @@ use Rattle.std.proofs.lemmas.List.{append-nil}
 use Rattle.std.proofs.lemmas.List.Sums.{count_by-le-length, sum_by-append}
 use Rattle.std.specs.List.{count_by, position_or_len}
 use Rattle.rc_tokens.specs.Grammar.{is_blank, is_line_feed, is_quote, is_plain, is_hash, begins}
-use Rattle.rc_tokens.specs.Code.Steps.{run, step, number_after, ends_run, with_run, begins_token, between, begun_token, in_word}
+use Rattle.rc_tokens.specs.internal.Steps.{run, step, number_after, ends_run, with_run, begins_token, between, begun_token, in_word}
 use Rattle.rc_tokens.specs.declared.reader.Mode.{Mode}
 use Rattle.rc_tokens.specs.declared.reader.Mode.TheVariants as mode
 use Rattle.rc_tokens.specs.declared.reader.Reader.{Reader}

@@ -4,7 +4,7 @@
 //! of the whole text, and `specs/Lines.antt`, the lines that it spells; `one_reading` says that each text has
 //! exactly one. The words of a file stand in one list, of which its lines are ranges, as the words were ranges of one buffer
 //! before it was whole; `span_lines` answers the same lines with the words left as such ranges. What the code's loops say
-//! of themselves is in `specs/Code/` and is no part of any promise.
+//! of themselves is in `specs/internal/` and is no part of any promise.
 #![tactic(auto)]
 
 mod line;

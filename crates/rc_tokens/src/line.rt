@@ -1,8 +1,8 @@
 //! Lines of words, as they are looked at.
 
 ghost use Rattle.std.specs.Prelude.{◌≡◌, ◌∷◌, ◌≤◌, ◌↔◌, [], IsTrue, MatchOption, length, take, drop, slice_get};
-ghost use Rattle.rc_tokens.specs.Code.Ranges.{are_among, is_within, lines_at};
-ghost use Rattle.rc_tokens.specs.Code.Ranges as spec;
+ghost use Rattle.rc_tokens.specs.internal.Ranges.{are_among, is_within, lines_at};
+ghost use Rattle.rc_tokens.specs.internal.Ranges as spec;
 
 use crate::range::{Mark, Range};
 use init_base::Text;
@@ -49,7 +49,7 @@ pub struct LineSlice<'a> {
 impl<'a> Model for LineSlice<'a> {
     ghost use Rattle.std.specs.Prelude.{IsTrue, List, length};
     ghost use Rattle.rc_tokens.specs.Lines.{Line};
-    ghost use Rattle.rc_tokens.specs.Code.Ranges.{are_among, lines_at};
+    ghost use Rattle.rc_tokens.specs.internal.Ranges.{are_among, lines_at};
 
     ghost Value = { List Line };
 

@@ -3,7 +3,7 @@
 ghost use Rattle.std.specs.Prelude.{◌≡◌, ◌<◌, ◌≤◌, ◌↔◌, ℕ, List as Items, Option, Err, length, IfOk};
 ghost use Rattle.rc_tokens.specs.Grammar.{Item, Ending, IsReading};
 ghost use Rattle.rc_tokens.specs.Lines.{Line, Ascend, Lines, numbers};
-ghost use Rattle.rc_tokens.specs.Code.Steps as steps;
+ghost use Rattle.rc_tokens.specs.internal.Steps as steps;
 
 use crate::reader::Reader;
 use crate::span::SpanTokens;

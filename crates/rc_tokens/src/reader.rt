@@ -1,9 +1,9 @@
 //! The reader: it takes the bytes of a file run by run, and one by one where they mean something. Its steps are `step`,
-//! `with_run` and `finished` of `specs/Code/Steps.antt`.
+//! `with_run` and `finished` of `specs/internal/Steps.antt`.
 
 ghost use Rattle.std.specs.Prelude.{◌≡◌, ◌≢◌, ◌<◌, ◌≤◌, ◌^◌, ◌+◌, ◌-◌, ◌++◌, ◌∷◌, [], IsTrue, OnOk, IfOk, length};
 ghost use Rattle.rc_tokens.specs.Grammar as spec;
-ghost use Rattle.rc_tokens.specs.Code.Steps as steps;
+ghost use Rattle.rc_tokens.specs.internal.Steps as steps;
 
 use crate::run::{blanks, is_blank, is_space, is_token_next, line_feeds, run_len};
 use crate::span::SpanTokens;

@@ -4,7 +4,7 @@ ghost use Rattle.std.specs.Prelude.{◌≡◌, ◌==◌, ◌≤◌, not, length}
 ghost use Rattle.std.specs.List.{count_by, position_or_len};
 ghost use Rattle.rc_tokens.specs.Grammar.{begins, is_line_feed};
 ghost use Rattle.rc_tokens.specs.Grammar as spec;
-ghost use Rattle.rc_tokens.specs.Code.Steps.{begins_token, ends_run};
+ghost use Rattle.rc_tokens.specs.internal.Steps.{begins_token, ends_run};
 
 use crate::reader::Mode;
 

@@ -3,7 +3,7 @@
 ghost use Rattle.std.specs.Prelude.{◌≡◌, ◌∷◌, ◌≤◌, [], IfOk, IsTrue, MatchOption, length, take, drop, slice_get};
 ghost use Rattle.std.specs.List.{list_all};
 ghost use Rattle.std.specs.Option.{option_copied};
-ghost use Rattle.rc_tokens.specs.Code.Ranges.{AreSpans, are_among, is_within, lines_at, words_at};
+ghost use Rattle.rc_tokens.specs.internal.Ranges.{AreSpans, are_among, is_within, lines_at, words_at};
 
 use crate::range::{Mark, Range};
 use crate::tokens::Tokens;
@@ -24,7 +24,7 @@ pub struct SpanTokens {
 
 impl Model for SpanTokens {
     ghost use Rattle.rc_tokens.specs.Lines.{Tokens};
-    ghost use Rattle.rc_tokens.specs.Code.Ranges.{AreSpans, lines_at, words_at};
+    ghost use Rattle.rc_tokens.specs.internal.Ranges.{AreSpans, lines_at, words_at};
 
     ghost Value = { Tokens };
 
@@ -102,7 +102,7 @@ impl<'a> Model for SpanLine<'a> {
     ghost use Rattle.std.specs.Prelude.{IsTrue, length};
     ghost use Rattle.std.specs.List.{list_all};
     ghost use Rattle.rc_tokens.specs.Lines.{Line};
-    ghost use Rattle.rc_tokens.specs.Code.Ranges.{is_within, words_at};
+    ghost use Rattle.rc_tokens.specs.internal.Ranges.{is_within, words_at};
 
     ghost Value = { Line };
 
@@ -158,7 +158,7 @@ pub struct SpanSlice<'a> {
 impl<'a> Model for SpanSlice<'a> {
     ghost use Rattle.std.specs.Prelude.{List};
     ghost use Rattle.rc_tokens.specs.Lines.{Line};
-    ghost use Rattle.rc_tokens.specs.Code.Ranges.{AreSpans, lines_at, words_at};
+    ghost use Rattle.rc_tokens.specs.internal.Ranges.{AreSpans, lines_at, words_at};
 
     ghost Value = { List Line };
 

@@ -2,7 +2,7 @@
 
 ghost use Rattle.std.specs.Prelude.{◌≡◌, [], ◌∷◌, ◌++◌, ◌↔◌, ◌<◌, ◌≤◌, ◌&&◌, IsTrue, IfOk, OnOk, length, drop, nat_le};
 ghost use Rattle.std.specs.List.{list_all};
-ghost use Rattle.rc_tokens.specs.Code.Ranges.{is_within, words_at};
+ghost use Rattle.rc_tokens.specs.internal.Ranges.{is_within, words_at};
 
 use crate::range::{Mark, Range, place};
 use crate::span::SpanTokens;
@@ -24,7 +24,7 @@ pub struct Spelled {
 }
 
 impl Model for Spelled {
-    ghost use Rattle.rc_tokens.specs.Code.Ranges.{AreWithin, Spelling, spelling_of};
+    ghost use Rattle.rc_tokens.specs.internal.Ranges.{AreWithin, Spelling, spelling_of};
 
     ghost Value = { Spelling };
 

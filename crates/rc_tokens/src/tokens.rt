@@ -1,7 +1,7 @@
 //! What is read: the lines of a file.
 
 ghost use Rattle.std.specs.Prelude.{◌≡◌, ◌∷◌, [], None, IfOk, IsTrue, length};
-ghost use Rattle.rc_tokens.specs.Code.Ranges.{are_among, lines_at};
+ghost use Rattle.rc_tokens.specs.internal.Ranges.{are_among, lines_at};
 
 use crate::line::LineSlice;
 use crate::range::{Mark, Range, place};
@@ -21,7 +21,7 @@ pub struct Tokens {
 impl Model for Tokens {
     ghost use Rattle.std.specs.Prelude.{IsTrue, length};
     ghost use Rattle.rc_tokens.specs.Lines.{Tokens};
-    ghost use Rattle.rc_tokens.specs.Code.Ranges.{are_among, lines_at};
+    ghost use Rattle.rc_tokens.specs.internal.Ranges.{are_among, lines_at};
 
     ghost Value = { Tokens };
 

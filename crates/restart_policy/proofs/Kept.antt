@@ -2,9 +2,9 @@
 use Rattle.std.proofs.Common.{◌≡◌, ℕ, zero, suc, ◌+◌, ◌<◌, Bool, true, false, ◌||◌, eqb, nat_le, List, [], ◌∷◌, Option, Some, None, get_or, replicate, refl, sym, ap, ◌∙◌, arith, true≢false, if◌then◌else◌}
 use Rattle.std.proofs.lemmas.Grind.{common_steps}
 use Rattle.std.specs.List.{list_any, enumerate_from, filter_map, cons_option}
-use Rattle.agenda.specs.Moments.{is_held, is_due}
-use Rattle.agenda.proofs.Held.{held_from_due, due_from_held}
-use Rattle.agenda.proofs.Ascending.{AreAbove, Ascends, itself, none_above, same_ascending}
+use Rattle.collections.specs.Moments.{is_held, is_due}
+use Rattle.collections.proofs.Held.{held_from_due, due_from_held}
+use Rattle.collections.proofs.Ascending.{AreAbove, Ascends, itself, none_above, same_ascending}
 use Rattle.restart_policy.specs.Times.{is_kept, HoldsKept, has_come, place_if_come, places_due}
 
 none_at : (count at : ℕ) → get_or (replicate {A = Option ℕ} count None) at None ≡ None

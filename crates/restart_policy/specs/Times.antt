@@ -2,7 +2,7 @@
 use Rattle.std.specs.Prelude.{◌≡◌, ℕ, Bool, false, ◌==◌, nat_le, List, Option, Some, None, slice_index_or, if◌then◌else◌}
 use Rattle.std.specs.List.{enumerate_from, filter_map}
 use Rattle.std.specs.Option.{option_map}
-use Rattle.agenda.specs.Moments.{is_held}
+use Rattle.collections.specs.Moments.{is_held}
 use Rattle.init_base.specs.declared.units.Millis.{Millis}
 
 abbrev pub number_of : Option Millis → Option ℕ

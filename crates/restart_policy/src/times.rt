@@ -1,6 +1,6 @@
 //! Times by place.
 
-use agenda::Agenda;
+use collections::Agenda;
 use init_base::{List, Millis, NoMemory};
 use std::alloc::Global;
 use std::marker::Model;
@@ -63,7 +63,7 @@ impl Times {
 }
 
 ghost use Rattle.std.specs.Prelude.{◌≡◌, ◌<◌, ◌==◌, ◌&&◌, ◌||◌, ℕ, None, IfOk, OnOk, OnErr, length, not, replicate, slice_set};
-ghost use Rattle.agenda.specs.Moments.{is_held};
+ghost use Rattle.collections.specs.Moments.{is_held};
 ghost use Rattle.restart_policy.specs.Times.{is_kept, number_of};
 
 /// Keeps a time, or none, at a place of each of two, in place of what was kept there. Where memory lacks, both are as they

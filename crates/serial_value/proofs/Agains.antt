@@ -17,8 +17,8 @@ use Rattle.init_machine.specs.declared.report.Reading.TheVariants.{Found, Absent
 use Rattle.init_machine.specs.declared.client.ClientItem.{ClientItem}
 use Rattle.init_machine.specs.declared.client.ClientItem.TheVariants.{Told, Asked}
 use Rattle.serial_value.specs.History.{made_on}
-use Rattle.serial_value.specs.Kept.Serials.{even_when_clean, odd_when_dirty}
-use Rattle.serial_value.specs.Kept.Places.{at_below}
+use Rattle.serial_value.specs.impl_laws.Serials.{even_when_clean, odd_when_dirty}
+use Rattle.serial_value.specs.impl_laws.Places.{at_below}
 
 module _ (name : List ℕ) where
   abbrev hit : List ℕ → ℕ

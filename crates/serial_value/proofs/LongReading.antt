@@ -15,9 +15,9 @@ use Rattle.serial_value.specs.declared.view.CellView.TheVariants.{Writer, Reader
 use Rattle.serial_value.specs.declared.read.CellAnswer.TheVariants.{Found as AnswerFound}
 use Rattle.serial_value.specs.Words.{body_word, words_of_len, IsValue, HasWords, HasBytes}
 use Rattle.serial_value.specs.Cell.{making_of, HasValue, KnowsSerial, HasBegun, LiesAt, Copies, IsLongLength, ReadsLong, IsCopied, Ends, Answers}
-use Rattle.serial_value.specs.Kept.Serials.{layout}
-use Rattle.serial_value.specs.Kept.Sets.{at_last_set}
-use Rattle.serial_value.specs.Kept.Bodies.{twelve, long_size, length_word, value_word_of, long_by_top, place-long, copy_size-long}
+use Rattle.serial_value.specs.impl_laws.Serials.{layout}
+use Rattle.serial_value.specs.impl_laws.Sets.{at_last_set}
+use Rattle.serial_value.specs.impl_laws.Bodies.{twelve, long_size, length_word, value_word_of, long_by_top, place-long, copy_size-long}
 use Rattle.serial_value.proofs.Packing.{byte_of}
 use Rattle.serial_value.proofs.Reading.{front_bytes}
 

@@ -12,8 +12,8 @@ use Rattle.serial_value.specs.declared.one.OneView.{OneView}
 use Rattle.serial_value.specs.Words.{IsShortValue}
 use Rattle.serial_value.specs.Cell.{sets_of, IsWriter}
 use Rattle.serial_value.specs.One.{the_name, the_place, OneHolds, ViewHolds, begins, new_reader, HasFirst}
-use Rattle.serial_value.specs.Kept.Places.{at_end}
-use Rattle.serial_value.specs.Kept.OneFrame.{St, serial_in, with_views}
+use Rattle.serial_value.specs.impl_laws.Places.{at_end}
+use Rattle.serial_value.specs.impl_laws.OneFrame.{St, serial_in, with_views}
 
 module _ (s : St) (h : OneHolds s) where
   known : (id : ℕ) (v : OneView) (cell : CellView) → IsWriter cell → ViewHolds (serial_in s) h.writer h.sets h.making id cell v.began v.list → h.sets ≡ sets_of cell

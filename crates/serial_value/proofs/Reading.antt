@@ -17,9 +17,9 @@ use Rattle.serial_value.specs.declared.read.CellAnswer.{CellAnswer}
 use Rattle.serial_value.specs.declared.read.CellAnswer.TheVariants.{Found as AnswerFound, Again as AnswerAgain}
 use Rattle.serial_value.specs.Words.{body_word, HasWords, HasBody, HasBytes}
 use Rattle.serial_value.specs.Cell.{making_of, HasBegun, ReadsFrom, LiesAt, Copies, Gathers, Ends, Answers, Closes, words_place}
-use Rattle.serial_value.specs.Kept.Serials.{layout, top_byte-short}
-use Rattle.serial_value.specs.Kept.Bodies.{twelve, short_size, short_by_top, place-clean, copy_size-short}
-use Rattle.serial_value.specs.Kept.Sets.{at_last_set}
+use Rattle.serial_value.specs.impl_laws.Serials.{layout, top_byte-short}
+use Rattle.serial_value.specs.impl_laws.Bodies.{twelve, short_size, short_by_top, place-clean, copy_size-short}
+use Rattle.serial_value.specs.impl_laws.Sets.{at_last_set}
 
 more_words : (words value : List ℕ) (k word : ℕ) → k < length words → HasWords words k value → word ≡ body_word value k → HasWords (set words k word) (k + 1) value
 more_words words value k word inside has right j small = dite (ℕ_discrete j k)

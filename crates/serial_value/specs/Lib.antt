@@ -1,8 +1,8 @@
 pub mod Words
 pub mod Cell
-pub mod Parts
 pub mod Steps
 pub mod World
 pub mod History
 pub mod One
-pub mod Kept
+pub mod impl_laws
+pub mod internal

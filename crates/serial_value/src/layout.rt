@@ -25,7 +25,7 @@ pub fn top_byte(value: &[u8]) -> u8
 }
 
 /// The clean serial of the set with this number, whose value has this length, or, where that is 255, more than 91 bytes.
-#[tactic(auto, using(crate::specs::Kept::Serials::layout))]
+#[tactic(auto, using(crate::specs::impl_laws::Serials::layout))]
 pub fn serial(len: u8, number: u64) -> u64
     requires len { (len ≤ 91) ⊎ (len ≡ 255) }
     requires number { number < 2 ^ 55 }

@@ -38,14 +38,14 @@ impl TableRule<(), OneView, Text> for OneCell {
 impl CellRule<OneView, Text> for OneCell {
     ghost use Rattle.std.specs.Prelude.{refl};
     ghost use Rattle.serial_value.specs.One.{with_cell as with_one_cell, noted as noted_one, Linked as LinkedOne};
-    ghost use Rattle.serial_value.specs.Kept.OneBackup.{one_backup};
-    ghost use Rattle.serial_value.specs.Kept.OneDirty.{one_dirty};
-    ghost use Rattle.serial_value.specs.Kept.OneValue.{one_value};
-    ghost use Rattle.serial_value.specs.Kept.OneClean.{one_clean};
-    ghost use Rattle.serial_value.specs.Kept.OneFirst.{one_first};
-    ghost use Rattle.serial_value.specs.Kept.OneCopied.{one_copied};
-    ghost use Rattle.serial_value.specs.Kept.OneLast.{one_last};
-    ghost use Rattle.serial_value.specs.Kept.OneLists.{one_writer, one_lists};
+    ghost use Rattle.serial_value.specs.impl_laws.OneBackup.{one_backup};
+    ghost use Rattle.serial_value.specs.impl_laws.OneDirty.{one_dirty};
+    ghost use Rattle.serial_value.specs.impl_laws.OneValue.{one_value};
+    ghost use Rattle.serial_value.specs.impl_laws.OneClean.{one_clean};
+    ghost use Rattle.serial_value.specs.impl_laws.OneFirst.{one_first};
+    ghost use Rattle.serial_value.specs.impl_laws.OneCopied.{one_copied};
+    ghost use Rattle.serial_value.specs.impl_laws.OneLast.{one_last};
+    ghost use Rattle.serial_value.specs.impl_laws.OneLists.{one_writer, one_lists};
 
     fn no_call(&self) {}
 

@@ -11,7 +11,7 @@ ghost use Rattle.init_machine.specs.declared.report.Reading.{Reading};
 ghost use Rattle.serial_value.specs.declared.view.CellView.{CellView};
 ghost use Rattle.serial_value.specs.declared.view.CellView.TheVariants.{Writer};
 ghost use Rattle.serial_value.specs.Words.{body_word, IsShortValue};
-ghost use Rattle.serial_value.specs.Parts.{AreWordsKept, IsNoted, IsPart, StandsBeside};
+ghost use Rattle.serial_value.specs.internal.Parts.{AreWordsKept, IsNoted, IsPart, StandsBeside};
 ghost use Rattle.serial_value.specs.Cell.{sets_of, making_of, HasShortCell, IsWriter, ReaderStands};
 ghost use Rattle.serial_value.specs.Cell.{updating, accepted, IsUpdating, IsPresentSerial, IsPresentWord};
 ghost use Rattle.serial_value.specs.Cell.{Begins, LiesAt, Copies, IsCopied, Ends};

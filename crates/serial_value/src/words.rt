@@ -58,7 +58,7 @@ fn cut_word(text: &[u8], k: usize) -> u64
 }
 
 /// Word `k` of the body of a value's cell, which begins with the length where the cell is long.
-#[tactic(auto, using(crate::specs::Kept::Bodies::body_words))]
+#[tactic(auto, using(crate::specs::impl_laws::Bodies::body_words))]
 pub fn body_word(value: &[u8], k: usize) -> u64
     requires inside { k < body_size value.now }
     requires within { length value.now ≤ 8191 }

@@ -39,7 +39,7 @@ fn back_up<V, K, R: CellRule<V, K>, Q: Asked>(
 }
 
 /// Stores the twelve new value words, once the serial is dirty.
-#[tactic(auto, using(crate::specs::Kept::Bodies::short_word))]
+#[tactic(auto, using(crate::specs::impl_laws::Bodies::short_word))]
 fn replace<V, K, R: CellRule<V, K>, Q: Asked>(
     table: &Table<(), V, K, R, Global>,
     seat: &mut Seat<(), V>,

@@ -13,8 +13,8 @@ use Rattle.init_machine.proofs.DistinctSums.{bytes_eq-refl, same_bytes}
 use Rattle.init_machine.specs.Services.{is_of_class, place_if}
 use Rattle.init_machine.specs.declared.service.ServiceDef.{ServiceDef}
 use Rattle.service_table.specs.Classes.{is_at, ends_with, with_place, placed_if}
-use Rattle.text_index.proofs.Places.{absent_added}
-use Rattle.text_index.specs.Texts.{with_text}
+use Rattle.collections.proofs.Places.{absent_added}
+use Rattle.collections.specs.Texts.{with_text}
 
 -- what stands at the place of a class
 abbrev found_in : List (List ℕ) → List (List ℕ) → List ℕ → List ℕ

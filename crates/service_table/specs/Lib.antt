@@ -1,4 +1,4 @@
 pub mod Classes
-pub mod End
 pub mod Laws
 pub mod Table
+pub mod internal

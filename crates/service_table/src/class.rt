@@ -5,10 +5,10 @@ ghost use Rattle.std.specs.Str.{bytes_eq};
 ghost use Rattle.init_machine.specs.Services.{is_of_class};
 ghost use Rattle.service_table.specs.Classes.{AreClasses, IsPaired, ends_with, found, placed_if, with_place};
 
+use collections::TextIndex;
 use init_base::{List, NoMemory};
 use init_machine::ServiceDef;
 use std::alloc::Global;
-use text_index::TextIndex;
 
 /// The classes in the order in which they are first named, and the places of the services of each.
 #[derive(Drop)]

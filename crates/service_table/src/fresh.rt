@@ -5,10 +5,10 @@ ghost use Rattle.init_machine.specs.Marks.{first_marks};
 ghost use Rattle.init_machine.specs.WellFormed.{are_distinct};
 ghost use Rattle.service_table.specs.Table.{names_of};
 
+use collections::TextIndex;
 use init_base::{Millis, NoMemory};
 use init_machine::{Marks, ServiceDef};
 use std::alloc::Global;
-use text_index::TextIndex;
 
 /// The names, each at the place of its service.
 pub(crate) fn index_names(alloc: Global, defs: &[ServiceDef]) -> Result<TextIndex, NoMemory>

@@ -3,7 +3,7 @@
 
 ghost use Rattle.std.specs.Prelude.{◌≡◌, Some, None};
 ghost use Rattle.init_machine.specs.Marks.{service_step, kill as kill_cell, start as start_cell, class_start as class_start_cell, stop as stop_cell, with_reset as marks_with_reset, reset as reset_cell, restart as restart_cell, class_restart as class_restart_cell, enable as enable_cell, exec_start as exec_start_cell, timeout as timeout_cell, ended as ended_cell, reaped as reaped_cell};
-ghost use Rattle.service_table.specs.End.{end_cell};
+ghost use Rattle.service_table.specs.internal.End.{end_cell};
 
 use init_base::Pid;
 use init_machine::{Marks, Move, Op};

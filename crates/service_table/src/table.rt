@@ -3,11 +3,11 @@
 use crate::class::{Classes, copied, index_classes};
 use crate::fresh::{first_marks, index_names};
 use crate::operation::step;
+use collections::TextIndex;
 use init_base::{List, NoMemory};
 use init_machine::{Marks, Move, Op, ServiceDef};
 use std::alloc::Global;
 use std::marker::Model;
-use text_index::TextIndex;
 
 /// Services in declared order, and the marks of each.
 #[derive(Drop)]

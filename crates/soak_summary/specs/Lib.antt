@@ -1,4 +1,4 @@
 pub mod Counting
 pub mod Summary
 pub mod Counts
-pub mod Kept
+pub mod impl_laws

@@ -8,7 +8,8 @@ ghost use Rattle.soak_summary.specs.Counts.{counted_of, tally_with, with_output}
 use crate::store::{open_store, put_again};
 use crate::tally::Tally;
 use init_base::{NoMemory, Pid, SharedList, Text};
-use init_machine::{ClientPart, How, ListStore, Output, PropStore, Reading, Word};
+use init_machine::{ClientPart, How, Output, PropStore, Reading, Word};
+use list_store::ListStore;
 use outputs::Outputs;
 use std::alloc::Global;
 use std::marker::Model;
@@ -111,7 +112,7 @@ impl Counter {
 
 impl Outputs for Counter {
     ghost use Rattle.soak_summary.specs.Counts.{IsCounted};
-    ghost use Rattle.soak_summary.specs.Kept.Told.{told_joins};
+    ghost use Rattle.soak_summary.specs.impl_laws.Told.{told_joins};
 
     ghost Adds = { IsCounted };
 

@@ -5,7 +5,8 @@ ghost use Rattle.init_machine.specs.Props.{MayBeSet, with_set};
 ghost use Rattle.soak_summary.specs.Counting.{fresh_props};
 
 use init_base::{NoMemory, PropName, PropValue};
-use init_machine::{ListStore, PropStore};
+use init_machine::PropStore;
+use list_store::ListStore;
 use std::alloc::Global;
 
 /// The words that there may be.

@@ -5,6 +5,7 @@ ghost use Rattle.init_core.specs.Core.{opening_of};
 ghost use Rattle.init_machine.specs.State.{Opening};
 ghost use Rattle.init_machine.specs.WellFormed.{IsWellFormed};
 ghost use Rattle.script_lang.specs.Laws.{IsAskAmong};
+ghost use Rattle.script_lang.specs.declared.script.Script.{Script as Acts};
 ghost use Rattle.trace_audit.specs.Audited.{Audited, Says};
 ghost use Rattle.trace_audit.specs.Taken.{EndsWith, HasTaken, HasTakenNone};
 ghost use Rattle.trace_audit.specs.Texts.{SaysOf, SaysOfReport};
@@ -19,6 +20,96 @@ use prop_contexts::Policy;
 use script_lang::Script;
 use std::alloc::Global;
 use trace_reader::{Fault, Piece, Pieces};
+
+/// An audit that has taken no entry. `audit` and `audit_text` hand theirs on by this bound, behind which it ends: so their proofs have
+/// nothing to do with letting go of a machine.
+trait Judges {
+    // it has taken no entry of a script's history, from some opening
+    ghost begun: { Acts → Self → Type 0 };
+
+    // the same, from this opening
+    ghost opened: { Opening → Acts → Self → Type 0 };
+
+    /// The verdict on a report.
+    fn judge(
+        &mut self,
+        alloc: Global,
+        diagnostics: &List<Diagnostic>,
+        script: &Script,
+        report: &Report,
+    ) -> Result<Verdict, NoMemory>
+        requires asks { All (IsAskAmong (length script.now.clients)) script.now.acts }
+        requires begun { begun script.now self.old }
+        ensures { (o : Opening) → opened o script.now self.old → IfOk result (Says o diagnostics.now script.now report.now) };
+
+    /// The verdict on a text.
+    fn judge_text(
+        &mut self,
+        alloc: Global,
+        diagnostics: &List<Diagnostic>,
+        script: &Script,
+        text: &[u8],
+    ) -> Result<Verdict, Fault>
+        requires asks { All (IsAskAmong (length script.now.clients)) script.now.acts }
+        requires begun { begun script.now self.old }
+        ensures { (o : Opening) → opened o script.now self.old → SaysOf o diagnostics.now script.now text.now result };
+}
+
+impl Judges for Audit {
+    ghost begun = { HasTakenNone };
+
+    ghost opened = { λ o script audit. HasTaken o script [] audit };
+
+    fn judge(
+        &mut self,
+        alloc: Global,
+        diagnostics: &List<Diagnostic>,
+        script: &Script,
+        report: &Report,
+    ) -> Result<Verdict, NoMemory> {
+        judge(alloc, self, diagnostics, script, report)
+    }
+
+    fn judge_text(
+        &mut self,
+        alloc: Global,
+        diagnostics: &List<Diagnostic>,
+        script: &Script,
+        text: &[u8],
+    ) -> Result<Verdict, Fault> {
+        judge_text(alloc, self, diagnostics, script, text)
+    }
+}
+
+/// The verdict on a report. The audit ends here.
+fn judged<J: Judges + Drop>(
+    alloc: Global,
+    mut audit: J,
+    diagnostics: &List<Diagnostic>,
+    script: &Script,
+    report: &Report,
+) -> Result<Verdict, NoMemory>
+    requires asks { All (IsAskAmong (length script.now.clients)) script.now.acts }
+    requires begun { J.begun script.now audit }
+    ensures { (o : Opening) → J.opened o script.now audit → IfOk result (Says o diagnostics.now script.now report.now) }
+{
+    audit.judge(alloc, diagnostics, script, report)
+}
+
+/// The verdict on a text. The audit ends here.
+fn text_judged<J: Judges + Drop>(
+    alloc: Global,
+    mut audit: J,
+    diagnostics: &List<Diagnostic>,
+    script: &Script,
+    text: &[u8],
+) -> Result<Verdict, Fault>
+    requires asks { All (IsAskAmong (length script.now.clients)) script.now.acts }
+    requires begun { J.begun script.now audit }
+    ensures { (o : Opening) → J.opened o script.now audit → SaysOf o diagnostics.now script.now text.now result }
+{
+    audit.judge_text(alloc, diagnostics, script, text)
+}
 
 /// Whether the documented machine can have written the report of a script.
 ///
@@ -43,8 +134,8 @@ pub fn audit(
     ensures yes { let opening = opening_of config policy script.now.words in
         IfOk result (λ verdict. (verdict ≡ Verdict.Yes) ↔ Audited opening diagnostics.now script.now report.now) }
 {
-    let mut audit = Audit::new(alloc, config, policy, script)?;
-    judge(alloc, &mut audit, diagnostics, script, report)
+    let audit = Audit::new(alloc, config, policy, script)?;
+    judged(alloc, audit, diagnostics, script, report)
 }
 
 /// The verdict on a report, by an audit that has taken no entry.
@@ -80,8 +171,8 @@ pub fn audit_text(
     requires asks { All (IsAskAmong (length script.now.clients)) script.now.acts }
     ensures { SaysOf (opening_of config policy script.now.words) diagnostics.now script.now text.now result }
 {
-    let mut audit = Audit::new(alloc, config, policy, script)?;
-    judge_text(alloc, &mut audit, diagnostics, script, text)
+    let audit = Audit::new(alloc, config, policy, script)?;
+    text_judged(alloc, audit, diagnostics, script, text)
 }
 
 /// The verdict on a text, by an audit that has taken no entry.

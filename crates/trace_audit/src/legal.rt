@@ -8,7 +8,8 @@ ghost use Rattle.init_machine.specs.WellFormed.{IsWellFormed};
 use crate::same::first_difference;
 use init_base::{List, NoMemory};
 use init_core::Core;
-use init_machine::{Config, Entry, ListStore, Output};
+use init_machine::{Config, Entry, Output};
+use list_store::ListStore;
 use prop_contexts::Policy;
 use std::alloc::Global;
 

@@ -5,9 +5,9 @@ ghost use Rattle.std.specs.Prelude.{IfOk, MatchOption, length, List as Items};
 ghost use Rattle.init_machine.specs.Sets.{NoneBetween};
 ghost use Rattle.trace_audit.specs.Indexed.{IsIndexed, IsLastOf, SplitsAt, listed};
 
+use collections::TextIndex;
 use init_base::{List, NoMemory, Text};
 use std::alloc::Global;
-use text_index::TextIndex;
 
 /// The sets of a history in order, and the places of each name's sets.
 #[derive(Drop)]

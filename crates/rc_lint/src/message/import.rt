@@ -2,7 +2,8 @@
 
 use super::text::Message;
 use init_base::{NoMemory, Text};
-use init_machine::{DiagKind, ListStore};
+use init_machine::DiagKind;
+use list_store::ListStore;
 use prop_rules::{ExpandRefusal, expand};
 use std::alloc::Global;
 

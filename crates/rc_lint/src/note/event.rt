@@ -2,11 +2,11 @@
 
 use super::{NoteKind, Notes};
 use crate::message::Message;
+use collections::TextIndex;
 use init_base::{NoMemory, Text};
 use init_machine::{Action, Command, Config, Word};
 use lint_findings::WarningKind;
 use std::alloc::Global;
-use text_index::TextIndex;
 
 /// The events that AOSP's init triggers itself (init.cpp, reboot.cpp and builtins.cpp, Android 10 to 15).
 const OWN_EVENTS: [&[u8]; 11] = [

@@ -2,11 +2,11 @@
 
 use super::{NoteKind, Notes};
 use crate::message::Message;
+use collections::TextIndex;
 use init_base::{NoMemory, Text};
 use init_machine::{Command, Config, Word};
 use lint_findings::WarningKind;
 use std::alloc::Global;
-use text_index::TextIndex;
 
 /// The names of the services and classes of a tree.
 #[derive(Drop)]

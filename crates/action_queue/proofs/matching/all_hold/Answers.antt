@@ -1,7 +1,7 @@
 use Rattle.std.proofs.Common.{◌∙◌}
 use Rattle.std.specs.Option.{option_copied}
 use Rattle.action_queue.specs.Queue.{value_in, has_legal_name}
-use Rattle.action_queue.specs.Tests.{holds_after}
+use Rattle.action_queue.specs.internal.Tests.{holds_after}
 use Rattle.action_queue.proofs.Fronts.{front_passes, passes_front}
 use Rattle.action_queue.proofs.matching.all_hold.Goals as goal
 

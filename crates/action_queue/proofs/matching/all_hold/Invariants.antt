@@ -2,7 +2,7 @@ use Rattle.std.proofs.Common.{◌≡◌, IsTrue, drop}
 use Rattle.std.specs.List.{list_all}
 use Rattle.std.specs.Option.{option_copied}
 use Rattle.action_queue.specs.Queue.{value_in, has_legal_name}
-use Rattle.action_queue.specs.Tests.{holds_after}
+use Rattle.action_queue.specs.internal.Tests.{holds_after}
 use Rattle.action_queue.proofs.matching.all_hold.Given as goal
 
 abbrev pub invariant-loop-test : goal.invariant-loop-test

@@ -2,7 +2,7 @@ use Rattle.std.proofs.Common.{◌≡◌}
 use Rattle.std.specs.Prelude.{codes}
 use Rattle.serial_value.specs.One.{the_name, the_place}
 use Rattle.serial_value.specs.Cell.{IsReader}
-use Rattle.area_tests.specs.Stops.{at_stop}
+use Rattle.area_tests.specs.internal.Stops.{at_stop}
 use Rattle.area_tests.proofs.cell.cell_at_every_stop.Given as goal
 
 abbrev pub ghosts-reads_at_stop : goal.ghosts-reads_at_stop

@@ -3,7 +3,7 @@ use Rattle.init_machine.specs.Sets.{Set}
 use Rattle.serial_value.specs.Words.{body_word}
 use Rattle.serial_value.specs.Cell.{sets_of, HasValue}
 use Rattle.serial_value.specs.One.{the_name}
-use Rattle.serial_value.specs.Kept.Bodies.{short_word}
+use Rattle.serial_value.specs.impl_laws.Bodies.{short_word}
 use Rattle.area_tests.proofs.cell.store.Goals as goal
 
 -- the one set's value

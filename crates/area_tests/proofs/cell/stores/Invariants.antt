@@ -1,5 +1,5 @@
 use Rattle.std.proofs.Common.{◌≡◌}
-use Rattle.area_tests.specs.Stops.{at_stop}
+use Rattle.area_tests.specs.internal.Stops.{at_stop}
 use Rattle.area_tests.proofs.cell.stores.Given as goal
 
 abbrev pub invariant-loop-done : goal.invariant-loop-done

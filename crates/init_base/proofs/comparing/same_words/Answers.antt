@@ -1,6 +1,6 @@
 use Rattle.std.proofs.Common.{◌≢◌, ◌+◌, subst}
 use Rattle.std.specs.Bool.{MatchBool}
-use Rattle.init_base.specs.SameBytes.{AreSameIn}
+use Rattle.init_base.specs.internal.SameBytes.{AreSameIn}
 use Rattle.init_base.proofs.SameBytes.{by_words}
 use Rattle.init_base.proofs.comparing.same_words.Goals as goal
 

@@ -1,6 +1,6 @@
 use Rattle.std.proofs.Common.{◌≡◌, ◌++◌}
 use Rattle.init_machine.specs.Pairs.{last_pairs}
-use Rattle.init_core.specs.ByName.{pairs_in}
+use Rattle.init_core.specs.internal.ByName.{pairs_in}
 use Rattle.init_core.proofs.last_pairs.last_pairs.Given as goal
 
 abbrev pub invariant-loop-name : goal.invariant-loop-name

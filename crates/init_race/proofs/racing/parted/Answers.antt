@@ -1,6 +1,6 @@
 use Rattle.std.proofs.Common.{◌≡◌, ◌++◌, [], List, length, drop, slice_get, refl, sym, ap, ◌∙◌, arith}
 use Rattle.std.proofs.lemmas.Grind.{common_steps}
-use Rattle.init_race.specs.Ended.{readers_of, told_to}
+use Rattle.init_race.specs.internal.Ended.{readers_of, told_to}
 use Rattle.init_race.specs.declared.actors.Acted.{Acted}
 use Rattle.init_race.proofs.Parting.{all_parts, no_items, part_on, reader_on}
 use Rattle.init_race.proofs.racing.parted.Goals as goal

@@ -1,5 +1,5 @@
 use Rattle.std.proofs.Common.{◌≡◌, ◌++◌, length, drop}
-use Rattle.init_race.specs.Ended.{readers_of, told_to}
+use Rattle.init_race.specs.internal.Ended.{readers_of, told_to}
 use Rattle.init_race.proofs.racing.parted.Given as goal
 
 -- what is left decides

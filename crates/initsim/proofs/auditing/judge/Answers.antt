@@ -5,7 +5,7 @@ use Rattle.job_reader.proofs.Says.{run_stop_trace}
 use Rattle.job_reader.specs.Prepared.{GivesSaved, ScriptOfJob, course_of}
 use Rattle.job_reader.specs.Trace.{TraceSays}
 use Rattle.rc_import.proofs.Outcomes.{err_is, if_told, told as told_of}
-use Rattle.initsim.specs.Judging.{ending_of}
+use Rattle.initsim.specs.internal.Judging.{ending_of}
 use Rattle.initsim.proofs.Judged.{asked_alone, judged_counts, judged_script, judged_store, judged_tree}
 use Rattle.initsim.proofs.Performed.{course_is, setup_fits}
 use Rattle.initsim.proofs.auditing.judge.Goals as goal

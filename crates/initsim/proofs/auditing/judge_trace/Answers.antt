@@ -4,7 +4,7 @@ use Rattle.job_reader.specs.Prepared.{course_of}
 use Rattle.job_reader.specs.Stops.{GivesTrace}
 use Rattle.job_reader.specs.Trace.{TraceSays}
 use Rattle.rc_import.proofs.Outcomes.{if_told, told as told_of}
-use Rattle.initsim.specs.Judging.{JudgesText, ending_of}
+use Rattle.initsim.specs.internal.Judging.{JudgesText, ending_of}
 use Rattle.initsim.specs.Verdict.{IsVerdictOn}
 use Rattle.initsim.proofs.TextJudged.{judged_last, judged_said, judged_trace}
 use Rattle.initsim.proofs.auditing.judge_trace.Goals as goal

@@ -1,9 +1,9 @@
 use Rattle.std.proofs.Common.{◌≡◌, Option, Some, None, refl, subst, sym}
 use Rattle.init_driver.specs.Keeper.{seen_by}
-use Rattle.init_words.specs.Form.{form_of}
-use Rattle.init_words.specs.declared.form.Form.{Form}
-use Rattle.init_words.specs.declared.form.Form.TheVariants.{Run, Race, Check, Audit, Soak}
-use Rattle.init_words.specs.declared.reading.WordsRefusal.TheVariants as why
+use Rattle.command_line.specs.Form.{form_of}
+use Rattle.command_line.specs.declared.form.Form.{Form}
+use Rattle.command_line.specs.declared.form.Form.TheVariants.{Run, Race, Check, Audit, Soak}
+use Rattle.command_line.specs.declared.reading.WordsRefusal.TheVariants as why
 use Rattle.job_reader.specs.Counts.{counts_of}
 use Rattle.job_reader.specs.declared.status.Status.TheVariants as status
 use Rattle.initsim.specs.Promise.{Promise, objects_of, told_by}

@@ -1,6 +1,6 @@
 use Rattle.std.proofs.Common.{Ok, ap}
 use Rattle.init_driver.specs.Keeper.{seen_by}
-use Rattle.init_words.specs.declared.form.Form.TheVariants.{Run}
+use Rattle.command_line.specs.declared.form.Form.TheVariants.{Run}
 use Rattle.job_reader.specs.Counts.{Counts}
 use Rattle.job_reader.specs.Prepared.{GivesSaved, ScriptOfJob, course_of}
 use Rattle.rc_import.proofs.Outcomes.{told as told_of}

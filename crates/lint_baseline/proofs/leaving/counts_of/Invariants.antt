@@ -1,5 +1,5 @@
 use Rattle.std.proofs.Common.{◌≡◌, ℕ, List, take}
-use Rattle.lint_baseline.specs.Code.{count_in}
+use Rattle.lint_baseline.specs.internal.Rows.{count_in}
 use Rattle.lint_baseline.specs.Left.{known}
 use Rattle.lint_baseline.proofs.leaving.counts_of.Given as goal
 

@@ -2,7 +2,7 @@ use Rattle.std.proofs.Common.{◌-◌, ◌++◌, [], ap, sym, ◌∙◌, List, c
 use Rattle.std.specs.Str.{bytes_eq}
 use Rattle.lint_findings.specs.declared.finding.Finding.{Finding}
 use Rattle.lint_baseline.specs.Baseline.{row_of}
-use Rattle.lint_baseline.specs.Code.{count_in}
+use Rattle.lint_baseline.specs.internal.Rows.{count_in}
 use Rattle.lint_baseline.specs.Left.{having, known, left_behind}
 use Rattle.lint_baseline.proofs.Unknown.{all_left, counts_more, having_more, left_more}
 use Rattle.lint_baseline.proofs.leaving.left.Goals as goal

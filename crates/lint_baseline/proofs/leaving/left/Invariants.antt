@@ -1,5 +1,5 @@
 use Rattle.std.proofs.Common.{◌≡◌, ℕ, ◌-◌, List, [], ◌++◌}
-use Rattle.lint_baseline.specs.Code.{count_in}
+use Rattle.lint_baseline.specs.internal.Rows.{count_in}
 use Rattle.lint_baseline.specs.Left.{having, known, left_behind}
 use Rattle.lint_baseline.proofs.leaving.left.Given as goal
 

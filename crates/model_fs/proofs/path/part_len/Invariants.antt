@@ -1,6 +1,6 @@
 use Rattle.std.proofs.Common.{◌≡◌, ◌≤◌, ◌-◌, true, length, take}
 use Rattle.std.specs.List.{list_all}
-use Rattle.model_fs.specs.Paths.{is_no_slash}
+use Rattle.model_fs.specs.internal.Paths.{is_no_slash}
 use Rattle.model_fs.proofs.path.part_len.Given as goal
 
 abbrev pub invariant-loop-len : goal.invariant-loop-len

@@ -2,8 +2,8 @@
 use Rattle.std.proofs.Common.{arith, fold, sym, ◌∙◌}
 use Rattle.std.proofs.lemmas.List.{at_drop_all}
 use Rattle.model_kernel.specs.Kernel.{paths_of}
-use Rattle.text_index.specs.Texts.{with_text}
-use Rattle.text_index.proofs.Added.{all_added}
+use Rattle.collections.specs.Texts.{with_text}
+use Rattle.collections.proofs.Added.{all_added}
 use Rattle.model_kernel.proofs.plans.index_paths.Goals as goal
 
 pub returns : goal.returns

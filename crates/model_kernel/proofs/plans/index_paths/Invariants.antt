@@ -1,7 +1,7 @@
 -- The paths that are left make it whole.
 use Rattle.std.proofs.Common.{◌≡◌, [], drop, fold}
 use Rattle.model_kernel.specs.Kernel.{paths_of}
-use Rattle.text_index.specs.Texts.{with_text}
+use Rattle.collections.specs.Texts.{with_text}
 use Rattle.model_kernel.proofs.plans.index_paths.Given as goal
 
 abbrev pub invariant-loop-plan : goal.invariant-loop-plan

@@ -1,6 +1,6 @@
 use Rattle.std.proofs.Common.{◌≡◌, ◌+◌, ◌≤◌, length}
 use Rattle.persist_file.specs.Causes.{parts_at}
-use Rattle.persist_file.specs.Readings.{reading, rest_reading}
+use Rattle.persist_file.specs.internal.Readings.{reading, rest_reading}
 use Rattle.persist_file.proofs.reading.read_lines.Given as goal
 
 -- what is left decides

@@ -1,6 +1,6 @@
 use Rattle.std.proofs.Common.{◌≡◌, ◌++◌, length, List}
 use Rattle.init_machine.specs.declared.config.Pair.{Pair}
-use Rattle.prop_rules.specs.Code.Views.{Shows}
+use Rattle.prop_rules.specs.internal.Views.{Shows}
 use Rattle.prop_rules.proofs.view.boot_view.Given as goal
 
 abbrev pub invariant-loop-rest : goal.invariant-loop-rest

@@ -9,7 +9,7 @@ use Rattle.property_trie.specs.Tree.{Trie, find}
 use Rattle.property_trie.proofs.Grown.{levels_same}
 use Rattle.property_trie.specs.TrieSteps.{tree_of}
 use Rattle.property_trie.specs.declared.view.TrieView.{TrieView}
-use Rattle.property_area.specs.Kept.Trees.{trie_same}
+use Rattle.property_area.specs.impl_laws.Trees.{trie_same}
 use Rattle.property_area.specs.Places.{AreNoted}
 use Rattle.property_area.specs.Seats.{sets_in, store_of}
 use Rattle.init_machine.proofs.LegalNames.{legal_len}

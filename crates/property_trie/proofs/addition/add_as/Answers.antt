@@ -1,7 +1,7 @@
 use Rattle.std.proofs.Common.{◌≡◌, ℕ, List, rules, ◌<◌, ◌≤◌, ◌^◌, ◌+◌, [], sym, ◌∙◌, ap, subst, length, arith}
 use Rattle.init_base.specs.Value.{max_value_len}
 use Rattle.serial_value.specs.Words.{IsValue}
-use Rattle.serial_value.specs.Kept.Bodies.{most_len}
+use Rattle.serial_value.specs.impl_laws.Bodies.{most_len}
 use Rattle.serial_value.specs.Cell.{sets_of}
 use Rattle.init_machine.specs.Sets.{Set}
 use Rattle.property_trie.specs.Parts.{parts_of}

@@ -3,7 +3,7 @@ use Rattle.std.specs.List.{flat_map}
 use Rattle.std.proofs.lemmas.Result.{err_from_is_err_and}
 use Rattle.init_machine.specs.Props.{value_in}
 use Rattle.rc_import.specs.Order.{directories, in_directory}
-use Rattle.rc_import.specs.Code.Steps.{Follows}
+use Rattle.rc_import.specs.internal.Steps.{Follows}
 use Rattle.rc_import.proofs.Loads.{dir_parted, dirs_over, item_now}
 use Rattle.rc_import.proofs.Stores.{kept_on}
 use Rattle.rc_import.proofs.Walks.{list_done, list_off, list_on}

@@ -3,7 +3,7 @@ use Rattle.std.specs.List.{flat_map}
 use Rattle.init_machine.specs.Props.{value_in}
 use Rattle.rc_import.specs.Order.{directories, in_directory}
 use Rattle.rc_import.specs.Stores.{IsKept}
-use Rattle.rc_import.specs.Code.Steps.{Continues}
+use Rattle.rc_import.specs.internal.Steps.{Continues}
 use Rattle.rc_import.proofs.first.follow_directories.Given as goal
 
 -- what is left decides

@@ -5,7 +5,7 @@ use Rattle.std.proofs.lemmas.Result.{err_from_is_err_and}
 use Rattle.init_machine.specs.Props.{value_in}
 use Rattle.rc_import.specs.Order.{at_first}
 use Rattle.rc_import.specs.Paths.{file_in}
-use Rattle.rc_import.specs.Code.Steps.{Follows}
+use Rattle.rc_import.specs.internal.Steps.{Follows}
 use Rattle.rc_import.proofs.Loads.{file_follows, file_stops}
 use Rattle.rc_import.proofs.Stores.{kept_on}
 use Rattle.rc_import.proofs.Walks.{list_done, list_off, list_on}

@@ -3,7 +3,7 @@ use Rattle.std.specs.List.{flat_map}
 use Rattle.std.proofs.lemmas.Result.{err_from_is_err_and}
 use Rattle.init_machine.specs.Props.{value_in}
 use Rattle.rc_import.specs.Order.{at_first, directories, in_directory, root_file}
-use Rattle.rc_import.specs.Code.Steps.{FollowsFile}
+use Rattle.rc_import.specs.internal.Steps.{FollowsFile}
 use Rattle.rc_import.proofs.Loads.{load_broken, load_done, load_none, load_refused}
 use Rattle.rc_import.proofs.Walks.{same_world}
 use Rattle.rc_import.proofs.first.gather.Goals as goal

@@ -8,8 +8,8 @@ use Rattle.init_machine.specs.Props.{value_in}
 use Rattle.init_machine.specs.declared.diagnostic.DiagKind.TheVariants.{Loop, TooDeep}
 use Rattle.rc_import.specs.Order.{at_import, fault}
 use Rattle.rc_import.specs.Paths.{file_in, is_absolute}
-use Rattle.rc_import.specs.Code.Listings.{ListsInOrder}
-use Rattle.rc_import.specs.Code.Steps.{Follows, IsExpanded, IsFile}
+use Rattle.rc_import.specs.internal.Listings.{ListsInOrder}
+use Rattle.rc_import.specs.internal.Steps.{Follows, IsExpanded, IsFile}
 use Rattle.rc_import.proofs.Places.{below_missing, below_refused, below_there, dir_names, file_absent_met, file_broken_met, file_refused_met, file_there_met, import_faulty, path_absolute, path_relative, reach_from, target_deep, target_open}
 use Rattle.rc_import.proofs.Stores.{kept_on}
 use Rattle.rc_import.proofs.Walks.{list_done, list_off, list_on, same_met, same_world}

@@ -4,7 +4,7 @@ use Rattle.init_machine.specs.Props.{value_in}
 use Rattle.rc_import.specs.Order.{at_import, at_target}
 use Rattle.rc_import.specs.Paths.{file_in}
 use Rattle.rc_import.specs.Stores.{IsKept}
-use Rattle.rc_import.specs.Code.Steps.{Continues}
+use Rattle.rc_import.specs.internal.Steps.{Continues}
 use Rattle.rc_import.proofs.import.+imports.Given as goal
 
 abbrev pub decreases-follow_file : goal.decreases-follow_file

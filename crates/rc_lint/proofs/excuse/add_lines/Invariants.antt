@@ -1,5 +1,5 @@
 use Rattle.std.proofs.Common.{◌≡◌, ◌++◌, length}
-use Rattle.rc_lint.specs.Code.Steps.{is_excused_at}
+use Rattle.rc_lint.specs.internal.Steps.{is_excused_at}
 use Rattle.rc_lint.specs.Excused.{numbers_of}
 use Rattle.rc_lint.proofs.excuse.add_lines.Given as goal
 

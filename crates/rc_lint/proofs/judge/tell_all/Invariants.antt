@@ -1,5 +1,5 @@
 use Rattle.std.proofs.Common.{◌≡◌, ◌++◌, drop}
-use Rattle.rc_lint.specs.Code.Sources.{AreSourcesOf}
+use Rattle.rc_lint.specs.internal.Sources.{AreSourcesOf}
 use Rattle.rc_lint.specs.Excused.{errors_among}
 use Rattle.lint_findings.specs.Findings.{diagnostics_of}
 use Rattle.rc_lint.specs.Told.{IsTold, Told}

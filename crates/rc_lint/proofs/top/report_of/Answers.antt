@@ -2,7 +2,7 @@ use Rattle.std.proofs.Common.{◌∙◌, subst, sym}
 use Rattle.init_base.specs.Faults.{Counted}
 use Rattle.rc_import.specs.Answers.{is_read_fault}
 use Rattle.rc_import.specs.declared.loaded.LoadRefusal.TheVariants.{NoMemory}
-use Rattle.rc_lint.specs.Code.Reported.{Finds}
+use Rattle.rc_lint.specs.internal.Reported.{Finds}
 use Rattle.rc_lint.specs.Told.{IsTold}
 use Rattle.rc_import.proofs.Outcomes.{err_is}
 use Rattle.rc_lint.proofs.Said.{later_answer}

@@ -1,6 +1,6 @@
 use Rattle.std.proofs.Common.{◌∙◌, ap, inr}
 use Rattle.lint_findings.specs.Findings.{errors_in}
-use Rattle.rc_lint.specs.Code.Reported.{status_of}
+use Rattle.rc_lint.specs.internal.Reported.{status_of}
 use Rattle.rc_lint.proofs.Said.{front_said, page_is, whole_said}
 use Rattle.rc_lint.proofs.top.write_report.Goals as goal
 

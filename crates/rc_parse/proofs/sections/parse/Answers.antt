@@ -1,6 +1,6 @@
 use Rattle.std.proofs.Common.{List, refl, sym, ap, ◌∙◌}
 use Rattle.init_machine.specs.declared.diagnostic.Diagnostic.{Diagnostic}
-use Rattle.rc_parse.specs.Code.Adding.{from_header}
+use Rattle.rc_parse.specs.internal.Adding.{from_header}
 use Rattle.rc_parse.proofs.Headers.{headed}
 use Rattle.rc_parse.proofs.SectionList.{section_added, none_left, parsed_have}
 use Rattle.rc_parse.proofs.sections.parse.Goals as goal

@@ -1,6 +1,6 @@
 use Rattle.std.proofs.Common.{◌≡◌, length}
 use Rattle.rc_parse.specs.Lines.{sections}
-use Rattle.rc_parse.specs.Code.Adding.{from_header, with_sections}
+use Rattle.rc_parse.specs.internal.Adding.{from_header, with_sections}
 use Rattle.rc_parse.proofs.sections.parse.Given as goal
 
 -- what is left decides

@@ -1,7 +1,7 @@
 use Rattle.std.proofs.Common.{◌≡◌, ◌++◌, length}
 use Rattle.rc_parse.specs.Sections.{settings_of}
-use Rattle.rc_parse.specs.Code.Adding.{setting_diagnostics}
-use Rattle.rc_parse.specs.Code.Settings.{with_settings}
+use Rattle.rc_parse.specs.internal.Adding.{setting_diagnostics}
+use Rattle.rc_parse.specs.internal.Settings.{with_settings}
 use Rattle.rc_parse.proofs.service.set_options.Given as goal
 
 -- what is left decides

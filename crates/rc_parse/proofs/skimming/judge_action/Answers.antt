@@ -1,5 +1,5 @@
 use Rattle.std.proofs.lemmas.Result.{on_ok_weaker}
-use Rattle.rc_parse.specs.Code.Adding.{section_of}
+use Rattle.rc_parse.specs.internal.Adding.{section_of}
 use Rattle.rc_parse.specs.Lines.{arguments}
 use Rattle.rc_parse.specs.Triggers.{triggers_of}
 use Rattle.rc_parse.proofs.Alone.{action_skipped}

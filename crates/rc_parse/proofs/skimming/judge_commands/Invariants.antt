@@ -1,5 +1,5 @@
 use Rattle.std.proofs.Common.{◌≡◌, ◌++◌, length}
-use Rattle.rc_parse.specs.Code.Adding.{command_diagnostics}
+use Rattle.rc_parse.specs.internal.Adding.{command_diagnostics}
 use Rattle.rc_parse.proofs.skimming.judge_commands.Given as goal
 
 -- what is left decides

@@ -1,6 +1,6 @@
 use Rattle.std.proofs.Common.{◌≡◌, ◌++◌, ◌||◌, length}
 use Rattle.std.specs.List.{list_any}
-use Rattle.rc_parse.specs.Code.Adding.{setting_diagnostics}
+use Rattle.rc_parse.specs.internal.Adding.{setting_diagnostics}
 use Rattle.rc_parse.specs.Sections.{settings_of}
 use Rattle.rc_parse.specs.Services.{is_override}
 use Rattle.rc_parse.proofs.skimming.judge_options.Given as goal

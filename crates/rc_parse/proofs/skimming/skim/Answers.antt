@@ -1,6 +1,6 @@
 use Rattle.std.proofs.Common.{List, refl, sym, ap, ◌∙◌}
 use Rattle.init_machine.specs.declared.diagnostic.Diagnostic.{Diagnostic}
-use Rattle.rc_parse.specs.Code.Adding.{from_header}
+use Rattle.rc_parse.specs.internal.Adding.{from_header}
 use Rattle.rc_parse.proofs.Headers.{headed}
 use Rattle.rc_parse.proofs.Skims.{skim_added, none_left}
 use Rattle.rc_parse.proofs.skimming.skim.Goals as goal

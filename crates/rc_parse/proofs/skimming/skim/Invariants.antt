@@ -1,7 +1,7 @@
 use Rattle.std.proofs.Common.{◌≡◌, length}
 use Rattle.rc_parse.specs.Lines.{sections}
-use Rattle.rc_parse.specs.Code.Adding.{from_header}
-use Rattle.rc_parse.specs.Code.Skimming.{with_skims}
+use Rattle.rc_parse.specs.internal.Adding.{from_header}
+use Rattle.rc_parse.specs.internal.Skimming.{with_skims}
 use Rattle.rc_parse.proofs.skimming.skim.Given as goal
 
 -- what is left decides

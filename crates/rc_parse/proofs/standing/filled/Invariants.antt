@@ -1,5 +1,5 @@
 use Rattle.std.proofs.Common.{◌≡◌, ◌++◌}
-use Rattle.rc_parse.specs.Code.Merging.{standing}
+use Rattle.rc_parse.specs.internal.Merging.{standing}
 use Rattle.rc_parse.proofs.standing.filled.Given as goal
 
 -- what is left decides

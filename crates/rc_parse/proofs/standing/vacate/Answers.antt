@@ -1,5 +1,5 @@
 use Rattle.std.proofs.Common.{sym}
-use Rattle.rc_parse.specs.Code.Merging.{place_of}
+use Rattle.rc_parse.specs.internal.Merging.{place_of}
 use Rattle.rc_parse.proofs.Slots.{place_within, vacated_none, vacated_one}
 use Rattle.rc_parse.proofs.standing.vacate.Goals as goal
 

@@ -1,5 +1,5 @@
 use Rattle.std.proofs.Common.{length}
-use Rattle.rc_parse.specs.Code.Joining.{joined_of}
+use Rattle.rc_parse.specs.internal.Joining.{joined_of}
 use Rattle.rc_parse.proofs.Joins.{Left}
 use Rattle.rc_parse.proofs.trigger.joined.Given as goal
 

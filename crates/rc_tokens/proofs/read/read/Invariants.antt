@@ -1,5 +1,5 @@
 use Rattle.std.proofs.Common.{◌≡◌, ◌≤◌, ◌+◌, length}
-use Rattle.rc_tokens.specs.Code.Steps as steps
+use Rattle.rc_tokens.specs.internal.Steps as steps
 use Rattle.rc_tokens.proofs.read.read.Given as goal
 
 -- what is left decides

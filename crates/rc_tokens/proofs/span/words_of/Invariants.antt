@@ -1,6 +1,6 @@
 use Rattle.std.proofs.Common.{◌≡◌, ◌++◌, IsTrue, length, drop}
 use Rattle.std.specs.List.{list_all}
-use Rattle.rc_tokens.specs.Code.Ranges.{is_within, words_at}
+use Rattle.rc_tokens.specs.internal.Ranges.{is_within, words_at}
 use Rattle.rc_tokens.proofs.span.words_of.Given as goal
 
 -- what is left decides

@@ -1,7 +1,7 @@
 use Rattle.std.proofs.Common.{ℕ, ◌+◌, ◌∙◌, ap, sym, arith, get_or, set, get_or-set_other, get_or-set_same, length-set}
 use mathlib.Core.Logic.{dite}
 use native.Mathlib.Decide.{ℕ_discrete}
-use Rattle.serial_value.specs.Kept.Bodies.{short_size, short_word}
+use Rattle.serial_value.specs.impl_laws.Bodies.{short_size, short_word}
 use Rattle.serial_value.specs.Words.{body_word}
 use Rattle.serial_value.proofs.one.first_words.Goals as goal
 

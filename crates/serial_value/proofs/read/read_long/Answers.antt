@@ -1,6 +1,6 @@
 use Rattle.std.proofs.Common.{ℕ, ◌+◌, sym, refl, ap, subst, arith}
 use Rattle.serial_value.specs.Cell.{LiesAt}
-use Rattle.serial_value.specs.Kept.Bodies.{most_len}
+use Rattle.serial_value.specs.impl_laws.Bodies.{most_len}
 use Rattle.serial_value.proofs.Moves.{moves_on, same_with, unmoved}
 use Rattle.serial_value.proofs.LongReading.{length_lies, long_begins, long_copied, long_answers}
 use Rattle.serial_value.proofs.read.read_long.Goals as goal

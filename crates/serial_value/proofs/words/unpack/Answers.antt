@@ -1,7 +1,7 @@
 use Rattle.std.proofs.Common.{◌≡◌, ℕ, ◌+◌, ◌-◌, ◌*◌, ◌<◌, ◌≤◌, get_or, inl, subst, ⊎_elim, ◌∙◌, arith}
 use Rattle.std.proofs.lemmas.Bool.{cases_lt}
 use Rattle.serial_value.proofs.Packing.{byte_of}
-use Rattle.serial_value.specs.Kept.Bodies.{short_size, short_word}
+use Rattle.serial_value.specs.impl_laws.Bodies.{short_size, short_word}
 use Rattle.serial_value.proofs.words.unpack.Goals as goal
 
 pub loop-k-preserved : goal.loop-k-preserved

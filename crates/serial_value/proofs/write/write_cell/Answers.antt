@@ -1,6 +1,6 @@
 use Rattle.std.proofs.Common.{ap, sym, ◌∙◌, subst}
 use Rattle.serial_value.specs.Cell.{sets_of, accepted, HasShortCell}
-use Rattle.serial_value.specs.Kept.Sets.{short_end}
+use Rattle.serial_value.specs.impl_laws.Sets.{short_end}
 use Rattle.serial_value.specs.declared.view.CellView.{CellView}
 use Rattle.serial_value.proofs.write.write_cell.Goals as goal
 

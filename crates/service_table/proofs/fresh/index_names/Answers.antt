@@ -2,8 +2,8 @@
 use Rattle.std.proofs.Common.{arith, fold, sym, ◌∙◌}
 use Rattle.std.proofs.lemmas.List.{at_drop_all}
 use Rattle.service_table.specs.Table.{names_of}
-use Rattle.text_index.specs.Texts.{with_text}
-use Rattle.text_index.proofs.Added.{all_added}
+use Rattle.collections.specs.Texts.{with_text}
+use Rattle.collections.proofs.Added.{all_added}
 use Rattle.service_table.proofs.fresh.index_names.Goals as goal
 
 pub returns : goal.returns

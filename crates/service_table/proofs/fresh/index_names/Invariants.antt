@@ -1,7 +1,7 @@
 -- The names that are left make it whole.
 use Rattle.std.proofs.Common.{◌≡◌, [], drop, fold}
 use Rattle.service_table.specs.Table.{names_of}
-use Rattle.text_index.specs.Texts.{with_text}
+use Rattle.collections.specs.Texts.{with_text}
 use Rattle.service_table.proofs.fresh.index_names.Given as goal
 
 abbrev pub invariant-loop-def : goal.invariant-loop-def

@@ -1,7 +1,7 @@
 use Rattle.std.proofs.Common.{◌≡◌, ◌∷◌, ◌++◌, [], List, ℕ, Some, None, sym, ap, ◌∙◌}
 use Rattle.std.specs.Prelude.{position}
 use Rattle.std.specs.Str.{bytes_eq}
-use Rattle.text_index.proofs.Places.{absent_added}
+use Rattle.collections.proofs.Places.{absent_added}
 use Rattle.trace_audit.specs.Indexed.{listed}
 use Rattle.trace_audit.proofs.Indexing.{held_others, new_others, on_any}
 use Rattle.trace_audit.proofs.sets.add_place.Goals as goal

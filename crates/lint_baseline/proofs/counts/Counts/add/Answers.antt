@@ -1,6 +1,6 @@
 use Rattle.std.proofs.Common.{◌+◌, cond, ap, ◌∙◌}
 use Rattle.std.specs.Str.{bytes_eq}
-use Rattle.lint_baseline.specs.Code.{count_in}
+use Rattle.lint_baseline.specs.internal.Rows.{count_in}
 use Rattle.lint_baseline.proofs.ByBytes.{number_put, one_more}
 use Rattle.lint_baseline.proofs.counts.Counts.add.Goals as goal
 

@@ -4,7 +4,7 @@ use Rattle.std.specs.List.{list_any}
 use Rattle.std.specs.List.Sorted.{IsStrictlySortedBy}
 use Rattle.std.specs.Map.{keys_of}
 use Rattle.std.specs.Ordering.{nat_cmp}
-use Rattle.agenda.specs.Moments.{is_due}
+use Rattle.collections.specs.Moments.{is_due}
 use Rattle.model_kernel.proofs.Answered.{if_ok}
 use Rattle.model_kernel.proofs.Entries.{pids_of_living}
 use Rattle.model_kernel.proofs.Listed.{ended_are_due, ended_are_keys}

@@ -1,6 +1,6 @@
 -- The process with the pid is marked, and stands at 0 or else all are asked.
 use Rattle.std.proofs.Common.{◌≡◌, ℕ, true, eqb, ◌&&◌, ◌||◌, ap, map, sym, subst, ◌∙◌}
-use Rattle.agenda.specs.Moments.{is_held}
+use Rattle.collections.specs.Moments.{is_held}
 use Rattle.init_machine.specs.Kernel.{marked}
 use Rattle.model_kernel.proofs.Answered.{on_err, on_ok}
 use Rattle.model_kernel.proofs.Entries.{living_marked}

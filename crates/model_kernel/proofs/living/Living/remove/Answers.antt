@@ -2,7 +2,7 @@
 use Rattle.std.proofs.Common.{eqb, IfSome, ap, sym, subst, ◌∙◌}
 use Rattle.std.specs.BTreeMap.{is_at}
 use Rattle.std.specs.Ordering.{nat_cmp}
-use Rattle.agenda.specs.Moments.{is_held}
+use Rattle.collections.specs.Moments.{is_held}
 use Rattle.model_kernel.proofs.Answered.{not_and}
 use Rattle.model_kernel.proofs.Entries.{living_removed, numbered_removed}
 use Rattle.model_kernel.proofs.Listed.{one_changes}

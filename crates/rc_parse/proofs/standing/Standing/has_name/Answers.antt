@@ -1,6 +1,6 @@
 use Rattle.std.proofs.Common.{sym, ap, ◌∙◌}
 use Rattle.std.specs.List.{list_any}
-use Rattle.rc_parse.specs.Code.Merging.{place_of}
+use Rattle.rc_parse.specs.internal.Merging.{place_of}
 use Rattle.rc_parse.specs.Kept.{is_named}
 use Rattle.rc_parse.proofs.Slots.{placed_has}
 use Rattle.rc_parse.proofs.standing.Standing.has_name.Goals as goal

@@ -1,6 +1,6 @@
 use Rattle.std.proofs.Common.{◌≡◌, ℕ, List, Some, if◌then◌else◌, subst}
 use Rattle.std.specs.Str.{bytes_eq}
-use Rattle.rc_parse.specs.Code.Merging.{IsVacated, place_of}
+use Rattle.rc_parse.specs.internal.Merging.{IsVacated, place_of}
 use Rattle.rc_parse.proofs.Slots.{all_placed}
 use Rattle.rc_parse.proofs.standing.Standing.with.Goals as goal
 

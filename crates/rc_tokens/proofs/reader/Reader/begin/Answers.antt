@@ -1,7 +1,7 @@
 use Rattle.std.proofs.Common.{ℕ, not, drop, sym, ap, ◌∙◌, arith}
 use Rattle.std.proofs.lemmas.List.Sums.{prefix_len-le-length}
 use Rattle.rc_tokens.specs.Grammar.{is_blank}
-use Rattle.rc_tokens.specs.Code.Steps.{run}
+use Rattle.rc_tokens.specs.internal.Steps.{run}
 use Rattle.rc_tokens.specs.declared.reader.Reader.{Reader}
 use Rattle.rc_tokens.proofs.Runs.{blanks_passed, token_begun}
 use Rattle.rc_tokens.proofs.reader.Reader.begin.Goals as goal

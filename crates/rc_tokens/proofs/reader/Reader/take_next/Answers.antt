@@ -1,6 +1,6 @@
 use Rattle.std.proofs.Common.{◌≡◌, ◌+◌, ◌∙◌, not, length, arith}
 use Rattle.std.proofs.lemmas.List.Sums.{prefix_len-le-length}
-use Rattle.rc_tokens.specs.Code.Steps.{ends_run}
+use Rattle.rc_tokens.specs.internal.Steps.{ends_run}
 use Rattle.rc_tokens.proofs.Runs.{RunTaken, after_run, then_byte}
 use Rattle.rc_tokens.proofs.reader.Reader.take_next.Goals as goal
 

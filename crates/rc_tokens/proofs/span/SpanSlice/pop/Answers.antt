@@ -1,5 +1,5 @@
 use Rattle.std.proofs.Common.{length}
-use Rattle.rc_tokens.specs.Code.Ranges.{is_within}
+use Rattle.rc_tokens.specs.internal.Ranges.{is_within}
 use Rattle.rc_tokens.proofs.Ranges.{first_line, part_all}
 use Rattle.rc_tokens.proofs.span.SpanSlice.pop.Goals as goal
 

@@ -1,6 +1,6 @@
 use Rattle.std.proofs.Common.{ℕ, List, ap, ◌∙◌}
 use Rattle.rc_tokens.specs.Lines.{Tokens}
-use Rattle.rc_tokens.specs.Code.Ranges.{lines_at, words_at}
+use Rattle.rc_tokens.specs.internal.Ranges.{lines_at, words_at}
 use Rattle.rc_tokens.proofs.span.SpanTokens.into_tokens.Goals as goal
 
 pub returns : goal.returns

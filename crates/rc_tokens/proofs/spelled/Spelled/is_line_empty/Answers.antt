@@ -1,5 +1,5 @@
 use Rattle.std.proofs.Common.{ap, sym, ◌∙◌, arith}
-use Rattle.rc_tokens.specs.Code.Ranges.{Spelling, words_at}
+use Rattle.rc_tokens.specs.internal.Ranges.{Spelling, words_at}
 use Rattle.rc_tokens.proofs.Ranges.{none_behind, words_count}
 use Rattle.rc_tokens.proofs.spelled.Spelled.is_line_empty.Goals as goal
 

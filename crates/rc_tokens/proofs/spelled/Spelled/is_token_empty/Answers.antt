@@ -1,5 +1,5 @@
 use Rattle.std.proofs.Common.{◌≡◌, ap, length, rules, sym}
-use Rattle.rc_tokens.specs.Code.Ranges.{Spelling}
+use Rattle.rc_tokens.specs.internal.Ranges.{Spelling}
 use Rattle.rc_tokens.proofs.Ranges.{none_behind}
 use Rattle.rc_tokens.proofs.spelled.Spelled.is_token_empty.Goals as goal
 

@@ -1,6 +1,6 @@
 -- The order holds exactly the times that are kept.
 use Rattle.std.proofs.Common.{ap, ◌∙◌}
-use Rattle.agenda.proofs.Ascending.{ascends_from_sorted}
+use Rattle.collections.proofs.Ascending.{ascends_from_sorted}
 use Rattle.restart_policy.specs.Times.{places_due}
 use Rattle.restart_policy.proofs.Kept.{due_places}
 use Rattle.restart_policy.proofs.times.Times.due.Goals as goal

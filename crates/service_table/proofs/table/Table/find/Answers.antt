@@ -2,7 +2,7 @@
 use Rattle.std.proofs.Common.{ap, ◌∙◌}
 use Rattle.std.specs.Prelude.{position}
 use Rattle.std.specs.Str.{bytes_eq}
-use Rattle.text_index.proofs.Places.{position_by_text}
+use Rattle.collections.proofs.Places.{position_by_text}
 use Rattle.service_table.specs.Table.{place_named}
 use Rattle.service_table.proofs.table.Table.find.Goals as goal
 

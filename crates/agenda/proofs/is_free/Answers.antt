@@ -1,6 +1,0 @@
--- No moment stands before the first one.
-use Rattle.agenda.proofs.Held.{none_due}
-use Rattle.agenda.proofs.is_free.Goals as goal
-
-pub returns-in-Some : goal.returns-in-Some
-returns-in-Some c = λ late n. none_due c.args.now n c.in-Some.moment.now c.args.moments.now.keys late c.in-Some.ensures.all_from

@@ -1,5 +1,0 @@
-use Rattle.std.proofs.Common.{◌≡◌, ◌≤◌}
-use Rattle.area_race.proofs.wrong_of.Given as goal
-
-abbrev pub invariant-loop-k : goal.invariant-loop-k
-invariant-loop-k l = record { table : l.reader.table ≡ l.initial.reader.table; few : l.wrong ≤ l.k }

@@ -1,0 +1,4 @@
+pub mod Added
+pub mod Ascending
+pub mod Held
+pub mod Places

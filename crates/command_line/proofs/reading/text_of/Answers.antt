@@ -1,0 +1,8 @@
+use Rattle.std.proofs.Common.{sym, subst}
+use Rattle.std.specs.Str.{IsUtf8}
+use Rattle.std.proofs.lemmas.Str.{IsUtf8-from_is_utf8}
+use Rattle.command_line.proofs.reading.text_of.Goals as goal
+
+pub unreachable-requires : goal.unreachable-requires
+unreachable-requires c =
+    c.in-Err.ensures.cases.0 (subst IsUtf8 (sym c.bytes.ensures) (IsUtf8-from_is_utf8 c.args.word.now c.requires))

@@ -1,0 +1,4 @@
+pub mod Services
+pub mod Form
+pub mod Misuse
+pub mod internal

@@ -1,0 +1,4 @@
+-- What private functions say of themselves. No promise of the crate cites it, and a reader needn't believe it.
+pub mod Stage
+pub mod ByName
+pub mod Down

@@ -1,4 +1,0 @@
-pub mod Services
-pub mod Form
-pub mod Misuse
-pub mod Command

@@ -1,0 +1,3 @@
+pub mod NewNodes
+pub mod Properties
+pub mod Puts

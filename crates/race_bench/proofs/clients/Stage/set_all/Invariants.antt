@@ -1,5 +1,0 @@
-use Rattle.race_bench.specs.Clients.{IsClient}
-use Rattle.race_bench.proofs.clients.Stage.set_all.Given as goal
-
-abbrev pub invariant-loop-name : goal.invariant-loop-name
-invariant-loop-name g l = IsClient g.N.AreaName.area l.reader

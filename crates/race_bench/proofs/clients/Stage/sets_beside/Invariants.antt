@@ -1,5 +1,0 @@
-use Rattle.race_bench.specs.Clients.{IsClient}
-use Rattle.race_bench.proofs.clients.Stage.sets_beside.Given as goal
-
-abbrev pub invariant-loop-sets : goal.invariant-loop-sets
-invariant-loop-sets g l = IsClient g.N.AreaName.area l.reader

@@ -1,5 +1,0 @@
-use Rattle.race_bench.proofs.setup.answers.Given as goal
-
--- the service serves the area that was made
-abbrev pub ghosts-run_over : goal.ghosts-run_over
-ghosts-run_over g a = record { area = a.area.now }
