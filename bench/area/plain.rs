@@ -76,6 +76,13 @@ impl Area {
         self.words[at].store(word, SeqCst)
     }
 
+    // A word that stands already is not stored again.
+    fn put(&self, at: usize, word: u64) {
+        if self.load(at) != word {
+            self.store(at, word);
+        }
+    }
+
     fn compare(&self, place: usize, part: &[u8]) -> Ordering {
         let len = self.load(place) as usize;
         if part.len() != len {
@@ -170,11 +177,11 @@ impl Area {
             old[k] = self.load(cell + 1 + k);
         }
         for k in 0..12 {
-            self.store(BACKUP + k, old[k]);
+            self.put(BACKUP + k, old[k]);
         }
         self.store(cell, clean + 1);
         for k in 0..12 {
-            self.store(cell + 1 + k, word_of(value, k));
+            self.put(cell + 1 + k, word_of(value, k));
         }
         self.store(cell, ((value.len() as u64) << 56) + number * 2);
     }
@@ -190,12 +197,12 @@ impl Area {
                 let rest = &name[from..];
                 let len = rest.iter().position(|&b| b == b'.').unwrap_or(rest.len());
                 let part = &rest[..len];
-                self.store(place, len as u64);
+                self.put(place, len as u64);
                 for k in 1..5 {
-                    self.store(place + k, 0);
+                    self.put(place + k, 0);
                 }
                 for k in 0..len.div_ceil(8) {
-                    self.store(place + 5 + k, word_of(part, k));
+                    self.put(place + 5 + k, word_of(part, k));
                 }
                 self.store(link, place as u64);
                 let node = place;
@@ -209,15 +216,15 @@ impl Area {
             }
         }
         if value.len() <= SHORT {
-            self.store(place, ((value.len() as u64) << 56) + number * 2);
+            self.put(place, ((value.len() as u64) << 56) + number * 2);
             for k in 0..12 {
-                self.store(place + 1 + k, word_of(value, k));
+                self.put(place + 1 + k, word_of(value, k));
             }
         } else {
-            self.store(place, (LONG_TOP << 56) + number * 2);
-            self.store(place + 1, value.len() as u64);
+            self.put(place, (LONG_TOP << 56) + number * 2);
+            self.put(place + 1, value.len() as u64);
             for k in 0..value.len().div_ceil(8) {
-                self.store(place + 2 + k, word_of(value, k));
+                self.put(place + 2 + k, word_of(value, k));
             }
         }
         self.store(top, place as u64);

@@ -19,6 +19,13 @@ fn word_of(value: &[u8], k: usize) -> u64 {
     u64::from_le_bytes(bytes)
 }
 
+// A word that stands already is not stored again.
+fn put(slot: &AtomicU64, word: u64) {
+    if slot.load(SeqCst) != word {
+        slot.store(word, SeqCst);
+    }
+}
+
 fn write_cell(table: &[AtomicU64], number: u64, value: &[u8]) {
     let clean = table[CELL].load(SeqCst);
     let mut old = [0; 12];
@@ -26,11 +33,11 @@ fn write_cell(table: &[AtomicU64], number: u64, value: &[u8]) {
         old[k] = table[CELL + 1 + k].load(SeqCst);
     }
     for k in 0..12 {
-        table[BACKUP + k].store(old[k], SeqCst);
+        put(&table[BACKUP + k], old[k]);
     }
     table[CELL].store(clean + 1, SeqCst);
     for k in 0..12 {
-        table[CELL + 1 + k].store(word_of(value, k), SeqCst);
+        put(&table[CELL + 1 + k], word_of(value, k));
     }
     table[CELL].store(serial(value.len() as u64, number), SeqCst);
 }

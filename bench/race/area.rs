@@ -103,6 +103,13 @@ impl Area {
         self.words[at].store(word, SeqCst)
     }
 
+    // A word that stands already is not stored again.
+    fn put(&self, at: usize, word: u64) {
+        if self.load(at) != word {
+            self.store(at, word);
+        }
+    }
+
     fn compare(&self, place: usize, part: &[u8], first: u64) -> Ordering {
         let len = self.load(place) as usize;
         if part.len() != len {
@@ -199,11 +206,11 @@ impl Area {
         let clean = self.load(cell);
         let old: [u64; 12] = std::array::from_fn(|k| self.load(cell + 1 + k));
         for k in 0..12 {
-            self.store(BACKUP + k, old[k]);
+            self.put(BACKUP + k, old[k]);
         }
         self.store(cell, clean + 1);
         for k in 0..12 {
-            self.store(cell + 1 + k, word_of(value, k));
+            self.put(cell + 1 + k, word_of(value, k));
         }
         self.store(cell, ((value.len() as u64) << 56) + number * 2);
     }
@@ -213,12 +220,12 @@ impl Area {
             let rest = &name[from..];
             let part = &rest[..part_len(rest)];
             let node = *place;
-            self.store(node, part.len() as u64);
+            self.put(node, part.len() as u64);
             for k in 1..5 {
-                self.store(node + k, 0);
+                self.put(node + k, 0);
             }
             for k in 0..part.len().div_ceil(8) {
-                self.store(node + 5 + k, word_of(part, k));
+                self.put(node + 5 + k, word_of(part, k));
             }
             self.store(link, node as u64);
             *place += 5 + part.len().div_ceil(8);
@@ -233,13 +240,13 @@ impl Area {
     fn add_cell(&self, cell: usize, number: u64, value: &[u8]) {
         let short = value.len() <= SHORT;
         let top = if short { value.len() as u64 } else { LONG_TOP };
-        self.store(cell, (top << 56) + number * 2);
+        self.put(cell, (top << 56) + number * 2);
         if !short {
-            self.store(cell + 1, value.len() as u64);
+            self.put(cell + 1, value.len() as u64);
         }
         let (first, count) = if short { (cell + 1, 12) } else { (cell + 2, value.len().div_ceil(8)) };
         for k in 0..count {
-            self.store(first + k, word_of(value, k));
+            self.put(first + k, word_of(value, k));
         }
     }
 }

@@ -1,4 +1,5 @@
-//! The steps of an addition. Each is one store of one word, for every rule that meets `TrieRule`.
+//! The steps of an addition. Each is one store of one word, for every rule that meets `TrieRule`; a fresh word that stands in its place
+//! already, as a 0 where nothing was stored, is put there by a load.
 
 ghost use Rattle.std.specs.Prelude.{◌≡◌, ◌<◌, ◌≤◌, ◌+◌, ◌^◌, suc, [], ◌∷◌, ◌++◌, List, ℕ, length};
 ghost use Rattle.init_base.specs.Value.{max_value_len};
@@ -13,17 +14,9 @@ ghost use Rattle.property_trie.specs.Additions.{IsAdding, IsNext, adding, free_p
 
 use crate::rule::{Added, TrieRule};
 use atomic_table::{Play, Seat, Table};
+use serial_value::put;
 use std::alloc::Global;
-use std::marker::PhantomData;
-
-/// The store of a fresh word.
-struct Freshened<K, R, Q> {
-    marker: PhantomData<(K, R, Q)>,
-}
-
-impl<V, K, R: TrieRule<V, K>, Q: Added> Play<(), V> for Freshened<K, R, Q> {
-    ghost then = { λ st m n after. after ≡ (R.with_trie m.0 (adding (R.trie m.0) Q.name Q.linked (Q.fresh ++ n ∷ [])), m.1) };
-}
+use std::marker::{Brand, PhantomData};
 
 /// The store of the link to a node.
 struct NodeLinked<K, R, Q> {
@@ -59,7 +52,7 @@ pub(crate) fn fresh_word<V, K, R: TrieRule<V, K>, Q: Added>(
     ensures view { seat.new.me
         ≡ (R.with_trie seat.old.me.0 (adding (R.trie seat.old.me.0) Q.name Q.linked (Q.fresh ++ word ∷ [])), seat.old.me.1) }
 {
-    table.shared.store::<Freshened<K, R, Q>>(seat, place, word);
+    put::<V, K, R, Brand>(table, seat, place, word);
 }
 
 /// The node at the place, whose words stand all, is linked at `link`.

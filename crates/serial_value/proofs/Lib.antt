@@ -5,3 +5,4 @@ pub mod LongReading
 pub mod OneReader
 pub mod Agains
 pub mod Told
+pub mod LeavingOut

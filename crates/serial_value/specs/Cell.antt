@@ -1,8 +1,8 @@
 -- What each step at a cell does to the view of the seat that makes it.
 -- An update of a cell is 26 stores: the 12 old value words into the backup, the dirty serial, the 12 new value words, the
--- clean serial. A read loads the serial, the words, and the serial again. Of a short cell the words are 12, those of the value,
--- or of the backup where the serial is dirty; of a long one they are the length and the words of the value. No long cell is
--- updated.
+-- clean serial. A word that stands in its place already may be left out: its store counts as done. A read loads the serial,
+-- the words, and the serial again. Of a short cell the words are 12, those of the value, or of the backup where the serial is
+-- dirty; of a long one they are the length and the words of the value. No long cell is updated.
 use Rattle.std.specs.Prelude.{◌≡◌, ◌≢◌, ℕ, zero, suc, ◌+◌, ◌<◌, ◌≤◌, ◌^◌, ◌==◌, max, if◌then◌else◌, List, [], ◌∷◌, ◌++◌, length, take, slice_index, Option, Some, None}
 use Rattle.init_base.specs.Value.{max_value_len}
 use Rattle.init_machine.specs.Serial.{top_byte, clean_serial, top_in, number_in, is_dirty}

@@ -12,6 +12,7 @@
 mod history;
 mod layout;
 mod one;
+mod putting;
 mod read;
 mod rule;
 mod steps;
@@ -22,6 +23,7 @@ mod write;
 pub use history::reader_history;
 pub use layout::{parts, serial, top_byte};
 pub use one::{OneCell, OneSeat, OneTable, OneView, one_cell, one_reader};
+pub use putting::{Putting, put};
 pub use read::{CellAnswer, close, copy_words, read_cell, words_place};
 pub use rule::{Asked, CellRule};
 pub use steps::{

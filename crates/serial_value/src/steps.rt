@@ -1,4 +1,5 @@
-//! The steps at a cell. Each is one load or one store of one word, for every rule that meets `CellRule`.
+//! The steps at a cell. Each is one load or one store of one word, for every rule that meets `CellRule`; a word of an update that
+//! stands in its place already is put there by a load.
 
 ghost use Rattle.std.specs.Prelude.{◌≡◌, ◌<◌, ◌≤◌, ◌+◌, ◌^◌, length};
 ghost use Rattle.init_machine.specs.Serial.{top_byte, clean_serial as clean_serial_of, dirty_serial as dirty_serial_of};
@@ -7,10 +8,11 @@ ghost use Rattle.serial_value.specs.Cell.{sets_of, HasShortCell, updating, accep
 ghost use Rattle.serial_value.specs.Cell.{Begins, LiesAt, Copies, IsCopied, Ends};
 ghost use Rattle.serial_value.specs.Steps.{IsSameSeat, HasCell, IsAtCell};
 
+use crate::putting::put;
 use crate::rule::{Asked, CellRule};
 use atomic_table::{Play, Seat, Table};
 use std::alloc::Global;
-use std::marker::PhantomData;
+use std::marker::{Brand, PhantomData};
 
 /// A store that leaves the update with `Q.index` stores done.
 struct Stored<K, R, Q> {
@@ -76,7 +78,7 @@ pub fn backup_word<V, K, R: CellRule<V, K>, Q: Asked>(
     ensures view { seat.new.me
         ≡ (R.with_cell seat.old.me.0 (updating (sets_of (R.cell seat.old.me.0)) Q.name Q.value Q.place Q.index), seat.old.me.1) }
 {
-    table.shared.store::<Stored<K, R, Q>>(seat, 4 + k, word);
+    put::<V, K, R, Brand>(table, seat, 4 + k, word);
 }
 
 /// The serial of the cell becomes dirty.
@@ -114,9 +116,7 @@ pub fn value_word<V, K, R: CellRule<V, K>, Q: Asked>(
     ensures view { seat.new.me
         ≡ (R.with_cell seat.old.me.0 (updating (sets_of (R.cell seat.old.me.0)) Q.name Q.value Q.place Q.index), seat.old.me.1) }
 {
-    table
-        .shared
-        .store::<Stored<K, R, Q>>(seat, at + 1 + k, word);
+    put::<V, K, R, Brand>(table, seat, at + 1 + k, word);
 }
 
 /// The serial of the cell becomes the new clean one, and the set is accepted.

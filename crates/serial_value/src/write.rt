@@ -1,4 +1,5 @@
-//! An update of a cell by the one writer: 26 stores, the last of which accepts the set.
+//! An update of a cell by the one writer: 26 stores, the last of which accepts the set. Of the 24 words those that stand in their
+//! place already are not stored.
 
 ghost use Rattle.std.specs.Prelude.{◌≡◌, ◌<◌, ◌≤◌, ◌+◌, ◌^◌, None, length};
 ghost use Rattle.serial_value.specs.declared.view.CellView.TheVariants.{Writer};
@@ -90,8 +91,9 @@ fn write_as<V, K, R: CellRule<V, K>, Q: Asked>(
 }
 
 /// Sets a new value of at most 91 bytes at the short cell of a name. It makes the twelve stores of the backup, that of the
-/// dirty serial, the twelve of the new value's words, and that of the clean serial, with which the set is accepted. It waits
-/// for nothing. The parameters are the cell, by its table, seat and place, and the set, by its name, number and value.
+/// dirty serial, the twelve of the new value's words, and that of the clean serial, with which the set is accepted; a word that
+/// stands in its place already is loaded in place of its store. It waits for nothing. The parameters are the cell, by its table,
+/// seat and place, and the set, by its name, number and value.
 pub fn write_cell<V, K, R: CellRule<V, K>>(
     table: &Table<(), V, K, R, Global>,
     seat: &mut Seat<(), V>,

@@ -1,8 +1,8 @@
 use Rattle.std.proofs.Common.{arith}
 use Rattle.serial_value.proofs.steps.backup_word.Goals as goal
 
-pub store-requires : goal.store-requires
-store-requires g c = (
+pub put-requires-clause-may : goal.put-requires-clause-may
+put-requires-clause-may g c = (
   c.requires.table,
   omega arith,
   rw c.requires.update.2 (g.met.R.CellRule.backup_word _ _ _ _ _ _ _ _ _

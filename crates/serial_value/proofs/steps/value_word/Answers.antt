@@ -1,8 +1,8 @@
 use Rattle.std.proofs.Common.{arith}
 use Rattle.serial_value.proofs.steps.value_word.Goals as goal
 
-pub store-requires : goal.store-requires
-store-requires g c = (
+pub put-requires-clause-may : goal.put-requires-clause-may
+put-requires-clause-may g c = (
   c.requires.cell.0,
   omega arith,
   rw (c.requires.cell.2, c.requires.update.2, c.requires.word) (g.met.R.CellRule.value_word _ _ _ _ _ _ _ _

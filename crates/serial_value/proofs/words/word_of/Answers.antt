@@ -1,4 +1,4 @@
-use Rattle.std.proofs.Common.{◌*◌, ◌≤◌, length, arith}
+use Rattle.std.proofs.Common.{arith}
 use Rattle.serial_value.proofs.Packing.{word_past}
 use Rattle.serial_value.proofs.words.word_of.Goals as goal
 
