@@ -39,11 +39,11 @@ impl From<NoMemory> for CoreStop {
 pub struct Core<S: PropStore, O: Outputs> {
     pub(crate) alloc: Global,
     /// The pairs of the build files.
-    pairs: List<Pair>,
+    pub(crate) pairs: List<Pair>,
     /// The domains of the clients.
-    domains: List<Text>,
+    pub(crate) domains: List<Text>,
     pub(crate) parts: Parts<S, O>,
-    spent: bool,
+    pub(crate) spent: bool,
 }
 
 impl<S: PropStore, O: Outputs> Model for Core<S, O> {

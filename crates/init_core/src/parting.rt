@@ -1,8 +1,11 @@
 //! What leaves a core: its store for a while, and what lasts when the core ends.
 
+ghost use Rattle.std.specs.Prelude.{◌≡◌};
+
 use crate::machine::Core;
 use init_base::List;
 use init_machine::{Pair, PropStore};
+use machine_parts::Parts;
 use outputs::Outputs;
 use prop_contexts::Policy;
 
@@ -38,12 +41,50 @@ impl<S: PropStore, O: Outputs> Core<S, O> {
         ensures policy { result.policy ≡ self.policy }
         ensures store { result.store ≡ self.store }
     {
-        let parts = self.parts;
-        Ended {
-            saved: parts.saved.into_pairs(),
-            saving: parts.saving,
-            policy: parts.policy,
-            store: parts.store,
-        }
+        let Core {
+            alloc: _,
+            pairs,
+            domains,
+            parts,
+            spent: _,
+        } = self;
+        drop(pairs);
+        drop(domains);
+        parts_ended(parts)
+    }
+}
+
+/// What lasts of the parts. The others go by `drop`, one by one, so that this proof has nothing to do with them.
+fn parts_ended<S: PropStore, O: Outputs>(parts: Parts<S, O>) -> Ended<S>
+    ensures saved { (result.saved ≡ parts.saved) × (result.saving ≡ parts.saving) }
+    ensures rest { (result.policy ≡ parts.policy) × (result.store ≡ parts.store) }
+{
+    let Parts {
+        store,
+        queue,
+        services,
+        kernel,
+        tree,
+        policy,
+        environment,
+        saved,
+        saving,
+        waits,
+        over,
+        outputs,
+    } = parts;
+    drop(queue);
+    drop(services);
+    drop(kernel);
+    drop(tree);
+    drop(environment);
+    drop(waits);
+    drop(over);
+    drop(outputs);
+    Ended {
+        saved: saved.into_pairs(),
+        saving,
+        policy,
+        store,
     }
 }

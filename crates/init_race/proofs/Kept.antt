@@ -1,5 +1,7 @@
 -- What stands with the keeper behind a race.
-use Rattle.std.proofs.Common.{◌≡◌, inl, inr, ℕ, List, [], ap, ◌∙◌, subst}
+use Rattle.std.proofs.Common.{◌≡◌, inl, inr, ℕ, List, [], Result, Ok, IfOk, ap, ◌∙◌, subst}
+use Rattle.init_base.specs.declared.memory.NoMemory.{NoMemory}
+use Rattle.init_race.specs.declared.racing.Ended.{Ended}
 use Rattle.init_driver.proofs.Keepers.{took_nothing}
 use Rattle.init_driver.specs.Keeper.{KeeperView, Risks}
 use Rattle.init_machine.specs.History.{after, inputs_of}
@@ -40,3 +42,8 @@ race_not_kept o found script finished parts old new refusal.NoMemory are risks =
 -- the keeper was asked nothing
 pub nothing_kept : (o : Opening) (found : List Diagnostic) (script : Script) (keeper : KeeperView) → KeepsNot refusal.NoMemory o found script keeper keeper
 nothing_kept o found script keeper = inl (took_nothing keeper)
+
+-- what a run's actors leave is what was said of it
+pub are_raced : (o : Opening) (script : Script) (r : Result Ended NoMemory) (ended : Ended) → r ≡ Ok ended
+    → IfOk r (λ e. AreRaced o script e.finished e.parts) → AreRaced o script ended.finished ended.parts
+are_raced o script r ended is raced = subst (λ q. IfOk q (λ e. AreRaced o script e.finished e.parts)) is raced

@@ -1,6 +1,6 @@
 //! `race`: a script's clients and its main actor beside each other.
 
-ghost use Rattle.std.specs.Prelude.{◌≡◌, ◌≤◌, ◌∷◌, ◌++◌, ℕ, [], All, IfOk, IsOkAnd, IsTrue, OnOk, length, slice_get};
+ghost use Rattle.std.specs.Prelude.{◌≡◌, ◌≤◌, ◌∷◌, ◌++◌, ℕ, [], All, Ok, Err, IfOk, IfErr, IsOkAnd, IsTrue, OnOk, length, slice_get};
 ghost use Rattle.init_base.specs.Faults.{Counted};
 ghost use Rattle.init_core.specs.Core.{opening_of};
 ghost use Rattle.init_driver.specs.Keeper.{seen_by};
@@ -24,7 +24,7 @@ use crate::seating::seat_all;
 use crate::threads::act_all;
 use init_base::{IoRefusal, Keeper, List, NoMemory};
 use init_driver::{Setup, open_area};
-use init_machine::{ClientPart, Config, Entry, Output, Pair, Report};
+use init_machine::{ClientPart, Config, Diagnostic, Entry, Output, Pair, Report};
 use prop_contexts::Policy;
 use property_area::{Area, AreaWriter, Reader, WriterSeat};
 use property_service::{AreaName, FinishRefusal, Finished, Service, Shared};
@@ -198,6 +198,63 @@ fn run_over<N: AreaName + Send + Sync, R: Threads + Wait + Sync, G: Gate>(
     run_actors(rt, alloc, area, service, script, gate)
 }
 
+/// Two values, where the second isn't refused. Else the first one ends here, so that the proof of a caller has nothing to do with it.
+fn both<A: Drop, B: Drop, E>(first: A, second: Result<B, E>) -> Result<(A, B), E>
+    ensures pair { IfOk result (λ pair. (pair.0 ≡ first) × (second ≡ Ok pair.1)) }
+    ensures refused { IfErr result (λ why. second ≡ Err why) }
+{
+    match second {
+        Ok(second) => Ok((first, second)),
+        Err(why) => Err(why),
+    }
+}
+
+/// The actors' run over an area that is made for it and ends with it.
+fn run_in_area<R: Threads + Wait + Sync, G: Gate>(
+    rt: &R,
+    alloc: Global,
+    machine: (Config, Policy),
+    script: &Script,
+    gate: &G,
+) -> Result<Ended, NoMemory>
+    requires config { IsWellFormed machine.0 }
+    requires domains { length script.now.clients ≡ length machine.0.domains }
+    requires few { length script.now.clients ≤ 64 }
+    requires words { (64 ≤ script.now.words) × (script.now.words ≤ 1048576) }
+    requires asks { AsksAreMet script.now }
+    ensures { IfOk result (λ ended. AreRaced (opening_of machine.0 machine.1 script.now.words) script.now ended.finished ended.parts) }
+{
+    let (machine, (area, seat)) = both(machine, open_area(alloc, script.words))?;
+    let ended = run_over::<Brand, R, G>(rt, alloc, &area, seat, machine, script, gate);
+    drop(area);
+    ended
+}
+
+/// What a race leaves, of what its actors leave.
+fn raced_of(diagnostics: List<Diagnostic>, ended: Ended) -> Raced
+    ensures report { result.report ≡ record { diagnostics = diagnostics; history = ended.finished.history; clients = ended.parts } }
+    ensures seat { result.seat ≡ ended.finished.seat }
+{
+    let Ended { finished, parts } = ended;
+    let Finished {
+        history,
+        saved,
+        saving: _,
+        policy,
+        seat,
+    } = finished;
+    drop(saved);
+    drop(policy);
+    Raced {
+        report: Report {
+            diagnostics,
+            history,
+            clients: parts,
+        },
+        seat,
+    }
+}
+
 /// Replaces what the keeper holds, where a property was stored.
 fn keep<P: Keeper>(alloc: Global, finished: &Finished, keeper: &mut P) -> Result<(), RaceRefusal>
     requires saved { IsTrue (stored_in finished.now.history) → IsTrue (are_saved finished.now.saved) }
@@ -284,17 +341,14 @@ pub fn race<R: Threads + Wait + Sync, P: Keeper, G: Gate>(
         policy,
         diagnostics,
     } = setup;
-    let (area, seat) = open_area(alloc, script.words)?;
-    let machine = (config, policy);
-    let ended = run_over::<Brand, R, G>(rt, alloc, &area, seat, machine, script, gate)?;
-    keep(alloc, &ended.finished, keeper)?;
-    let Ended { finished, parts } = ended;
-    Ok(Raced {
-        report: Report {
-            diagnostics,
-            history: finished.history,
-            clients: parts,
-        },
-        seat: finished.seat,
-    })
+    let ended = run_in_area(rt, alloc, (config, policy), script, gate);
+    let (diagnostics, ended) = both(diagnostics, ended)?;
+    match keep(alloc, &ended.finished, keeper) {
+        Ok(()) => Ok(raced_of(diagnostics, ended)),
+        Err(why) => {
+            drop(diagnostics);
+            drop(ended);
+            Err(why)
+        }
+    }
 }

@@ -1,7 +1,7 @@
 //! What is to be run or raced, or what a trace is held against: the script, the tree and the store are read, in this order, and the
 //! first refusal ends it.
 
-ghost use Rattle.std.specs.Prelude.{◌≡◌, ℕ, [], IfErr, IfOk, IfSome};
+ghost use Rattle.std.specs.Prelude.{◌≡◌, ℕ, [], map, Ok, IfErr, IfOk, IfSome};
 ghost use Rattle.init_base.specs.Faults.{Counted};
 ghost use Rattle.init_driver.specs.Keeper.{seen_by};
 ghost use Rattle.init_machine.specs.WellFormed.{IsWellFormed};
@@ -16,7 +16,7 @@ use crate::loading::load;
 use crate::reading::{read_script, read_store};
 use crate::stop::Stop;
 use crate::texts::read_policy;
-use init_base::{Files, Keeper, List, NoMemory, Source};
+use init_base::{Files, Keeper, List, NoMemory, Source, Text};
 use init_driver::Setup;
 use init_machine::{Config, Pair, Plan};
 use prop_contexts::Policy;
@@ -74,30 +74,41 @@ fn job_of(
 ) -> Result<Job, NoMemory>
     ensures { IfOk result (IsJobFor script parts saved) }
 {
-    let plans = copy_of(alloc, script.plans.items());
-    let domains = domains_of(alloc, script.clients.items());
-    match (plans, domains) {
-        (Ok(plans), Ok(domains)) => {
-            let Loaded {
-                config,
-                diagnostics,
-            } = parts.loaded;
-            let config = Config {
-                plans,
-                saved,
-                domains,
-                ..config
-            };
-            let policy = parts.policy;
-            let setup = Setup {
-                config,
-                policy,
-                diagnostics,
-            };
-            Ok(Job { setup, script })
-        }
-        _ => Err(NoMemory),
-    }
+    let given = given_by(alloc, &script);
+    let ((script, parts, saved), (plans, domains)) = both((script, parts, saved), given)?;
+    let TreeParts { policy, loaded } = parts;
+    let Loaded {
+        config,
+        diagnostics,
+    } = loaded;
+    let config = Config {
+        plans,
+        saved,
+        domains,
+        ..config
+    };
+    let setup = Setup {
+        config,
+        policy,
+        diagnostics,
+    };
+    Ok(Job { setup, script })
+}
+
+/// The plans and the domains that a script gives a configuration.
+fn given_by(alloc: Global, script: &Script) -> Result<(List<Plan>, List<Text>), NoMemory>
+    ensures { IfOk result (λ given. (given.0 ≡ script.now.plans) × (given.1 ≡ map (λ client. client.domain) script.now.clients)) }
+{
+    let plans = copy_of(alloc, script.plans.items())?;
+    both(plans, domains_of(alloc, script.clients.items()))
+}
+
+/// Two values, where there was memory for the second. Else the first one ends here, so that the proof of a caller has nothing to do
+/// with it.
+fn both<A: Drop, B: Drop>(first: A, second: Result<B, NoMemory>) -> Result<(A, B), NoMemory>
+    ensures { IfOk result (λ pair. (pair.0 ≡ first) × (second ≡ Ok pair.1)) }
+{
+    Ok((first, second?))
 }
 
 /// Reads the script, the tree and the store.
@@ -119,7 +130,20 @@ pub fn prepare<F: Files, S: Source, P: Keeper>(
         (counts_of (F.fault_count files.new) (S.fault_count source.new) trace (P.fault_count keeper.new) out) }
 {
     let script = read_script(alloc, source)?;
-    let parts = read_tree(alloc, files)?;
-    let saved = read_store(alloc, keeper)?;
+    let parts = match read_tree(alloc, files) {
+        Ok(parts) => parts,
+        Err(why) => {
+            drop(script);
+            return Err(why);
+        }
+    };
+    let saved = match read_store(alloc, keeper) {
+        Ok(saved) => saved,
+        Err(why) => {
+            drop(script);
+            drop(parts);
+            return Err(why);
+        }
+    };
     Ok(job_of(alloc, script, parts, saved)?)
 }

@@ -1,9 +1,10 @@
 -- The context of a name, by what was looked up; and why two texts are no policy.
-use Rattle.std.proofs.Common.{◌≡◌, ℕ, ◌≤◌, Option, Some, None, List, [], ◌∷◌, length, filter, find, refl, ap, sym, ◌∙◌, true, false, arith}
+use Rattle.std.proofs.Common.{◌≡◌, ℕ, ◌≤◌, Option, Some, None, Result, Ok, IfOk, List, [], ◌∷◌, length, filter, find, refl, ap, sym, subst, ◌∙◌, true, false, arith}
 use Rattle.std.specs.Option.{option_map, option_map_or}
 use Rattle.init_machine.specs.Policy.{ContextLine, PolicyLines, is_line_for, is_prefix_for, longest, context_of}
+use Rattle.init_machine.specs.declared.policy.AllowLine.{AllowLine}
 use Rattle.init_machine.specs.declared.policy.Context.{Context}
-use Rattle.prop_contexts.specs.Allowed.{IsAllowRefusal}
+use Rattle.prop_contexts.specs.Allowed.{AreAllowed, IsAllowRefusal}
 use Rattle.prop_contexts.specs.Contexts.{default_contexts}
 use Rattle.prop_contexts.specs.Given.{AreGiven, first_of}
 use Rattle.prop_contexts.specs.Grammar.{IsRefused}
@@ -68,3 +69,7 @@ allow_refused text allow contexts default (refusal.BadLine false line) given is 
 allow_refused text allow contexts default (refusal.Twice line) given is h = absurd h
 allow_refused text allow contexts default (refusal.NoDefault line) given is h = absurd h
 allow_refused text allow contexts default refusal.NoMemory given is h = tt
+
+-- what is read of an allow text
+pub allowed : (text : List ℕ) (read : Result (List AllowLine) PolicyRefusal) (allows : List AllowLine) → read ≡ Ok allows → IfOk read (AreAllowed text) → AreAllowed text allows
+allowed text read allows is h = subst (λ r. IfOk r (AreAllowed text)) is h

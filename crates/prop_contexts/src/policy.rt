@@ -1,7 +1,8 @@
 //! The policy that two texts spell, and the look-ups in it.
 
-ghost use Rattle.std.specs.Prelude.{◌≡◌, ◌≤◌, IfOk, IfErr, length};
+ghost use Rattle.std.specs.Prelude.{◌≡◌, ◌≤◌, Some, None, Ok, Err, IfOk, IfErr, IfSome, IfNone, length};
 ghost use Rattle.init_machine.specs.Policy.{context_of, is_allowed};
+ghost use Rattle.prop_contexts.specs.Allowed.{AreAllowed, IsAllowRefusal};
 ghost use Rattle.prop_contexts.specs.Grammar.{IsPolicy, IsRefused};
 
 use crate::allowances::Allowances;
@@ -13,6 +14,39 @@ use init_base::PropName;
 use init_machine::{Context, PolicyView};
 use std::alloc::Global;
 use std::marker::Model;
+
+/// A value and another one beside it, where there is the first; else the other one ends here. So does what `both` lets go: the proof
+/// of a caller has nothing to do with it.
+fn beside<A: Drop, B: Drop>(one: Option<A>, other: B) -> Option<(A, B)>
+    ensures pair { IfSome result (λ pair. (one ≡ Some pair.0) × (pair.1 ≡ other)) }
+    ensures none { IfNone result (one ≡ None) }
+{
+    Some((one?, other))
+}
+
+/// A value and a second one, where that isn't refused.
+fn both<A: Drop, B: Drop>(
+    first: A,
+    second: Result<B, PolicyRefusal>,
+) -> Result<(A, B), PolicyRefusal>
+    ensures pair { IfOk result (λ pair. (pair.0 ≡ first) × (second ≡ Ok pair.1)) }
+    ensures refused { IfErr result (λ why. second ≡ Err why) }
+{
+    match second {
+        Ok(second) => Ok((first, second)),
+        Err(why) => Err(why),
+    }
+}
+
+/// The allowances that an allow text spells.
+fn read_allowances(alloc: Global, text: &[u8]) -> Result<Allowances, PolicyRefusal>
+    requires { length text.now ≤ 1048576 }
+    ensures read { IfOk result (AreAllowed text.now) }
+    ensures refused { IfErr result (IsAllowRefusal text.now) }
+{
+    let lines = read_allows(alloc, text)?;
+    Ok(Allowances::of(alloc, lines)?)
+}
 
 /// The policy of property sets.
 #[derive(Drop)]
@@ -49,15 +83,15 @@ impl Policy {
             exact,
             prefixes,
         } = read_contexts(alloc, contexts)?;
-        let Some(default) = default else {
+        let Some(named) = beside(default, (exact, prefixes)) else {
             return Err(PolicyRefusal::NoDefault { line: lines + 1 });
         };
-        let allows = read_allows(alloc, allow)?;
+        let ((default, (exact, prefixes)), allows) = both(named, read_allowances(alloc, allow))?;
         Ok(Policy {
             default,
             exact,
             prefixes,
-            allows: Allowances::of(alloc, allows)?,
+            allows,
         })
     }
 

@@ -188,9 +188,11 @@ fn asked_of(alloc: Global, matches: &ArgMatches<'_>) -> Result<Asked, WordsRefus
     if root.is_empty() {
         return Err(WordsRefusal::EmptyRoot);
     }
+    let judged = both(style(alloc, matches, root)?, excuses(alloc, matches))?;
+    let ((style, allowed), (root, (known, kept))) = both(judged, paths_of(alloc, matches, root))?;
     let request = Request {
-        style: style(alloc, matches, root)?,
-        allowed: allowed(alloc, matches)?,
+        style,
+        allowed,
         warns: !matches.get_flag("no-warn"),
         baseline: Baseline {
             rows: List::new(alloc),
@@ -198,10 +200,46 @@ fn asked_of(alloc: Global, matches: &ArgMatches<'_>) -> Result<Asked, WordsRefus
     };
     Ok(Asked {
         request,
-        root: Text::of(alloc, root)?,
-        known: file_of(alloc, matches.get_str("baseline"))?,
-        kept: file_of(alloc, matches.get_str("write-baseline"))?,
+        root,
+        known,
+        kept,
     })
+}
+
+/// Two values, where the second isn't refused. Else the first one ends here, so that the proof of a caller has nothing to do with it.
+fn both<A: Drop, B: Drop>(
+    first: A,
+    second: Result<B, WordsRefusal>,
+) -> Result<(A, B), WordsRefusal> {
+    match second {
+        Ok(second) => Ok((first, second)),
+        Err(why) => Err(why),
+    }
+}
+
+/// The excuses, of which memory alone can lack.
+fn excuses(alloc: Global, matches: &ArgMatches<'_>) -> Result<List<Text>, WordsRefusal> {
+    Ok(allowed(alloc, matches)?)
+}
+
+/// The tree's path, and the files of the two options.
+fn paths_of(
+    alloc: Global,
+    matches: &ArgMatches<'_>,
+    root: &[u8],
+) -> Result<(Text, (Option<Text>, Option<Text>)), WordsRefusal> {
+    both(Text::of(alloc, root)?, files_of(alloc, matches))
+}
+
+/// The files of the two options.
+fn files_of(
+    alloc: Global,
+    matches: &ArgMatches<'_>,
+) -> Result<(Option<Text>, Option<Text>), WordsRefusal> {
+    both(
+        file_of(alloc, matches.get_str("baseline"))?,
+        file_of(alloc, matches.get_str("write-baseline")),
+    )
 }
 
 /// The file of an option.

@@ -126,7 +126,9 @@ fn bad_diagnostic<R: fs::Files + AllocGlobal + Clone + Drop>(
     number: u64,
 ) -> Option<String> {
     let job = job_of(named)?;
-    diagnostic_due(named.alloc(), &job.setup.diagnostics, path, number)
+    let due = diagnostic_due(named.alloc(), &job.setup.diagnostics, path, number);
+    drop(job);
+    due
 }
 
 /// The diagnostic among these that should stand in a place.
@@ -152,13 +154,15 @@ fn bad_client<R: fs::Files + AllocGlobal + Clone + Drop>(
     number: u64,
 ) -> Option<String> {
     let job = job_of(named)?;
-    client_due(
+    let due = client_due(
         named.alloc(),
         job.script.clients.items(),
         path,
         line,
         number,
-    )
+    );
+    drop(job);
+    due
 }
 
 /// The client among these that should stand in a place.

@@ -100,11 +100,28 @@ fn entry_page(
     requires { length core.old.config.domains ≡ clients }
 {
     let mut pieces = Pieces::of(alloc, text)?;
+    let page = page_among(alloc, core, clients, &mut pieces, number);
+    drop(pieces);
+    page
+}
+
+/// The same of the pieces of the trace.
+fn page_among(
+    alloc: Global,
+    core: &mut Core<ListStore, List<Output>>,
+    clients: usize,
+    pieces: &mut Pieces<'_>,
+    number: u64,
+) -> Option<MemSink>
+    requires { length core.old.config.domains ≡ clients }
+{
     for _ in 1..number {
-        take_next(alloc, core, clients, &mut pieces)?;
+        drop(take_next(alloc, core, clients, pieces)?);
     }
-    let entry = take_next(alloc, core, clients, &mut pieces)?;
-    page_of(alloc, &entry.input, &entry.outputs)
+    let entry = take_next(alloc, core, clients, pieces)?;
+    let page = page_of(alloc, &entry.input, &entry.outputs);
+    drop(entry);
+    page
 }
 
 /// Takes the next entry's input, and answers the entry as the machine has it.

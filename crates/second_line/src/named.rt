@@ -83,11 +83,10 @@ impl<'a, R: fs::Files + AllocGlobal + Clone + Drop> Named<'a, R> {
         ensures { IfSome result (λ found. length found.0 ≤ 33554432) }
     {
         let mut store = store_below(self.rt, self.root()?).ok()?;
-        match store.load(self.alloc(), MOST_STORE_BYTES) {
-            Ok(text) if store.store().is_open() => Some((text, IMAGE)),
-            Ok(text) => Some((text, TEXT)),
-            Err(_) => None,
-        }
+        let text = store.load(self.alloc(), MOST_STORE_BYTES).ok();
+        let path = if store.store().is_open() { IMAGE } else { TEXT };
+        drop(store);
+        Some((text?, path))
     }
 
     /// The path of a file of the tree, as the machine has it.

@@ -1,5 +1,5 @@
 -- The times of services by their marks: at first, when the marks at one place change, and those that have come.
-use Rattle.std.proofs.Common.{◌≡◌, ◌≢◌, ℕ, zero, suc, ◌+◌, ◌<◌, Bool, true, false, ◌&&◌, nat_le, List, [], ◌∷◌, map, set, get_or, length, replicate, slice_get, Option, Some, None, is_some, refl, sym, ap, ◌∙◌, subst, arith, if◌then◌else◌}
+use Rattle.std.proofs.Common.{◌≡◌, ◌≢◌, ℕ, zero, suc, ◌+◌, ◌<◌, Bool, true, false, ◌&&◌, nat_le, List, [], ◌∷◌, map, set, get_or, length, replicate, slice_get, Option, Some, None, Result, Ok, IfOk, is_some, refl, sym, ap, ◌∙◌, subst, arith, if◌then◌else◌}
 use Rattle.std.proofs.lemmas.List.{get_or-set_other, get_or-set_same, length-map}
 use Rattle.std.proofs.lemmas.Grind.{common_steps}
 use Rattle.std.proofs.lemmas.List.FromFn.{length-enumerate_from}
@@ -13,6 +13,10 @@ use Rattle.init_machine.specs.declared.service.ServiceDef.{ServiceDef}
 use Rattle.restart_policy.specs.Times.{has_come, place_if_come, places_due}
 use Rattle.services.specs.Services.{ServicesView, places_now, places_due as places_due_of, places_timed_out}
 use Rattle.services.specs.Times.{kept_restart, kept_timeout, restart_time, time_at, times_of, timeout_time, within_reach}
+
+-- what a result that is Ok is made of
+pub made : {A E : Type 0} (r : Result A E) (x v : A) → r ≡ Ok x → IfOk r (λ y. y ≡ v) → x ≡ v
+made r x v is h = subst (λ q. IfOk q (λ y. y ≡ v)) is h
 
 -- as many values as there are others
 pub same_each : {A B : Type 0} (x : B) (others : List A) → replicate (length others) x ≡ map (λ other. x) others

@@ -1,5 +1,7 @@
 //! `Services`: the marks of services and the times that follow from them.
 
+ghost use Rattle.std.specs.Prelude.{◌≡◌, Ok, IfOk};
+
 use crate::options::{restart_time, timeout_time, window};
 use init_base::{List, Millis, NoMemory};
 use init_machine::{Marks, Move, Op, ServiceDef};
@@ -7,6 +9,20 @@ use restart_policy::{ExitCounts, Times, set_both};
 use service_table::{Table, step};
 use std::alloc::Global;
 use std::marker::Model;
+
+/// Four values, where there was memory for those behind the first. Else those that there are end here, so that the proof of a
+/// caller has nothing to do with it.
+fn all_four<A: Drop, B: Drop, C: Drop, D: Drop>(
+    first: A,
+    second: Result<B, NoMemory>,
+    third: Result<C, NoMemory>,
+    fourth: Result<D, NoMemory>,
+) -> Result<(A, B, C, D), NoMemory>
+    ensures first { IfOk result (λ all. all.0 ≡ first) }
+    ensures others { IfOk result (λ all. (second ≡ Ok all.1) × (third ≡ Ok all.2) × (fourth ≡ Ok all.3)) }
+{
+    Ok((first, second?, third?, fourth?))
+}
 
 /// The declared services. The kept times are exactly those that follow from the marks and that a clock can reach.
 #[derive(Drop)]
@@ -44,11 +60,17 @@ impl Services {
         ensures { IfOk result (λ services. services ≡ first_services defs) }
     {
         let count = defs.len();
+        let (table, exits, restarts, timeouts) = all_four(
+            Table::new(alloc, defs)?,
+            ExitCounts::new(alloc, count),
+            Times::new(alloc, count),
+            Times::new(alloc, count),
+        )?;
         Ok(Services {
-            table: Table::new(alloc, defs)?,
-            exits: ExitCounts::new(alloc, count)?,
-            restarts: Times::new(alloc, count)?,
-            timeouts: Times::new(alloc, count)?,
+            table,
+            exits,
+            restarts,
+            timeouts,
         })
     }
 

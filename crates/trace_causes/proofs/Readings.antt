@@ -1,6 +1,7 @@
 -- What the reader says of a text.
-use Rattle.std.proofs.Common.{◌≡◌, ℕ, true, false, List, Option, Some, None, refl, ap}
-use Rattle.std.specs.Prelude.{is_some}
+use Rattle.std.proofs.Common.{◌≡◌, ℕ, true, false, List, Option, Some, None, Result, Ok, Err, IfOk, refl, sym, ap, ◌∙◌}
+use Rattle.std.specs.Prelude.{is_none, is_some, MatchOption}
+use Rattle.init_base.specs.declared.memory.NoMemory.{NoMemory}
 use Rattle.init_machine.specs.declared.report.Entry.{Entry}
 use Rattle.init_machine.specs.declared.report.Report.{Report}
 use Rattle.trace_reader.proofs.Frames.{answer}
@@ -33,3 +34,13 @@ some_behind entry (Some report) = refl
 -- a text is not both
 pub not_both : (text : List ℕ) → IsReports text → IsNoReports text → ⊥
 not_both text is isnt = isnt.none is.report is.is
+
+-- what is said of a text where nothing stops its reader, or something does
+pub told : (text : List ℕ) (stop : Option ℕ) → is_none stop ≡ is_some (framed text) → MatchOption stop (IsReports text) (λ _. IsNoReports text)
+told text None e = is_read text (sym e)
+told text (Some left) e = is_unread text (sym e)
+
+pub told_if : (text : List ℕ) (left : Option Report) (result : Result (Option ℕ) NoMemory) → framed text ≡ left → IfOk result (λ stop. is_none stop ≡ is_some left)
+    → IfOk result (λ stop. MatchOption stop (IsReports text) (λ _. IsNoReports text))
+told_if text left (Ok stop) e h = told text stop (h ∙ ap is_some (sym e))
+told_if text left (Err why) e h = tt

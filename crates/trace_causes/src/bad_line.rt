@@ -1,7 +1,8 @@
 //! The first line of a trace that can't stand behind those before it.
 
-ghost use Rattle.std.specs.Prelude.{◌≡◌, ◌<◌, ◌+◌, IfOk, MatchOption, true};
+ghost use Rattle.std.specs.Prelude.{◌≡◌, ◌<◌, ◌+◌, IfOk, MatchOption, is_none, is_some, true};
 ghost use Rattle.init_base.specs.Lines.{lines_of};
+ghost use Rattle.trace_reader.specs.Pieces.{left_of};
 ghost use Rattle.trace_causes.specs.Faults as spec;
 ghost use Rattle.trace_causes.specs.Faults.{IsFirstBad, IsNoReports, IsReports, has_title};
 
@@ -21,10 +22,23 @@ pub fn stop_in(alloc: Global, text: &[u8]) -> Result<Option<usize>, NoMemory>
     let Some(mut pieces) = Pieces::of(alloc, text) else {
         return Ok(Some(text.len()));
     };
+    let stop = stop_among(alloc, &mut pieces);
+    drop(pieces);
+    stop
+}
+
+/// The same of the pieces that are left: none exactly where they are a report's. What it is given goes by `drop`, so that this proof
+/// has nothing to do with it.
+fn stop_among(alloc: Global, pieces: &mut Pieces<'_>) -> Result<Option<usize>, NoMemory>
+    ensures { IfOk result (λ stop. is_none stop ≡ is_some (left_of pieces.old)) }
+{
     loop {
         match pieces.next(alloc) {
-            Ok(Piece::Entry(_)) => {}
-            Ok(Piece::Rest(_)) => return Ok(None),
+            Ok(Piece::Entry(entry)) => drop(entry),
+            Ok(Piece::Rest(rest)) => {
+                drop(rest);
+                return Ok(None);
+            }
             Err(Fault::NoMemory) => return Err(NoMemory),
             Err(Fault::Bad) => return Ok(Some(pieces.left())),
         }

@@ -1,35 +1,19 @@
-use Rattle.std.proofs.Common.{◌+◌, arith, ◌∙◌, sym, ap}
-use Rattle.std.proofs.lemmas.Result.{err_from_is_err_and}
-use Rattle.prop_contexts.proofs.LookUps.{allow_refused, no_default, one_default}
+use Rattle.std.proofs.Common.{◌≡◌, Some, ◌∙◌, sym, ap}
+use Rattle.prop_contexts.proofs.LookUps.{allowed, one_default}
 use Rattle.prop_contexts.proofs.policy.Policy.read.Goals as goal
-
-pub overflow_add-result : goal.overflow_add-result
-overflow_add-result c = omega (arith, c.in_ok-lines.ensures.read.few, c.requires.contexts)
-
-pub returns-in_default-clause-refused : goal.returns-in_default-clause-refused
-returns-in_default-clause-refused c =
-    let read = c.in_ok-lines.ensures.read in
-    record { fit = read.fit; none = no_default c.args.contexts.now c.in_ok-lines.field-0 read c.in_default.is; number_is = ap (λ n. n + 1) read.count }
-
-pub returns-in_err-of-clause-refused : goal.returns-in_err-of-clause-refused
-returns-in_err-of-clause-refused c =
-    let p = err_from_is_err_and c.from_residual-in_err-of.result c.from_residual-in_err-of.ensures.1 in
-    rw (p.1, p.2) tt
-
-pub returns-in_err-allows-clause-refused : goal.returns-in_err-allows-clause-refused
-returns-in_err-allows-clause-refused c =
-    let p = err_from_is_err_and c.from_residual-in_err-allows.result c.from_residual-in_err-allows.ensures.1 in
-    rw (p.1, p.2)
-    (allow_refused c.args.contexts.now c.args.allow.now c.in_ok-lines.field-0 c.in-Some.default _ c.in_ok-lines.ensures.read c.in-Some.is c.in_err-allows.ensures.refused)
 
 pub returns-clause-policy : goal.returns-clause-policy
 returns-clause-policy c =
     let read = c.in_ok-lines.ensures.read in
+    let made = c.in_ok-default.ensures.pair in
+    let named = c.in-Some.ensures.pair in
+    let names = ap (λ p. p.1) made.0 ∙ named.1 in
+    let allows = allowed c.args.allow.now c.read_allowances.result _ made.1 c.read_allowances.ensures.read in
     record {
       contexts_are_fit = read.fit;
-      default = one_default c.args.contexts.now c.in_ok-lines.field-0 c.in-Some.default read c.in-Some.is;
-      exact = sym (ap (λ given. given.exact) read.are) ∙ sym c.exact.view_is;
-      prefixes = sym (ap (λ given. given.prefixes) read.are) ∙ sym c.prefixes.view_is;
-      allows_are_fit = c.in_ok-allows.ensures.read.fit;
-      allows = sym (c.in_ok-of.ensures ∙ c.in_ok-allows.ensures.read.are);
+      default = one_default c.args.contexts.now c.in_ok-lines.field-0 c.in_ok-default.default read (named.0 ∙ ap (λ d. Some d) (sym (ap (λ p. p.0) made.0)));
+      exact = sym (ap (λ given. given.exact) read.are) ∙ sym (ap (λ p. p.0) names);
+      prefixes = sym (ap (λ given. given.prefixes) read.are) ∙ sym (ap (λ p. p.1) names);
+      allows_are_fit = allows.fit;
+      allows = sym allows.are;
     }

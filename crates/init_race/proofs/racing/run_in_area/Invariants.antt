@@ -1,4 +1,4 @@
-use Rattle.init_race.proofs.racing.race.Given as goal
+use Rattle.init_race.proofs.racing.run_in_area.Given as goal
 
 -- the run is over this area
 abbrev pub ghosts-run_over : goal.ghosts-run_over

@@ -1,5 +1,5 @@
 use Rattle.std.proofs.Common.{◌≡◌, length}
-use Rattle.second_line.proofs.entry.entry_page.Given as goal
+use Rattle.second_line.proofs.entry.page_among.Given as goal
 
 -- the machine declares as many clients as before
 abbrev pub invariant-loop : goal.invariant-loop
