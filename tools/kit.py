@@ -5,6 +5,7 @@ import os
 import shutil
 import signal
 import sys
+import threading
 
 TOP = os.path.dirname(os.path.dirname(os.path.realpath(__file__)))
 
@@ -23,7 +24,28 @@ def load():
     # (its first call sets a signal's handler, which only the main thread may)
     made.guarded()
     signal.signal(signal.SIGINT, signal.SIG_DFL)
+    count_once(made.Crate)
     return made
+
+
+def count_once(crate):
+    """Lets a crate's sum count each crate below it once, and not once for each way down to it, as the kit's own does: of these there are some
+    6,000 below `initsim`, for which that takes 12 seconds. Each call reads all files anew, so a change between two calls is seen."""
+    count, counting = crate.stamp, threading.local()
+
+    def stamp(self):
+        sums = getattr(counting, "sums", None)
+        if sums is not None:
+            if self.folder not in sums:
+                sums[self.folder] = count(self)
+            return sums[self.folder]
+        counting.sums = {}
+        try:
+            return count(self)
+        finally:
+            counting.sums = None
+
+    crate.stamp = stamp
 
 
 def crate_of(library, name):
