@@ -53,6 +53,7 @@ impl Queue {
     }
 
     /// Adds an event behind those that wait. Of marks one waits at most.
+    #[inline(always)]
     pub fn event(&mut self, what: Event) -> Result<(), NoMemory>
         requires { IsTrue (is_mark what) → list_any is_mark self.old.events ≡ false }
         ensures ok { OnOk result (self.new ≡ record self.old { events = self.old.events ++ what ∷ [] }) }

@@ -80,7 +80,7 @@ fn begin<S: PropStore>(
 fn begin_event<S: PropStore, O: Outputs>(
     alloc: Global,
     triggers: &Triggers,
-    event: Event,
+    event: &Event,
     pending: &mut Pending,
     store: &mut S,
     outputs: &mut O,
@@ -88,9 +88,9 @@ fn begin_event<S: PropStore, O: Outputs>(
     requires { IsKept triggers.now pending.old }
     ensures kept { IsKept triggers.now pending.new }
     ensures queue { OnOk result (shown triggers.now pending.new ≡ with_taken (shown triggers.now pending.old)
-        (one_begun (matches (value_in (S.meaning store.old))) triggers.now event pending.old.events)) }
+        (one_begun (matches (value_in (S.meaning store.old))) triggers.now event.now pending.old.events)) }
     ensures lines { OnOk result (O.Adds outputs.old outputs.new
-        (one_begun (matches (value_in (S.meaning store.old))) triggers.now event pending.old.events).lines) }
+        (one_begun (matches (value_in (S.meaning store.old))) triggers.now event.now pending.old.events).lines) }
     ensures same { S.meaning store.new ≡ S.meaning store.old }
     ensures told { S.told store.new ≡ S.told store.old }
     ensures spare { S.spare store.new ≡ S.spare store.old }
@@ -99,9 +99,9 @@ fn begin_event<S: PropStore, O: Outputs>(
     pending.begun.truncate(0);
     pending.first = 0;
     pending.command = 0;
-    begin(triggers, &event, &mut pending.begun, store)?;
-    pending.changes = changes_after(pending.changes, &event);
-    add_event_line(&event, outputs)?;
+    begin(triggers, event, &mut pending.begun, store)?;
+    pending.changes = changes_after(pending.changes, event);
+    add_event_line(event, outputs)?;
     add_action_lines(alloc, triggers, &pending.begun, outputs)?;
     Ok(())
 }
@@ -109,19 +109,19 @@ fn begin_event<S: PropStore, O: Outputs>(
 fn take_event<S: PropStore, O: Outputs>(
     alloc: Global,
     triggers: &Triggers,
-    event: Event,
+    event: &Event,
     pending: &mut Pending,
     store: &mut S,
     outputs: &mut O,
 ) -> Result<(), NoMemory>
     requires kept { IsKept triggers.now pending.old }
     requires idle { running_of triggers.now pending.old ≡ [] }
-    requires lone { mark_count (event ∷ pending.old.events) ≤ 1 }
+    requires lone { mark_count (event.now ∷ pending.old.events) ≤ 1 }
     ensures kept { IsKept triggers.now pending.new }
     ensures queue { OnOk result (shown triggers.now pending.new ≡ with_taken (shown triggers.now pending.old)
-        (one_taken (matches (value_in (S.meaning store.old))) triggers.now event pending.old.events)) }
+        (one_taken (matches (value_in (S.meaning store.old))) triggers.now event.now pending.old.events)) }
     ensures lines { OnOk result (O.Adds outputs.old outputs.new
-        (one_taken (matches (value_in (S.meaning store.old))) triggers.now event pending.old.events).lines) }
+        (one_taken (matches (value_in (S.meaning store.old))) triggers.now event.now pending.old.events).lines) }
     ensures same { S.meaning store.new ≡ S.meaning store.old }
     ensures told { S.told store.new ≡ S.told store.old }
     ensures spare { S.spare store.new ≡ S.spare store.old }
@@ -132,7 +132,7 @@ fn take_event<S: PropStore, O: Outputs>(
             pending.events.push(Event::AllProperties)?;
             Ok(())
         }
-        event => begin_event(alloc, triggers, event, pending, store, outputs),
+        _ => begin_event(alloc, triggers, event, pending, store, outputs),
     }
 }
 
@@ -158,7 +158,9 @@ pub fn take_events<S: PropStore, O: Outputs>(
         let Some(event) = pending.events.pop() else {
             return Ok(());
         };
-        take_event(alloc, triggers, event, pending, store, outputs)?;
+        let taken = take_event(alloc, triggers, &event, pending, store, outputs);
+        drop(event);
+        taken?;
     }
     Ok(())
 }

@@ -2,12 +2,14 @@
 use Rattle.std.proofs.Common.{◌≡◌, ◌∷◌, [], ℕ, List, Option, refl, sym, ap, ◌∙◌, subst, Result, Ok, Err, MatchResult}
 use Rattle.init_machine.specs.Changes.{Change, behind, change, nothing}
 use Rattle.init_machine.specs.History.{sets_in}
-use Rattle.init_machine.specs.Effect.{Ran, args_shown, effect, effect_by, end_command, ending_line, expand_all, waiting_by}
+use Rattle.init_machine.specs.Effect.{Ran, args_shown, command_line, effect, effect_by, end_command, ending_line, expand_all, perform, waiting_by}
 use Rattle.init_machine.specs.Props.{Props, value_in}
 use Rattle.init_machine.specs.State.{Rules, State, value_now}
+use Rattle.init_machine.specs.Tasks.{task_of}
 use Rattle.init_machine.specs.declared.action.Command.{Command}
 use Rattle.init_machine.specs.declared.output.Cause.{Cause}
 use Rattle.init_machine.specs.declared.task.Done.{Done}
+use Rattle.init_machine.specs.declared.task.Task.{Task}
 use Rattle.init_machine.specs.declared.task.Done.TheVariants as done
 use Rattle.init_machine.specs.declared.waiting.Waiting.{Waiting}
 use Rattle.init_machine.specs.declared.waiting.Waiting.TheVariants as waiting
@@ -92,3 +94,15 @@ module _ {S O : Type 0} {meaning : S → Props} {told : S → Option (List (List
   pub runs_as_written : (p new : Parts S O) (c : Command) → expand_all (value_in (meaning p.store)) c.args ≡ Ok c.args
       → Does meaning told adds p new (effect_by (rules_of p) c (Ok c.args) (state_of meaning p)) → Does meaning told adds p new (effect (rules_of p) c (state_of meaning p))
   runs_as_written p new c is done = subst (λ (x : Change). Does meaning told adds p new x) (effect_shown (rules_of p) c c.args (Ok c.args) (state_of meaning p) refl is) done
+
+  -- a command whose arguments stand for themselves: its line was told, and then its task was done
+  pub queued_ran : (p new : Parts S O) (said : O) (c : Command) (args : List (List ℕ)) (task : Task) → args ≡ c.args
+      → expand_all (value_in (meaning p.store)) args ≡ Ok args → task ≡ task_of c.word args → adds p.outputs said (command_line c c.args ∷ [])
+      → Does meaning told adds (record p { outputs = said }) new (end_command (perform (rules_of p) task (state_of meaning p)))
+      → Does meaning told adds p new (effect (rules_of p) c (state_of meaning p))
+  queued_ran p new said c args task are expands is line done =
+      let s = state_of meaning p in
+      runs_as_written p new c (subst (λ (a : List (List ℕ)). expand_all (value_in (meaning p.store)) a ≡ Ok a) are expands)
+      (subst (λ (t : Task). Does meaning told adds p new (behind (command_line c c.args ∷ []) (end_command (perform (rules_of p) t s))))
+      (is ∙ ap (task_of c.word) are)
+      (told_first p new said (command_line c c.args) (end_command (perform (rules_of p) task s)) line refl done))

@@ -16,31 +16,10 @@ use machine_parts::Parts;
 use outputs::Outputs;
 use std::alloc::Global;
 
-/// Does what a task says, and answers how it ended. The two that boots have most are told apart first.
-#[inline(always)]
-#[tactic(auto, unfolding(init_machine::specs::Effect::perform))]
-pub fn perform<S: PropStore, O: Outputs>(
-    alloc: Global,
-    parts: &mut Parts<S, O>,
-    task: Task,
-) -> Result<Done, NoMemory>
-    requires { IsTrue (is_brief task) }
-    ensures ending { IfOk result (λ ending. ending ≡ (spec.perform (rules_of parts.old) task (state_of S.meaning parts.old)).ending) }
-    ensures did { OnOk result
-        (Does S.meaning S.told O.Adds parts.old parts.new (spec.perform (rules_of parts.old) task (state_of S.meaning parts.old)).did) }
-    ensures beside { S.Beside parts.old.store parts.new.store }
-{
-    match task {
-        Task::SetProperty { name, value } => set_property(alloc, parts, &name, &value),
-        Task::Trigger { event } => trigger(parts, event),
-        task => perform_any(alloc, parts, task),
-    }
-}
-
-/// The same, of any task.
+/// Does what a task says, and answers how it ended.
 #[inline(never)]
 #[tactic(auto, unfolding(init_machine::specs::Effect::perform))]
-fn perform_any<S: PropStore, O: Outputs>(
+pub fn perform<S: PropStore, O: Outputs>(
     alloc: Global,
     parts: &mut Parts<S, O>,
     task: Task,

@@ -5,13 +5,16 @@ ghost use Rattle.action_queue.specs.Queue.{command_at};
 ghost use Rattle.builtins.specs.Brief.{is_brief};
 ghost use Rattle.init_machine.specs.Effect.{effect, effect_by, command_line, ending_line, waiting_by};
 ghost use Rattle.init_machine.specs.Effect as spec;
+ghost use Rattle.init_machine.specs.Tasks as tasks;
 ghost use Rattle.machine_parts.specs.Parts.{Does, rules_of, state_of};
 
+use crate::arguments::{first, second};
+use crate::at_once::{set_property, trigger};
 use crate::expanding::{expand_args, stand_for_themselves};
 use crate::performing::perform;
 use crate::task::task_of;
-use init_base::NoMemory;
-use init_machine::{Cause, Command, CommandRef, Done, Output, PropStore, Task, Waiting};
+use init_base::{NoMemory, Text};
+use init_machine::{Cause, Command, CommandRef, Done, Output, PropStore, Task, Waiting, Word};
 use machine_parts::Parts;
 use outputs::Outputs;
 use std::alloc::Global;
@@ -62,7 +65,6 @@ fn end_command<O: Outputs>(
 }
 
 /// Does what a task says, and tells how it ended.
-#[inline(always)]
 fn finish<S: PropStore, O: Outputs>(
     alloc: Global,
     parts: &mut Parts<S, O>,
@@ -75,6 +77,58 @@ fn finish<S: PropStore, O: Outputs>(
 {
     let ending = perform(alloc, parts, task)?;
     end_command(ending, &mut parts.waits, &mut parts.outputs)
+}
+
+/// Sets a property, and tells how that ended.
+#[inline(always)]
+#[tactic(auto, unfolding(init_machine::specs::Effect::perform))]
+fn finish_set<S: PropStore, O: Outputs>(
+    alloc: Global,
+    parts: &mut Parts<S, O>,
+    name: Text,
+    value: Text,
+) -> Result<(), NoMemory>
+    ensures done { OnOk result (Does S.meaning S.told O.Adds parts.old parts.new
+        (spec.end_command (spec.perform (rules_of parts.old) (Task.SetProperty name value) (state_of S.meaning parts.old)))) }
+    ensures beside { S.Beside parts.old.store parts.new.store }
+{
+    let ending = set_property(alloc, parts, &name, &value);
+    drop(name);
+    drop(value);
+    end_command(ending?, &mut parts.waits, &mut parts.outputs)
+}
+
+/// Queues an event, and tells how that ended: one without a name is a wrong argument.
+#[inline(always)]
+fn finish_trigger<S: PropStore, O: Outputs>(
+    parts: &mut Parts<S, O>,
+    event: Text,
+) -> Result<(), NoMemory>
+    ensures done { OnOk result (Does S.meaning S.told O.Adds parts.old parts.new
+        (spec.end_command (spec.perform (rules_of parts.old) (tasks.trigger event) (state_of S.meaning parts.old)))) }
+    ensures beside { S.Beside parts.old.store parts.new.store }
+{
+    let ending = trigger_named(parts, event)?;
+    end_command(ending, &mut parts.waits, &mut parts.outputs)
+}
+
+/// Queues an event, if it has a name.
+#[inline(always)]
+#[tactic(auto, unfolding(init_machine::specs::Effect::perform))]
+fn trigger_named<S: PropStore, O: Outputs>(
+    parts: &mut Parts<S, O>,
+    event: Text,
+) -> Result<Done, NoMemory>
+    ensures ending { IfOk result (λ ending. ending
+        ≡ (spec.perform (rules_of parts.old) (tasks.trigger event) (state_of S.meaning parts.old)).ending) }
+    ensures did { OnOk result (Does S.meaning S.told O.Adds parts.old parts.new
+        (spec.perform (rules_of parts.old) (tasks.trigger event) (state_of S.meaning parts.old)).did) }
+    ensures beside { S.Beside parts.old.store parts.new.store }
+{
+    if event.is_empty() {
+        return Ok(Done::Failed(Cause::BadArgument { number: 1 }));
+    }
+    trigger(parts, event)
 }
 
 /// Tells the line of a command whose arguments are expanded, does what it asks for, and tells how it ended.
@@ -123,7 +177,8 @@ pub fn run<S: PropStore, O: Outputs>(
     }
 }
 
-/// Runs the command at a place of the actions. One whose arguments stand for themselves is only read.
+/// Runs the command at a place of the actions. One whose arguments stand for themselves is only read, and the two words that boots
+/// have most are done without a task.
 pub fn run_queued<S: PropStore, O: Outputs>(
     alloc: Global,
     parts: &mut Parts<S, O>,
@@ -135,11 +190,25 @@ pub fn run_queued<S: PropStore, O: Outputs>(
     ensures beside { S.Beside parts.old.store parts.new.store }
 {
     let command = parts.queue.command(place);
-    if !stand_for_themselves(command.args.items()) {
+    let args = command.args.items();
+    if !stand_for_themselves(args) {
         let command = command.share()?;
         return run(alloc, parts, command);
     }
-    let task = task_of(command.word, command.args.items())?;
     add_line(command, &mut parts.outputs)?;
-    finish(alloc, parts, task)
+    match command.word {
+        Word::Setprop => {
+            let name = first(args)?;
+            let value = second(args)?;
+            finish_set(alloc, parts, name, value)
+        }
+        Word::Trigger => {
+            let event = first(args)?;
+            finish_trigger(parts, event)
+        }
+        word => {
+            let task = task_of(word, args)?;
+            finish(alloc, parts, task)
+        }
+    }
 }

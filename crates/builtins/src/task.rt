@@ -21,23 +21,10 @@ const ONLY_ENABLED: &[u8] = b"--only-enabled";
 
 const ONLY_IF_RUNNING: &[u8] = b"--only-if-running";
 
-/// What a command asks for. The two words that boots have most are told apart first, so that their tasks are made where they are done.
-#[inline(always)]
-#[tactic(auto, unfolding(init_machine::specs::Tasks::task_of))]
-pub fn task_of(word: Word, args: &[Text]) -> Result<Task, NoMemory>
-    ensures { IfOk result (λ task. task ≡ spec.task_of word args.now) }
-{
-    match word {
-        Word::Setprop => set_property(args),
-        Word::Trigger => trigger(args),
-        _ => task_of_any(word, args),
-    }
-}
-
-/// The same, of any word.
+/// What a command asks for.
 #[inline(never)]
 #[tactic(auto, unfolding(init_machine::specs::Tasks::task_of))]
-fn task_of_any(word: Word, args: &[Text]) -> Result<Task, NoMemory>
+pub fn task_of(word: Word, args: &[Text]) -> Result<Task, NoMemory>
     ensures { IfOk result (λ task. task ≡ spec.task_of word args.now) }
 {
     match word {
@@ -130,7 +117,6 @@ fn exec(args: &[Text]) -> Result<Task, NoMemory>
     }
 }
 
-#[inline(always)]
 fn set_property(args: &[Text]) -> Result<Task, NoMemory>
     ensures { IfOk result (λ task. task ≡ Task.SetProperty (spec.first args.now) (spec.second args.now)) }
 {
@@ -139,7 +125,6 @@ fn set_property(args: &[Text]) -> Result<Task, NoMemory>
     Ok(Task::SetProperty { name, value })
 }
 
-#[inline(always)]
 fn trigger(args: &[Text]) -> Result<Task, NoMemory>
     ensures { IfOk result (λ task. task ≡ spec.trigger (spec.first args.now)) }
 {

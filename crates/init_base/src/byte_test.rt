@@ -47,6 +47,7 @@ fn all_hold_in_turn<T: ByteTest>(bytes: &[u8]) -> bool
 }
 
 /// `all_hold`, where the first `N` bytes and the last `N`, which may overlap, are all bytes.
+#[inline(always)]
 #[tactic(auto, using(crate::proofs::Blocks::all_of_ends))]
 fn hold_in_ends<T: ByteTest, const N: usize>(bytes: &[u8]) -> bool
     requires least { N ≤ length bytes.now }
@@ -57,6 +58,7 @@ fn hold_in_ends<T: ByteTest, const N: usize>(bytes: &[u8]) -> bool
 }
 
 /// `all_hold`, of the first `N` bytes. They are tested together.
+#[inline(always)]
 #[tactic(auto, using(crate::proofs::Blocks::all_of_next))]
 fn hold_in_front<T: ByteTest, const N: usize>(bytes: &[u8]) -> bool
     requires { N ≤ length bytes.now }

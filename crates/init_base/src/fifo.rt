@@ -77,6 +77,7 @@ impl<T> Fifo<T> {
 
 impl<T: Drop> Fifo<T> {
     /// Adds a value at the end.
+    #[inline(always)]
     pub fn push(&mut self, item: T) -> Result<(), NoMemory>
         ensures ok { OnOk result (self.new ≡ self.old ++ item ∷ []) }
         ensures err { OnErr result (self.new ≡ self.old) }

@@ -75,8 +75,19 @@ pub fn run<P: Keeper, K: Sink>(
     ensures keeper { Counted (keeper_failed result) (P.fault_count keeper.old) (P.fault_count keeper.new) }
     ensures sink { Counted (sink_failed result) (K.fault_count out.old) (K.fault_count out.new) }
 {
-    let (area, seat) = open_area(alloc, script.words)?;
-    run_over::<Brand, P, K>(alloc, &area, seat, setup, script, keeper, out)
+    let (area, seat, printers) = open_room(alloc, script.words)?;
+    run_over::<Brand, P, K>(alloc, &area, seat, printers, setup, script, keeper, out)
+}
+
+/// An area of so many words and its writer's seat, and two printers, of which the first is empty.
+fn open_room(alloc: Global, words: u64) -> Result<(Area, WriterSeat, (Printer, Printer)), NoMemory>
+    requires { (64 ≤ words) × (words ≤ 1048576) }
+    ensures seat { IfOk result (λ made. (made.1.table ≡ made.0) × (made.1.view ≡ begins words)) }
+    ensures empty { IfOk result (λ made. made.2.0.bytes ≡ []) }
+{
+    let printers = (Printer::new(alloc)?, Printer::new(alloc)?);
+    let (area, seat) = open_area(alloc, words)?;
+    Ok((area, seat, printers))
 }
 
 /// An area of so many words, and its writer's seat.
@@ -96,6 +107,7 @@ fn run_over<N: AreaName, P: Keeper, K: Sink>(
     alloc: Global,
     area: &Area,
     seat: WriterSeat,
+    printers: (Printer, Printer),
     setup: Setup,
     script: &Script,
     keeper: &mut P,
@@ -103,6 +115,7 @@ fn run_over<N: AreaName, P: Keeper, K: Sink>(
 ) -> Result<WriterSeat, DriveRefusal>
     requires config { IsWellFormed setup.config }
     requires domains { length script.now.clients ≤ length setup.config.domains }
+    requires empty { printers.0.bytes ≡ [] }
     requires named { area.now ≡ N.area }
     requires seat { (seat.table ≡ area.now) × (seat.view ≡ begins script.now.words) }
     requires asks { AsksAreMet script.now }
@@ -119,11 +132,9 @@ fn run_over<N: AreaName, P: Keeper, K: Sink>(
         policy,
         diagnostics,
     } = setup;
-    let core = Machine::<N, Printer>::new(alloc, config, policy, area, seat, Printer::new(alloc))?;
-    let traced = Traced {
-        core,
-        printer: Printer::new(alloc),
-    };
+    let (printer, told) = printers;
+    let core = Machine::<N, Printer>::new(alloc, config, policy, area, seat, told)?;
+    let traced = Traced { core, printer };
     drive_whole(alloc, traced, &diagnostics, script, keeper, out)
 }
 

@@ -1,6 +1,6 @@
 //! `Printer`: a report that is printed part by part, so that no history need be kept.
 
-ghost use Rattle.std.specs.Prelude.{◌≡◌, ◌++◌, ◌≤◌, [], OnOk, drop, false, length, take};
+ghost use Rattle.std.specs.Prelude.{◌≡◌, ◌++◌, ◌≤◌, [], IfOk, OnOk, drop, false, length, take};
 ghost use Rattle.init_base.specs.Faults.{Counted, write_failed};
 ghost use Rattle.init_trace.specs.Fields.{head_fields};
 ghost use Rattle.init_trace.specs.Line.{line_text, lines_text};
@@ -24,6 +24,13 @@ use std::marker::Model;
 /// of faults rose where the answer is `Failed`, and is as it was where it is anything else.
 #[derive(Drop)]
 pub struct Printer {
+    /// In a box, so that two printers change places by a word each.
+    pub(crate) kept: Box<Kept>,
+}
+
+/// What a printer keeps.
+#[derive(Drop)]
+pub(crate) struct Kept {
     pub(crate) page: Vec<u8>,
     begun: usize,
     pub(crate) stores: bool,
@@ -34,19 +41,22 @@ impl Model for Printer {
 
     ghost Value = { Waiting };
 
-    ghost view = { λ p. record { bytes = p.page.items; begun = p.begun; stores = p.stores } };
+    ghost view = { λ p. record { bytes = p.kept.value.page.items; begun = p.kept.value.begun; stores = p.kept.value.stores } };
 }
 
 impl Printer {
-    /// A printer with nothing that waits. It takes no memory.
-    pub fn new(alloc: Global) -> Printer
-        ensures { result.bytes ≡ [] }
+    /// A printer with nothing that waits.
+    pub fn new(alloc: Global) -> Result<Printer, NoMemory>
+        ensures { IfOk result (λ printer. printer.bytes ≡ []) }
     {
-        Printer {
+        let kept = Kept {
             page: Vec::new(alloc),
             begun: 0,
             stores: false,
-        }
+        };
+        Ok(Printer {
+            kept: Box::new(alloc, kept)?,
+        })
     }
 
     /// Adds the head of a report: the first line and the diagnostics.
@@ -59,8 +69,8 @@ impl Printer {
             (HeadText diagnostics.now) }
         ensures cause { Counted (write_failed result) (K.fault_count out.old) (K.fault_count out.new) }
     {
-        let alloc = *self.page.allocator();
-        add_head(alloc, out, &mut self.page, diagnostics.items())
+        let alloc = *self.kept.page.allocator();
+        add_head(alloc, out, &mut self.kept.page, diagnostics.items())
     }
 
     /// Begins an entry, whose outputs are to be told.
@@ -69,16 +79,16 @@ impl Printer {
         ensures begun { OnOk result (self.new.begun ≡ length self.old.bytes) }
         ensures stores { OnOk result (self.new.stores ≡ false) }
     {
-        self.begun = self.page.len();
-        self.stores = false;
-        input.add(&mut self.page)
+        self.kept.begun = self.kept.page.len();
+        self.kept.stores = false;
+        input.add(&mut self.kept.page)
     }
 
     /// Whether the last entry stores a property.
     pub fn stores(&self) -> bool
         ensures { result ≡ self.now.stores }
     {
-        self.stores
+        self.kept.stores
     }
 
     /// Writes what waits before the last entry.
@@ -89,10 +99,11 @@ impl Printer {
         ensures begun { OnOk result (self.new.begun ≡ 0) }
         ensures cause { Counted (write_failed result) (K.fault_count out.old) (K.fault_count out.new) }
     {
-        let alloc = *self.page.allocator();
-        send(alloc, out, &self.page[..self.begun])?;
-        cut_front(&mut self.page, self.begun)?;
-        self.begun = 0;
+        let alloc = *self.kept.page.allocator();
+        send(alloc, out, &self.kept.page[..self.kept.begun])?;
+        let begun = self.kept.begun;
+        cut_front(&mut self.kept.page, begun)?;
+        self.kept.begun = 0;
         Ok(())
     }
 
@@ -101,8 +112,8 @@ impl Printer {
         ensures added { Adds (K.taken out.old) (K.taken out.new) result self.old.bytes self.new.bytes [] }
         ensures cause { Counted (write_failed result) (K.fault_count out.old) (K.fault_count out.new) }
     {
-        let alloc = *self.page.allocator();
-        turn(alloc, out, &mut self.page)
+        let alloc = *self.kept.page.allocator();
+        turn(alloc, out, &mut self.kept.page)
     }
 
     /// Adds an entry: its input, and what the machine did.
@@ -116,8 +127,8 @@ impl Printer {
             (EntryText (record { input = input.now; outputs = outputs.now })) }
         ensures cause { Counted (write_failed result) (K.fault_count out.old) (K.fault_count out.new) }
     {
-        let alloc = *self.page.allocator();
-        add_entry(alloc, out, &mut self.page, input, outputs.items())
+        let alloc = *self.kept.page.allocator();
+        add_entry(alloc, out, &mut self.kept.page, input, outputs.items())
     }
 
     /// Adds the tail of a report: the clients' parts and the last line. The first client has number 1.
@@ -130,8 +141,8 @@ impl Printer {
             (TailText clients.now) }
         ensures cause { Counted (write_failed result) (K.fault_count out.old) (K.fault_count out.new) }
     {
-        let alloc = *self.page.allocator();
-        add_tail(alloc, out, &mut self.page, clients.items())
+        let alloc = *self.kept.page.allocator();
+        add_tail(alloc, out, &mut self.kept.page, clients.items())
     }
 
     /// Writes all that waits.
@@ -140,9 +151,9 @@ impl Printer {
         ensures empty { OnOk result (self.new.bytes ≡ []) }
         ensures cause { Counted (write_failed result) (K.fault_count out.old) (K.fault_count out.new) }
     {
-        let alloc = *self.page.allocator();
-        send(alloc, out, self.page.as_slice())?;
-        self.page.clear();
+        let alloc = *self.kept.page.allocator();
+        send(alloc, out, self.kept.page.as_slice())?;
+        self.kept.page.clear();
         Ok(())
     }
 }

@@ -16,7 +16,7 @@ pub fn print<K: Sink>(alloc: Global, report: &Report, out: &mut K) -> Result<(),
     ensures written { Writes (K.taken out.old) (K.taken out.new) result (TextOf report.now) }
     ensures cause { Counted (write_failed result) (K.fault_count out.old) (K.fault_count out.new) }
 {
-    let mut printer = Printer::new(alloc);
+    let mut printer = Printer::new(alloc)?;
     print_report(&mut printer, report, out)?;
     printer.flush(out)
 }
@@ -31,7 +31,7 @@ pub fn print_diagnostics<K: Sink>(
         (DiagnosticsText diagnostics.now) }
     ensures cause { Counted (write_failed result) (K.fault_count out.old) (K.fault_count out.new) }
 {
-    let mut printer = Printer::new(alloc);
+    let mut printer = Printer::new(alloc)?;
     print_alone(alloc, &mut printer, diagnostics, out)?;
     printer.flush(out)
 }

@@ -28,18 +28,18 @@ impl Outputs for Printer {
     }
 
     fn event(&mut self, name: &Text) -> Result<(), NoMemory> {
-        led_text(&mut self.page, b" event ", name)?;
-        put_byte(&mut self.page, b'\n')
+        led_text(&mut self.kept.page, b" event ", name)?;
+        put_byte(&mut self.kept.page, b'\n')
     }
 
     fn change(&mut self, name: &Text, value: &Text) -> Result<(), NoMemory> {
-        word_texts(&mut self.page, b"change", name, value)?;
-        put_byte(&mut self.page, b'\n')
+        word_texts(&mut self.kept.page, b"change", name, value)?;
+        put_byte(&mut self.kept.page, b'\n')
     }
 
     fn action(&mut self, file: &Text, line: u32) -> Result<(), NoMemory> {
-        add_action(&mut self.page, file, line)?;
-        put_byte(&mut self.page, b'\n')
+        add_action(&mut self.kept.page, file, line)?;
+        put_byte(&mut self.kept.page, b'\n')
     }
 
     fn command(
@@ -49,38 +49,38 @@ impl Outputs for Printer {
         word: Word,
         args: &SharedList<Text>,
     ) -> Result<(), NoMemory> {
-        add_command(&mut self.page, file, line, word, args)?;
-        put_byte(&mut self.page, b'\n')
+        add_command(&mut self.kept.page, file, line, word, args)?;
+        put_byte(&mut self.kept.page, b'\n')
     }
 
     fn ok(&mut self) -> Result<(), NoMemory> {
-        put(&mut self.page, b" ok\n")
+        put(&mut self.kept.page, b" ok\n")
     }
 
     fn put(&mut self, number: u64, name: &Text, value: &Text) -> Result<(), NoMemory> {
-        add_put(&mut self.page, number, name, value)?;
-        put_byte(&mut self.page, b'\n')
+        add_put(&mut self.kept.page, number, name, value)?;
+        put_byte(&mut self.kept.page, b'\n')
     }
 
     fn stored(&mut self, name: &Text) -> Result<(), NoMemory> {
-        self.stores = true;
-        word_text(&mut self.page, b"stored", name)?;
-        put_byte(&mut self.page, b'\n')
+        self.kept.stores = true;
+        word_text(&mut self.kept.page, b"stored", name)?;
+        put_byte(&mut self.kept.page, b'\n')
     }
 
     fn spawn(&mut self, pid: Pid, name: &Text, path: &Text) -> Result<(), NoMemory> {
-        add_spawn(&mut self.page, pid.0, name, path)?;
-        put_byte(&mut self.page, b'\n')
+        add_spawn(&mut self.kept.page, pid.0, name, path)?;
+        put_byte(&mut self.kept.page, b'\n')
     }
 
     fn kill(&mut self, pid: Pid, name: &Text) -> Result<(), NoMemory> {
-        add_process(&mut self.page, b"kill", pid.0, name)?;
-        put_byte(&mut self.page, b'\n')
+        add_process(&mut self.kept.page, b"kill", pid.0, name)?;
+        put_byte(&mut self.kept.page, b'\n')
     }
 
     fn reap(&mut self, pid: Pid, name: &Text, how: How) -> Result<(), NoMemory> {
-        add_reap(&mut self.page, pid.0, name, how)?;
-        put_byte(&mut self.page, b'\n')
+        add_reap(&mut self.kept.page, pid.0, name, how)?;
+        put_byte(&mut self.kept.page, b'\n')
     }
 }
 
@@ -89,8 +89,8 @@ impl Outputs for Printer {
 fn tell(printer: &mut Printer, output: &Output) -> Result<(), NoMemory>
     ensures { OnOk result (IsTold printer.old printer.new (output.now ∷ [])) }
 {
-    printer.stores = printer.stores || is_stored(output);
-    output.add(&mut printer.page)
+    printer.kept.stores = printer.kept.stores || is_stored(output);
+    output.add(&mut printer.kept.page)
 }
 
 /// Whether it tells that a property is stored.

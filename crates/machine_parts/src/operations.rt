@@ -268,6 +268,7 @@ fn judge_control<S: PropStore, O: Outputs>(
 }
 
 /// A set of any name, by init or by a client of a domain, and why it is refused, if it is.
+#[inline(always)]
 #[tactic(auto, unfolding(init_machine::specs::Services::set_by))]
 pub fn set_by<S: PropStore, O: Outputs>(
     alloc: Global,

@@ -57,6 +57,7 @@ impl Schedule {
     }
 
     /// Adds an event, which is no mark, behind those that wait.
+    #[inline(always)]
     pub fn event(&mut self, what: Event) -> Result<(), NoMemory>
         requires { is_mark what ≡ false }
         ensures { OnOk result (self.new ≡ with_event self.old what) }

@@ -116,13 +116,10 @@ impl Names {
             return self.walk_over(name);
         }
         let (seen, rest) = name.split_at(most);
-        let Walked { digest, front, .. } = self.walk_over(seen);
-        Walked {
-            name,
-            digest,
-            rest,
-            front,
-        }
+        let mut walked = self.walk_over(seen);
+        walked.name = name;
+        walked.rest = rest;
+        walked
     }
 
     /// Walks over all bytes of a name.
@@ -154,10 +151,10 @@ impl Names {
     }
 
     /// The context of the longest line for a front of a name that was walked over. It takes no memory.
-    pub fn longest(&self, walked: Walked<'_>) -> Option<&Context>
-        requires { IsWalked self.now walked.name.now walked.digest walked.rest.now walked.front }
+    pub fn longest(&self, walked: &Walked<'_>) -> Option<&Context>
+        requires { IsWalked self.now walked.now.name.now walked.now.digest walked.now.rest.now walked.now.front }
         ensures { option_copied result
-            ≡ option_map (λ line. line.context) (longest (filter (is_prefix_for walked.entry.name.now) self.now)) }
+            ≡ option_map (λ line. line.context) (longest (filter (is_prefix_for walked.entry.now.name.now) self.now)) }
     {
         let place = walked.front.place?;
         let front = &walked.name[..walked.front.len];
@@ -165,7 +162,7 @@ impl Names {
             return Some(context);
         }
         let (_, shorter) = front.split_last()?;
-        self.longest(self.walk(shorter))
+        self.longest(&self.walk(shorter))
     }
 }
 

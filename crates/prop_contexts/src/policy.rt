@@ -105,7 +105,7 @@ impl Policy {
         if let Some(context) = self.exact.get(walked.name, walked.digest, walked.rest) {
             return context;
         }
-        match self.prefixes.longest(walked) {
+        match self.prefixes.longest(&walked) {
             Some(context) => context,
             None => &self.default,
         }

@@ -171,7 +171,7 @@ fn print_entry(
     outputs: &List<Output>,
     page: &mut MemSink,
 ) -> Result<(), IoRefusal> {
-    let mut printer = Printer::new(alloc);
+    let mut printer = Printer::new(alloc)?;
     printer.print_entry(input, outputs, page)?;
     printer.flush(page)
 }

@@ -19,7 +19,7 @@ pub record Counts : Type 0 where
 
 -- what a counter's fields mean
 abbrev pub counts_in : Inside → Counts
-counts_in c = record { entries = c.entries; puts = c.puts; spawns = c.spawns; events = c.events; props = c.store.props }
+counts_in c = record { entries = c.entries; puts = c.puts; spawns = c.spawns; events = c.events; props = c.store.value.props }
 
 -- the numbers of a report with these parts of clients
 abbrev pub tally_with : Counts → List ClientPart → Tally

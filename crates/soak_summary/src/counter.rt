@@ -23,7 +23,8 @@ pub struct Counter {
     puts: u64,
     spawns: u64,
     events: u64,
-    store: ListStore,
+    /// In a box, so that two counters change places by a few words.
+    store: Box<ListStore>,
 }
 
 impl Model for Counter {
@@ -45,7 +46,7 @@ impl Counter {
             puts: 0,
             spawns: 0,
             events: 0,
-            store: open_store(alloc)?,
+            store: Box::new(alloc, open_store(alloc)?)?,
         })
     }
 

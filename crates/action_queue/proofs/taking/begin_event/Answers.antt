@@ -23,7 +23,7 @@ returns-clause-kept g c = kept_begun c.args.triggers.now c.args.pending.now c.be
 pub returns-clause-queue : goal.returns-clause-queue
 returns-clause-queue g c =
     let actions = c.args.triggers.now in
-    let triggered = matches (value_in (g.S.PropStore.meaning c.args.store.now)) c.args.event in
+    let triggered = matches (value_in (g.S.PropStore.meaning c.args.store.now)) c.args.event.now in
     let is = c.in_ok-begin.ensures.begun ∙ ap (λ old. old ++ places_from 0 triggered actions) c.truncate.ensures in
     ap (λ (runs : List (List Command)). let q : QueueView = record { actions = actions; events = c.args.pending.now.events; running = runs; changes = c.changes_after-pending.result } in q)
     (begun_runs triggered actions c.args.pending.now.begun c.begin.new.begun is)
@@ -33,7 +33,7 @@ returns-clause-queue g c =
 pub returns-clause-lines : goal.returns-clause-lines
 returns-clause-lines g c =
     let actions = c.args.triggers.now in
-    let triggered = matches (value_in (g.S.PropStore.meaning c.args.store.now)) c.args.event in
+    let triggered = matches (value_in (g.S.PropStore.meaning c.args.store.now)) c.args.event.now in
     let is = c.in_ok-begin.ensures.begun ∙ ap (λ old. old ++ places_from 0 triggered actions) c.truncate.ensures in
-    begun_lines g.met.O.Outputs.joins triggered actions c.args.pending.now.begun c.begin.new.begun (event_line c.args.event) c.args.outputs.now c.add_event_line.new.outputs c.add_action_lines.new.outputs is
+    begun_lines g.met.O.Outputs.joins triggered actions c.args.pending.now.begun c.begin.new.begun (event_line c.args.event.now) c.args.outputs.now c.add_event_line.new.outputs c.add_action_lines.new.outputs is
     c.in_ok-add_event_line.ensures c.in_ok-add_action_lines.ensures

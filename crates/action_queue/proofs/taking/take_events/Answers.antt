@@ -7,21 +7,21 @@ use Rattle.action_queue.proofs.Events.{keeps, is_less, stands, ends}
 use Rattle.action_queue.proofs.Moves.{none_runs, some_runs}
 use Rattle.action_queue.proofs.taking.take_events.Goals as goal
 
-pub take_event-requires-clause-idle : goal.take_event-requires-clause-idle
-take_event-requires-clause-idle g c =
+pub take_event-taken-requires-clause-idle : goal.take_event-taken-requires-clause-idle
+take_event-taken-requires-clause-idle g c =
     none_runs c.args.triggers.now c.loop-alloc.pending.begun c.loop-alloc.pending.first c.loop-alloc.pending.command (grind (arith, c.loop-alloc-test.ensures.answer))
 
 pub loop-alloc-preserved : goal.loop-alloc-preserved
 loop-alloc-preserved g c =
     let actions = c.args.triggers.now in
     let i = c.loop-alloc.invariant in
-    let done = c.in_ok-take_event.ensures in
+    let done = c.in_ok-taken.ensures in
     let idle = none_runs actions c.loop-alloc.pending.begun c.loop-alloc.pending.first c.loop-alloc.pending.command (grind (arith, c.loop-alloc-test.ensures.answer)) in
     let lone : mark_count (c.in-Some.event ∷ c.pop.new.self) ≤ 1 = subst (λ (events : List Event). mark_count events ≤ 1) c.in-Some.ensures i.kept.lone in
     let kept =
     keeps g.met.O.Outputs.joins (matches (value_in (g.S.PropStore.meaning c.args.store.now))) (matches (value_in (g.S.PropStore.meaning c.loop-alloc.store)))
-    (shown actions c.args.pending.now) (shown actions c.loop-alloc.pending) (shown actions c.take_event.new.pending) c.in-Some.event c.pop.new.self
-    c.args.outputs.now c.loop-alloc.outputs c.take_event.new.outputs
+    (shown actions c.args.pending.now) (shown actions c.loop-alloc.pending) (shown actions c.take_event-taken.new.pending) c.in-Some.event c.pop.new.self
+    c.args.outputs.now c.loop-alloc.outputs c.take_event-taken.new.outputs
     (ap (λ props. matches (value_in props)) i.same) idle c.in-Some.ensures lone done.queue done.lines i.queue i.lines in
     record {
       kept = done.kept;
@@ -35,7 +35,7 @@ loop-alloc-preserved g c =
 
 pub loop-alloc-smaller : goal.loop-alloc-smaller
 loop-alloc-smaller g c =
-    let events = ap (λ (q : QueueView). q.events) c.in_ok-take_event.ensures.queue in
+    let events = ap (λ (q : QueueView). q.events) c.in_ok-taken.ensures.queue in
     let lone : mark_count (c.in-Some.event ∷ c.pop.new.self) ≤ 1 = subst (λ (events : List Event). mark_count events ≤ 1) c.in-Some.ensures c.loop-alloc.invariant.kept.lone in
     let less = is_less (matches (value_in (g.S.PropStore.meaning c.loop-alloc.store))) c.args.triggers.now c.in-Some.event c.pop.new.self lone in
     rw (events, c.in-Some.ensures) less

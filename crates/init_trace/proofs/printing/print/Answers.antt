@@ -3,4 +3,4 @@ use Rattle.init_trace.proofs.printing.print.Goals as goal
 
 pub returns-clause-written : goal.returns-clause-written
 returns-clause-written g c =
-    writes_last _ _ _ _ _ _ _ c.new-printer.ensures c.in_ok-print_report.ensures.added c.flush.ensures.written
+    writes_last _ _ _ _ _ _ _ c.in_ok-printer.ensures c.in_ok-print_report.ensures.added c.flush.ensures.written

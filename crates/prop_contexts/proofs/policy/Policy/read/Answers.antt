@@ -1,4 +1,4 @@
-use Rattle.std.proofs.Common.{◌≡◌, Some, ◌∙◌, sym, ap}
+use Rattle.std.proofs.Common.{Some, ◌∙◌, sym, ap}
 use Rattle.prop_contexts.proofs.LookUps.{allowed, one_default}
 use Rattle.prop_contexts.proofs.policy.Policy.read.Goals as goal
 
