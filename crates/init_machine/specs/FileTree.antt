@@ -2,8 +2,10 @@
 -- parents are made are this project's profile). No link is followed. (47 is the slash, 46 the dot.)
 use Rattle.std.specs.Prelude.{ℕ, Bool, true, false, not, ◌&&◌, ◌||◌, ◌==◌, nat_lt, nat_le, List, [], ◌∷◌, length, map, filter, bit_and, Option, Some, None, if◌then◌else◌}
 use Rattle.std.specs.List.{find, fold, list_any, slice_split}
+use Rattle.std.specs.Option.{option_map}
 use Rattle.std.specs.Str.{bytes_eq}
 use Rattle.init_machine.specs.Choices.{first_of, only_if}
+use Rattle.init_machine.specs.Pairs.{is_before}
 use Rattle.init_machine.specs.declared.node.Node.{Node}
 use Rattle.init_machine.specs.declared.node.Node.TheVariants.{Directory, File, Link}
 use Rattle.init_machine.specs.declared.output.FsRefusal.{FsRefusal}
@@ -11,17 +13,13 @@ use Rattle.init_machine.specs.declared.output.FsRefusal.TheVariants.{BadPath, Ab
 use Rattle.init_machine.specs.declared.task.TreeCall.{TreeCall}
 use Rattle.init_machine.specs.declared.task.TreeCall.TheVariants.{Write, Copy, MakeDirectory, Remove, RemoveDirectory, Link as MakeLink, ChangeMode}
 
--- what stands at a path, which is the list of its parts: the root has none; nothing stands there any more where it was
--- taken away
+-- what stands at a path, which is the list of its parts: the root has none
 pub record Place : Type 0 where
   pub path : List (List ℕ)
-  pub node : Option Node
+  pub node : Node
 
--- The tree: each path at which something was ever made, once, in the order of the first making.
-
--- the root directory alone; its mode is 0755
-abbrev pub first_tree : List Place
-first_tree = record { path = []; node = Some (Directory 493) } ∷ []
+-- The tree is a map from paths to nodes: each path at which something stands, in ascending order. So what stands where is all
+-- that a tree says, and nothing of it tells what stood there before.
 
 abbrev pub same_path : List (List ℕ) → List (List ℕ) → Bool
 same_path [] [] = true
@@ -29,24 +27,31 @@ same_path [] (q ∷ qs) = false
 same_path (p ∷ ps) [] = false
 same_path (p ∷ ps) (q ∷ qs) = bytes_eq p q && same_path ps qs
 
-abbrev pub node_of : Option Place → Option Node
-node_of None = None
-node_of (Some place) = place.node
+-- whether one path stands before another: part by part in the order of their bytes, and a path before those below it
+abbrev pub is_path_before : List (List ℕ) → List (List ℕ) → Bool
+is_path_before [] [] = false
+is_path_before [] (q ∷ qs) = true
+is_path_before (p ∷ ps) [] = false
+is_path_before (p ∷ ps) (q ∷ qs) = is_before p q || (bytes_eq p q && is_path_before ps qs)
+
+-- the root directory alone; its mode is 0755
+abbrev pub first_tree : List Place
+first_tree = record { path = []; node = Directory 493 } ∷ []
 
 abbrev pub node_at : List Place → List (List ℕ) → Option Node
-node_at tree path = node_of (find (λ place. same_path place.path path) tree)
+node_at tree path = option_map (λ place. place.node) (find (λ place. same_path place.path path) tree)
 
--- a node at the path's place, or behind all others where it has none
+-- a node at the path, in place of what stands there
 abbrev pub put_node : List Place → List (List ℕ) → Node → List Place
-put_node [] path node = record { path = path; node = Some node } ∷ []
+put_node [] path node = record { path = path; node = node } ∷ []
 put_node (place ∷ rest) path node =
-    if same_path place.path path then record { path = path; node = Some node } ∷ rest else place ∷ put_node rest path node
+    if same_path place.path path then record { path = path; node = node } ∷ rest
+    else if is_path_before path place.path then record { path = path; node = node } ∷ place ∷ rest
+    else place ∷ put_node rest path node
 
--- nothing stands at the path any more
+-- nothing stands at the path
 abbrev pub without_path : List Place → List (List ℕ) → List Place
-without_path [] path = []
-without_path (place ∷ rest) path =
-    if same_path place.path path then record { path = path; node = None } ∷ rest else place ∷ without_path rest path
+without_path tree path = filter (λ place. not (same_path place.path path)) tree
 
 -- Texts of paths: one begins with a slash, has at most 4,096 bytes, no NUL, and no part `.` or `..`. Empty parts are
 -- dropped.
@@ -105,7 +110,7 @@ is_root [] = true
 is_root (part ∷ parts) = false
 
 abbrev pub is_full : List Place → List (List ℕ) → Bool
-is_full tree path = is_root path || list_any (λ place. is_below path place.path && is_there place.node) tree
+is_full tree path = is_root path || list_any (λ place. is_below path place.path) tree
 
 -- a link, or a file that others than its owner may write (the bits 020 and 002), isn't copied from
 abbrev pub is_insecure : Option Node → Bool
