@@ -4,7 +4,9 @@ pub mod LegalNames
 pub mod LookUps
 pub mod Needs
 pub mod Numbers
+pub mod Paths
 pub mod Prefixes
 pub mod Sets
 pub mod Texts
+pub mod TreeMaps
 pub mod ValuePut

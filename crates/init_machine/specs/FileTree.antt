@@ -34,6 +34,12 @@ is_path_before [] (q ∷ qs) = true
 is_path_before (p ∷ ps) [] = false
 is_path_before (p ∷ ps) (q ∷ qs) = is_before p q || (bytes_eq p q && is_path_before ps qs)
 
+-- whether places stand in ascending order of their paths
+abbrev pub paths_ascend : List Place → Bool
+paths_ascend [] = true
+paths_ascend (x ∷ []) = true
+paths_ascend (x ∷ y ∷ rest) = is_path_before x.path y.path && paths_ascend (y ∷ rest)
+
 -- the root directory alone; its mode is 0755
 abbrev pub first_tree : List Place
 first_tree = record { path = []; node = Directory 493 } ∷ []

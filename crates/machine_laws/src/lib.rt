@@ -11,6 +11,7 @@ mod reboots;
 mod saved;
 mod sets;
 mod texts;
+mod trees;
 
 pub use commands::commands_run_in_order;
 pub use histories::{
@@ -21,3 +22,4 @@ pub use reboots::nothing_after_a_reboot;
 pub use saved::{saved_can_be_printed, stored_while_saving};
 pub use sets::{read_only_is_put_once, sets_are_counted, values_are_last_sets};
 pub use texts::lines_have_text;
+pub use trees::tree_is_a_map;

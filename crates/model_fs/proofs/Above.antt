@@ -1,9 +1,10 @@
 -- What stands above a path, and what is made there, by the path's last part.
 use Rattle.std.proofs.Common.{ℕ, zero, suc, ◌≤◌, length, length-append, false, not, ◌&&◌, if◌then◌else◌, arith, ◌≡◌, Bool, true, ◌||◌, List, [], ◌∷◌, ◌++◌, map, Option, refl, sym, ap, ◌∙◌}
 use Rattle.std.specs.List.{fold, list_any}
-use Rattle.init_machine.specs.FileTree.{Place, node_at, above, is_there, is_directory, is_other, is_under_other, put_node, with_parent, with_parents}
+use Rattle.init_machine.specs.FileTree.{above, is_there, is_directory, is_other}
 use Rattle.init_machine.specs.declared.node.Node.{Node}
 use Rattle.init_machine.specs.declared.node.Node.TheVariants.{Directory}
+use Rattle.model_fs.specs.internal.Rows.{Row, node_at, is_under_other, put_node, with_parent, with_parents}
 use Rattle.model_fs.proofs.Children.{last_of}
 use Rattle.model_fs.proofs.Trees.{node_put, node_put_other}
 
@@ -27,32 +28,32 @@ list_any-last : {T : Type 0} (test : T → Bool) (xs : List T) (x : T) → list_
 list_any-last test [] x = or_false (test x)
 list_any-last test (y ∷ xs) x = ap (λ b. test y || b) (list_any-last test xs x) ∙ sym (or_assoc (test y) (list_any test xs) (test x))
 
-pub under_by_last : (tree : List Place) (parts front : List (List ℕ)) (last : List ℕ) → parts ≡ front ++ last ∷ [] → is_under_other tree parts ≡ is_under_other tree front || is_other (node_at tree front)
+pub under_by_last : (tree : List Row) (parts front : List (List ℕ)) (last : List ℕ) → parts ≡ front ++ last ∷ [] → is_under_other tree parts ≡ is_under_other tree front || is_other (node_at tree front)
 under_by_last tree parts front last is =
     ap (is_under_other tree) is ∙ ap (list_any (λ prefix. is_other (node_at tree prefix))) (above-last front last)
     ∙ list_any-last (λ prefix. is_other (node_at tree prefix)) (above front) front
 
-fold-last : (tree : List Place) (xs : List (List (List ℕ))) (x : List (List ℕ)) → fold with_parent tree (xs ++ x ∷ []) ≡ with_parent (fold with_parent tree xs) x
+fold-last : (tree : List Row) (xs : List (List (List ℕ))) (x : List (List ℕ)) → fold with_parent tree (xs ++ x ∷ []) ≡ with_parent (fold with_parent tree xs) x
 fold-last tree [] x = refl
 fold-last tree (y ∷ xs) x = fold-last (with_parent tree y) xs x
 
-pub parents_by_last : (tree : List Place) (parts front : List (List ℕ)) (last : List ℕ) → parts ≡ front ++ last ∷ [] → with_parents tree parts ≡ with_parent (with_parents tree front) front
+pub parents_by_last : (tree : List Row) (parts front : List (List ℕ)) (last : List ℕ) → parts ≡ front ++ last ∷ [] → with_parents tree parts ≡ with_parent (with_parents tree front) front
 parents_by_last tree parts front last is =
     ap (with_parents tree) is ∙ ap (fold with_parent tree) (above-last front last) ∙ fold-last tree (above front) front
 
-pub no_parents : (tree : List Place) (parts : List (List ℕ)) → parts ≡ [] → tree ≡ with_parents tree parts
+pub no_parents : (tree : List Row) (parts : List (List ℕ)) → parts ≡ [] → tree ≡ with_parents tree parts
 no_parents tree parts none = sym (ap (with_parents tree) none)
 
 -- What stands after parents were made.
 
-parent_keeps : (tree : List Place) (path other : List (List ℕ)) → (path ≡ other → ⊥) → node_at (with_parent tree path) other ≡ node_at tree other
+parent_keeps : (tree : List Row) (path other : List (List ℕ)) → (path ≡ other → ⊥) → node_at (with_parent tree path) other ≡ node_at tree other
 parent_keeps tree path other differ =
     elim (is_there (node_at tree path)) as (λ b. node_at (if b then tree else put_node tree path (Directory 493)) other ≡ node_at tree other) [
       | true ↦ refl
       | false ↦ node_put_other tree path other (Directory 493) differ
     ]
 
-parents_keep_within : (n : ℕ) (tree : List Place) (path other : List (List ℕ)) → length path ≤ n → length path ≤ length other → node_at (with_parents tree path) other ≡ node_at tree other
+parents_keep_within : (n : ℕ) (tree : List Row) (path other : List (List ℕ)) → length path ≤ n → length path ≤ length other → node_at (with_parents tree path) other ≡ node_at tree other
 parents_keep_within n tree [] other bound within = refl
 parents_keep_within zero tree (q ∷ qs) other bound within = absurd (omega arith)
 parents_keep_within (suc n) tree (q ∷ qs) other bound within =
@@ -65,7 +66,7 @@ parents_keep_within (suc n) tree (q ∷ qs) other bound within =
     ∙ parents_keep_within n tree front other (omega arith) (omega arith)
 
 -- what stands at a path stays when its parents are made
-pub parents_keep : (tree : List Place) (path : List (List ℕ)) → node_at (with_parents tree path) path ≡ node_at tree path
+pub parents_keep : (tree : List Row) (path : List (List ℕ)) → node_at (with_parents tree path) path ≡ node_at tree path
 parents_keep tree path = parents_keep_within (length path) tree path path (omega arith) (omega arith)
 
 other_or_not : (a b : Bool) → a ≡ true → (a && not b) ≡ false → b ≡ true
@@ -78,7 +79,7 @@ pub standing_is_directory : (node : Option Node) → is_there node ≡ true → 
 standing_is_directory node there no_other = other_or_not (is_there node) (is_directory node) there no_other
 
 -- a parent that was made is a directory
-pub parent_is_directory : (tree : List Place) (path : List (List ℕ)) → is_other (node_at tree path) ≡ false → is_directory (node_at (with_parent tree path) path) ≡ true
+pub parent_is_directory : (tree : List Row) (path : List (List ℕ)) → is_other (node_at tree path) ≡ false → is_directory (node_at (with_parent tree path) path) ≡ true
 parent_is_directory tree path no_other = by (is_there (node_at tree path)) refl
   where
     by : (b : Bool) → is_there (node_at tree path) ≡ b → is_directory (node_at (with_parent tree path) path) ≡ true
@@ -94,7 +95,7 @@ neither true b h = absurd (cc)
 neither false b h = (refl, h)
 
 -- no file and no link stands above a path: none above its front, nor at it
-pub none_above : (tree : List Place) (parts front : List (List ℕ)) (last : List ℕ) → parts ≡ front ++ last ∷ [] → is_under_other tree parts ≡ false
+pub none_above : (tree : List Row) (parts front : List (List ℕ)) (last : List ℕ) → parts ≡ front ++ last ∷ [] → is_under_other tree parts ≡ false
     → (is_under_other tree front ≡ false) × (is_other (node_at tree front) ≡ false)
 none_above tree parts front last is none =
     neither (is_under_other tree front) (is_other (node_at tree front)) (sym (under_by_last tree parts front last is) ∙ none)

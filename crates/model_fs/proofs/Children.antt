@@ -5,8 +5,8 @@ use Rattle.std.proofs.lemmas.Option.{none-some, same_Some}
 use Rattle.std.specs.Cmp.Lexicographic.{bytes_decides}
 use Rattle.std.specs.Str.{bytes_eq}
 use Rattle.init_machine.specs.FileTree.{same_path, is_below, is_root}
-use Rattle.model_fs.specs.Entries.{is_child}
-use Rattle.model_fs.proofs.Same.{both_true}
+use Rattle.init_machine.proofs.Paths.{both_true}
+use Rattle.model_fs.specs.internal.Entries.{is_child}
 
 -- a path is right below another by its front
 pub child_last : (path front : List (List ℕ)) (last : List ℕ) → is_child path (front ++ last ∷ []) ≡ same_path path front

@@ -5,7 +5,7 @@ use Rattle.std.proofs.lemmas.List.{take-append-drop}
 use Rattle.std.proofs.lemmas.List.Folds.{list_any-append}
 use Rattle.std.specs.List.{list_any}
 use Rattle.init_machine.specs.FileTree.{begins_with_slash, is_dots, is_path, parts_of}
-use Rattle.model_fs.proofs.Same.{both_true}
+use Rattle.init_machine.proofs.Paths.{both_true}
 
 not_true : (b : Bool) → not b ≡ true → b ≡ false
 not_true true is = absurd (cc)

@@ -7,20 +7,21 @@ use Rattle.std.proofs.lemmas.List.Quantifiers.{position-Some}
 use Rattle.std.proofs.lemmas.List.Sums.{count_by-le-length}
 use Rattle.std.proofs.lemmas.Option.{none-some, same_Some, slice_get-get_or, get_or_from_slice_get, slice_get_within}
 use Rattle.std.specs.List.{list_any}
-use Rattle.init_machine.specs.FileTree.{Place, same_path, node_at, put_node, without_path, change_mode, with_mode, is_there, is_directory, is_below, is_root, is_full}
+use Rattle.init_machine.specs.FileTree.{same_path, with_mode, is_there, is_directory, is_below, is_root}
 use Rattle.init_machine.specs.declared.node.Node.{Node}
 use Rattle.init_machine.specs.declared.node.Node.TheVariants.{Directory, File, Link}
-use Rattle.model_fs.specs.Entries.{shown, node_in, place_in, is_child, children_of, IsReached, IsKept, no_entry, entry_at, grown, with_children, one_more, one_fewer, with_node, with_entry, without_entry, with_place, mode_changed}
-use Rattle.model_fs.specs.Steps.{place_of, with_path, AreDistinct}
+use Rattle.init_machine.proofs.Paths.{both_true, same_is, same_itself}
+use Rattle.model_fs.specs.internal.Entries.{shown, node_in, place_in, is_child, children_of, IsReached, IsKept, no_entry, entry_at, grown, with_children, one_more, one_fewer, with_node, with_entry, without_entry, with_place, mode_changed}
+use Rattle.model_fs.specs.internal.Rows.{Row, node_at, put_node, without_path, change_mode, is_full}
+use Rattle.model_fs.specs.internal.Steps.{place_of, with_path, AreDistinct}
 use Rattle.model_fs.specs.declared.entries.Entry.{Entry}
 use Rattle.model_fs.proofs.Children.{bit, child_last, child_below, child_split, count_set, count_some, count_last, count_none}
 use Rattle.model_fs.proofs.Positions.{any_at, only_place, place_stays}
-use Rattle.model_fs.proofs.Same.{both_true, same_is, same_itself}
 use Rattle.model_fs.proofs.Shown.{shown_length, shown_at, place_shown, node_shown}
 use Rattle.model_fs.proofs.Steps.{is_place, last_parts, place_with_path, some_last}
 use Rattle.model_fs.proofs.Trees.{node_found, node_not_found, put_found, without_found, node_set_same, node_set_other, node_last, node_with_place, put_with_place, within_tree}
 
-abbrev no_place : Place
+abbrev no_place : Row
 no_place = record { path = []; node = None }
 
 shown_set : (paths : List (List (List ℕ))) (entries : List Entry) (i : ℕ) (e : Entry) → length entries ≡ length paths → i < length entries
@@ -29,7 +30,7 @@ shown_set [] entries i e long within = absurd (omega arith)
 shown_set (p ∷ paths) [] i e long within = absurd (omega arith)
 shown_set (p ∷ paths) (x ∷ entries) zero e long within = refl
 shown_set (p ∷ paths) (x ∷ entries) (suc i) e long within =
-    ap (λ (tree : List Place). let q : Place = record { path = p; node = x.node } in q ∷ tree) (shown_set paths entries i e (omega arith) (omega arith))
+    ap (λ (tree : List Row). let q : Row = record { path = p; node = x.node } in q ∷ tree) (shown_set paths entries i e (omega arith) (omega arith))
 
 pub shown_with_node : (paths : List (List (List ℕ))) (entries : List Entry) (path : List (List ℕ)) (at : ℕ) (node : Option Node) → length entries ≡ length paths
     → place_of paths path ≡ Some at → shown paths (with_node entries at node) ≡ set (shown paths entries) at (record { path = path; node = node })
@@ -53,7 +54,7 @@ shown_last [] [] path e long = refl
 shown_last [] (x ∷ entries) path e long = absurd (omega arith)
 shown_last (p ∷ paths) [] path e long = absurd (omega arith)
 shown_last (p ∷ paths) (x ∷ entries) path e long =
-    ap (λ (tree : List Place). let q : Place = record { path = p; node = x.node } in q ∷ tree) (shown_last paths entries path e (omega arith))
+    ap (λ (tree : List Row). let q : Row = record { path = p; node = x.node } in q ∷ tree) (shown_last paths entries path e (omega arith))
 
 get_set : {X : Type 0} (xs : List X) (at : ℕ) (y : X) (i : ℕ) (x : X) → at < length xs → slice_get (set xs at y) i ≡ Some x
     → ((i ≡ at) × (y ≡ x)) ⊎ ((i ≡ at → ⊥) × (slice_get xs i ≡ Some x))
@@ -69,7 +70,7 @@ path_differs front last same =
     let long : length front ≡ length (front ++ last ∷ []) = ap length same in
     omega (arith, length-append front (last ∷ []))
 
-same_or_not : (p q : List (List ℕ)) → (p ≡ q) ⊎ (p ≡ q → ⊥)
+pub same_or_not : (p q : List (List ℕ)) → (p ≡ q) ⊎ (p ≡ q → ⊥)
 same_or_not p q = by (same_path p q) refl
   where
     by : (b : Bool) → same_path p q ≡ b → (p ≡ q) ⊎ (p ≡ q → ⊥)
@@ -81,19 +82,19 @@ directory_there None is = absurd (cc)
 directory_there (Some node) is = refl
 
 -- what stands in what, when the node at one place changed
-reached_set : (tree : List Place) (path : List (List ℕ)) (at : ℕ) (node : Option Node) → place_in tree path ≡ Some at → IsReached tree
+reached_set : (tree : List Row) (path : List (List ℕ)) (at : ℕ) (node : Option Node) → place_in tree path ≡ Some at → IsReached tree
     → (is_there node ≡ true → (front : List (List ℕ)) (last : List ℕ) → path ≡ front ++ last ∷ [] → is_directory (node_at tree front) ≡ true)
-    → ((i : ℕ) (place : Place) (last : List ℕ) → slice_get tree i ≡ Some place → is_there place.node ≡ true → place.path ≡ path ++ last ∷ [] → is_directory node ≡ true)
+    → ((i : ℕ) (place : Row) (last : List ℕ) → slice_get tree i ≡ Some place → is_there place.node ≡ true → place.path ≡ path ++ last ∷ [] → is_directory node ≡ true)
     → IsReached (set tree at (record { path = path; node = node }))
 reached_set tree path at node is reached above below i place got there front last ends =
-    let new : Place = record { path = path; node = node } in
-    let within = (position-Some (λ (p : Place). same_path p.path path) tree at no_place is).0 in
+    let new : Row = record { path = path; node = node } in
+    let within = (position-Some (λ (p : Row). same_path p.path path) tree at no_place is).0 in
     ⊎_elim {C = is_directory (node_at (set tree at new) front) ≡ true}
     (λ here.
-    let is_last : path ≡ front ++ last ∷ [] = ap (λ (p : Place). p.path) here.1 ∙ ends in
+    let is_last : path ≡ front ++ last ∷ [] = ap (λ (p : Row). p.path) here.1 ∙ ends in
     let differ : front ≡ path → ⊥ = λ (same : front ≡ path). path_differs front last (same ∙ is_last) in
     ap is_directory (node_set_other tree path front at node is differ)
-    ∙ above (ap (λ (p : Place). is_there p.node) here.1 ∙ there) front last is_last)
+    ∙ above (ap (λ (p : Row). is_there p.node) here.1 ∙ there) front last is_last)
     (λ old. ⊎_elim {C = is_directory (node_at (set tree at new) front) ≡ true}
     (λ same.
     ap (λ p. is_directory (node_at (set tree at new) p)) same ∙ ap is_directory (node_set_same tree path at node is)
@@ -103,12 +104,12 @@ reached_set tree path at node is reached above below i place got there front las
     (get_set tree at new i place within got)
 
 -- how many stand right below a path, when the node at one place changed
-children_set : (tree : List Place) (path other : List (List ℕ)) (at : ℕ) (old node : Option Node) → place_in tree path ≡ Some at → slice_get tree at ≡ Some (record { path = path; node = old })
+children_set : (tree : List Row) (path other : List (List ℕ)) (at : ℕ) (old node : Option Node) → place_in tree path ≡ Some at → slice_get tree at ≡ Some (record { path = path; node = old })
     → children_of (set tree at (record { path = path; node = node })) other + bit (is_child other path && is_there old) ≡ children_of tree other + bit (is_child other path && is_there node)
 children_set tree path other at old node is got =
     let was : get_or tree at no_place ≡ record { path = path; node = old } = get_or_from_slice_get tree at (record { path = path; node = old }) no_place got in
-    ap (λ (p : Place). children_of (set tree at (record { path = path; node = node })) other + bit (is_child other p.path && is_there p.node)) (sym was)
-    ∙ count_set (λ (p : Place). is_child other p.path && is_there p.node) tree at (record { path = path; node = node }) no_place (slice_get_within tree at (record { path = path; node = old }) got)
+    ap (λ (p : Row). children_of (set tree at (record { path = path; node = node })) other + bit (is_child other p.path && is_there p.node)) (sym was)
+    ∙ count_set (λ (p : Row). is_child other p.path && is_there p.node) tree at (record { path = path; node = node }) no_place (slice_get_within tree at (record { path = path; node = old }) got)
 
 -- the entry at a path's place
 entry_shown : (paths : List (List (List ℕ))) (entries : List Entry) (path : List (List ℕ)) (at : ℕ) → length entries ≡ length paths → place_of paths path ≡ Some at
@@ -189,7 +190,7 @@ pub kept_node : (paths : List (List (List ℕ))) (entries : List Entry) (front :
     → place_of paths front ≡ Some parent → place_of paths (front ++ part ∷ []) ≡ Some at
     → count + bit (is_there (entry_at entries at).node) ≡ (entry_at entries parent).children + bit (is_there node)
     → (is_there node ≡ true → is_directory (node_at (shown paths entries) front) ≡ true)
-    → ((i : ℕ) (place : Place) (last : List ℕ) → slice_get (shown paths entries) i ≡ Some place → is_there place.node ≡ true → place.path ≡ (front ++ part ∷ []) ++ last ∷ [] → is_directory node ≡ true)
+    → ((i : ℕ) (place : Row) (last : List ℕ) → slice_get (shown paths entries) i ≡ Some place → is_there place.node ≡ true → place.path ≡ (front ++ part ∷ []) ++ last ∷ [] → is_directory node ≡ true)
     → (IsKept paths (with_node (with_children entries parent count) at node)) × (shown paths (with_node (with_children entries parent count) at node) ≡ set (shown paths entries) at (record { path = front ++ part ∷ []; node = node }))
 kept_node paths entries front part parent at count node kept above is counts stands below =
     let path = front ++ part ∷ [] in
@@ -261,10 +262,10 @@ kept_node paths entries front part parent at count node kept above is counts sta
     )
 
 -- nothing stands right below a path at which nothing stands
-pub no_children : (tree : List Place) (path : List (List ℕ)) → IsReached tree → is_directory (node_at tree path) ≡ false → children_of tree path ≡ 0
-no_children tree path reached none = count_none (λ (place : Place). is_child path place.path && is_there place.node) tree (λ i place at. fails i place at (is_child path place.path && is_there place.node) refl)
+pub no_children : (tree : List Row) (path : List (List ℕ)) → IsReached tree → is_directory (node_at tree path) ≡ false → children_of tree path ≡ 0
+no_children tree path reached none = count_none (λ (place : Row). is_child path place.path && is_there place.node) tree (λ i place at. fails i place at (is_child path place.path && is_there place.node) refl)
   where
-    fails : (i : ℕ) (place : Place) → slice_get tree i ≡ Some place → (b : Bool) → (is_child path place.path && is_there place.node) ≡ b → (is_child path place.path && is_there place.node) ≡ false
+    fails : (i : ℕ) (place : Row) → slice_get tree i ≡ Some place → (b : Bool) → (is_child path place.path && is_there place.node) ≡ b → (is_child path place.path && is_there place.node) ≡ false
     fails i place at false is = is
     fails i place at true is =
         let both = both_true (is_child path place.path) (is_there place.node) is in
@@ -287,7 +288,7 @@ kept_last paths entries path kept none distinct =
     let shows : shown (paths ++ path ∷ []) (entries ++ no_entry ∷ []) ≡ new = shown_last paths entries path no_entry kept.long in
     let nothing : is_directory (node_at tree path) ≡ false = ap is_directory (node_not_found tree path (place_shown paths entries path kept.long ∙ none)) in
     let same : (other : List (List ℕ)) → children_of new other ≡ children_of tree other = λ other.
-    count_last (λ (place : Place). is_child other place.path && is_there place.node) tree (record { path = path; node = None }) (and_false (is_child other path)) in
+    count_last (λ (place : Row). is_child other place.path && is_there place.node) tree (record { path = path; node = None }) (and_false (is_child other path)) in
     record {
       long = omega (arith, length-append paths (path ∷ []), length-append entries (no_entry ∷ []), kept.long);
       distinct = distinct;
@@ -296,7 +297,7 @@ kept_last paths entries path kept none distinct =
       reached = subst IsReached (sym shows) (λ i place got there front last ends.
           ⊎_elim {C = is_directory (node_at new front) ≡ true}
           (λ old. ap is_directory (node_last tree path front) ∙ kept.reached i place old there front last ends)
-          (λ now. absurd (let e : is_there place.node ≡ false = ap (λ (p : Place). is_there p.node) (sym now.1) in cc))
+          (λ now. absurd (let e : is_there place.node ≡ false = ap (λ (p : Row). is_there p.node) (sym now.1) in cc))
           (get_last tree (record { path = path; node = None }) i place got));
       counted = λ i entry got.
           let shows' : children_of new (get_or (paths ++ path ∷ []) i []) ≡ children_of (shown (paths ++ path ∷ []) (entries ++ no_entry ∷ [])) (get_or (paths ++ path ∷ []) i []) =
@@ -377,7 +378,7 @@ pub record IsPut (paths : List (List (List ℕ))) (entries : List Entry) (path :
 put_counted : (paths : List (List (List ℕ))) (entries : List Entry) (front : List (List ℕ)) (part : List ℕ) (parent at : ℕ) (node : Node) → IsKept paths entries
     → place_of paths front ≡ Some parent → place_of paths (front ++ part ∷ []) ≡ Some at
     → is_directory (node_at (shown paths entries) front) ≡ true
-    → ((i : ℕ) (place : Place) (last : List ℕ) → slice_get (shown paths entries) i ≡ Some place → is_there place.node ≡ true → place.path ≡ (front ++ part ∷ []) ++ last ∷ [] → is_directory (Some node) ≡ true)
+    → ((i : ℕ) (place : Row) (last : List ℕ) → slice_get (shown paths entries) i ≡ Some place → is_there place.node ≡ true → place.path ≡ (front ++ part ∷ []) ++ last ∷ [] → is_directory (Some node) ≡ true)
     → (IsKept paths (with_node (one_more entries at parent) at (Some node))) × (shown paths (with_node (one_more entries at parent) at (Some node)) ≡ set (shown paths entries) at (record { path = front ++ part ∷ []; node = Some node }))
 put_counted paths entries front part parent at node kept above is directory below = by (is_there (entry_at entries at).node) refl
   where
@@ -427,7 +428,7 @@ pub record IsTaken (paths : List (List (List ℕ))) (entries : List Entry) (path
 taken_counted : (paths : List (List (List ℕ))) (entries : List Entry) (front : List (List ℕ)) (part : List ℕ) (parent at : ℕ) → IsKept paths entries
     → place_of paths front ≡ Some parent → place_of paths (front ++ part ∷ []) ≡ Some at
     → (is_there (entry_at entries at).node ≡ true → 0 < (entry_at entries parent).children)
-    → ((i : ℕ) (place : Place) (last : List ℕ) → slice_get (shown paths entries) i ≡ Some place → is_there place.node ≡ true → place.path ≡ (front ++ part ∷ []) ++ last ∷ [] → is_directory None ≡ true)
+    → ((i : ℕ) (place : Row) (last : List ℕ) → slice_get (shown paths entries) i ≡ Some place → is_there place.node ≡ true → place.path ≡ (front ++ part ∷ []) ++ last ∷ [] → is_directory None ≡ true)
     → (IsKept paths (without_entry entries at parent)) × (shown paths (without_entry entries at parent) ≡ set (shown paths entries) at (record { path = front ++ part ∷ []; node = None }))
 taken_counted paths entries front part parent at kept above is some below = by (is_there (entry_at entries at).node) refl
   where
@@ -458,7 +459,7 @@ counts_child paths entries front part parent at kept above is there =
     let over = is_place paths front parent above in
     let within : parent < length entries = omega (arith, kept.long) in
     let some : 0 < children_of tree front =
-    count_some (λ (place : Place). is_child front place.path && is_there place.node) tree at (record { path = path; node = (entry_at entries at).node })
+    count_some (λ (place : Row). is_child front place.path && is_there place.node) tree at (record { path = path; node = (entry_at entries at).node })
     (entry_shown paths entries path at kept.long is) (both_hold (is_child front path) (is_there (entry_at entries at).node) (child_of_front front part) there) in
     let counted : (entry_at entries parent).children ≡ children_of tree front =
     kept.counted parent (entry_at entries parent) (slice_get-get_or entries parent no_entry within) ∙ ap (children_of tree) over.1 in
@@ -468,10 +469,10 @@ counts_child paths entries front part parent at kept above is there =
     both_hold a b p q = (λ i. p i && q i)
 
 -- something stands below a directory in which something stands
-full_with_child : (tree : List Place) (path : List (List ℕ)) (i : ℕ) (place : Place) (last : List ℕ) → slice_get tree i ≡ Some place → is_there place.node ≡ true → place.path ≡ path ++ last ∷ []
+full_with_child : (tree : List Row) (path : List (List ℕ)) (i : ℕ) (place : Row) (last : List ℕ) → slice_get tree i ≡ Some place → is_there place.node ≡ true → place.path ≡ path ++ last ∷ []
     → is_full tree path ≡ true
 full_with_child tree path i place last got there ends =
-    let test : Place → Bool = λ p. is_below path p.path && is_there p.node in
+    let test : Row → Bool = λ p. is_below path p.path && is_there p.node in
     let child : is_child path place.path ≡ true = ap (is_child path) ends ∙ child_of_front path last in
     let below : is_below path place.path ≡ true = child_below path place.path child in
     let here : get_or tree i place ≡ place = get_or_from_slice_get tree i place place got in
@@ -532,7 +533,7 @@ added_within paths path at is =
 pub count_within : (paths : List (List (List ℕ))) (entries : List Entry) (at : ℕ) → IsKept paths entries → at < length paths → (entry_at entries at).children ≤ length entries
 count_within paths entries at kept within =
     let counted = kept.counted at (entry_at entries at) (slice_get-get_or entries at no_entry (omega (arith, kept.long))) in
-    let bound = count_by-le-length (λ (place : Place). is_child (get_or paths at []) place.path && is_there place.node) (shown paths entries) in
+    let bound = count_by-le-length (λ (place : Row). is_child (get_or paths at []) place.path && is_there place.node) (shown paths entries) in
     omega (arith, shown_length paths entries kept.long, kept.long)
 
 -- A mode changes neither whether something stands nor whether it is a directory.
@@ -553,7 +554,7 @@ kept_mode paths entries path at mode kept is =
     kept_same paths entries path at (mode_changed mode (entry_at entries at).node) kept is
     (mode_there mode (entry_at entries at).node) (mode_directory mode (entry_at entries at).node)
 
-changed_by : (tree : List Place) (path : List (List ℕ)) (at mode : ℕ) (node : Option Node) → place_in tree path ≡ Some at → slice_get tree at ≡ Some (record { path = path; node = node })
+changed_by : (tree : List Row) (path : List (List ℕ)) (at mode : ℕ) (node : Option Node) → place_in tree path ≡ Some at → slice_get tree at ≡ Some (record { path = path; node = node })
     → set tree at (record { path = path; node = mode_changed mode node }) ≡ change_mode tree path mode node
 changed_by tree path at mode (Some node) is got = sym (put_found tree path at (with_mode mode node) is)
 changed_by tree path at mode None is got =

@@ -7,7 +7,7 @@ pub mod Fronts
 pub mod Kept
 pub mod Parts
 pub mod Positions
-pub mod Same
+pub mod Rows
 pub mod Shown
 pub mod Slots
 pub mod Standing

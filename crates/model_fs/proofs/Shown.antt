@@ -2,9 +2,10 @@
 use Rattle.std.proofs.Common.{◌≡◌, ℕ, zero, suc, ◌+◌, ◌<◌, cond, not, nat_lt, List, [], ◌∷◌, length, get_or, Some, None, slice_get, refl, ap, ◌∙◌, arith}
 use Rattle.std.proofs.lemmas.List.Quantifiers.{position-Some}
 use Rattle.std.specs.List.{position_or_len}
-use Rattle.init_machine.specs.FileTree.{Place, same_path, node_of, node_at}
-use Rattle.model_fs.specs.Entries.{shown, place_in}
-use Rattle.model_fs.specs.Steps.{place_of}
+use Rattle.init_machine.specs.FileTree.{same_path}
+use Rattle.model_fs.specs.internal.Entries.{shown, place_in}
+use Rattle.model_fs.specs.internal.Rows.{Row, node_of, node_at}
+use Rattle.model_fs.specs.internal.Steps.{place_of}
 use Rattle.model_fs.specs.declared.entries.Entry.{Entry}
 use Rattle.model_fs.proofs.Trees.{node_found}
 
@@ -22,7 +23,7 @@ shown_at (p ∷ paths) (e ∷ entries) (suc i) d long within = shown_at paths en
 
 -- a path has the same place among the paths and in the tree
 len_shown : (path : List (List ℕ)) (paths : List (List (List ℕ))) (entries : List Entry) → length entries ≡ length paths
-    → position_or_len (λ (place : Place). same_path place.path path) (shown paths entries) ≡ position_or_len (λ other. same_path other path) paths
+    → position_or_len (λ (place : Row). same_path place.path path) (shown paths entries) ≡ position_or_len (λ other. same_path other path) paths
 len_shown path [] entries long = refl
 len_shown path (p ∷ paths) [] long = absurd (omega arith)
 len_shown path (p ∷ paths) (e ∷ entries) long = ap (λ n. cond (not (same_path p path)) (1 + n) 0) (len_shown path paths entries (omega arith))
@@ -41,5 +42,5 @@ node_shown paths entries path i d long within is = node_found (shown paths entri
 pub place_within : (paths : List (List (List ℕ))) (entries : List Entry) (path : List (List ℕ)) (i : ℕ) → length entries ≡ length paths
     → place_in (shown paths entries) path ≡ Some i → i < length entries
 place_within paths entries path i long is =
-    let at = position-Some (λ (place : Place). same_path place.path path) (shown paths entries) i (record { path = []; node = None }) is in
+    let at = position-Some (λ (place : Row). same_path place.path path) (shown paths entries) i (record { path = []; node = None }) is in
     omega (arith, shown_length paths entries long)

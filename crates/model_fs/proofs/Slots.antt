@@ -2,7 +2,7 @@
 use Rattle.std.proofs.Common.{◌≡◌, ℕ, Bool, true, false, cond, List, Option, Some, None, IfSome, nat_eq, refl, sym, ap, ◌∙◌, subst}
 use Rattle.std.proofs.lemmas.Option.{same_Some}
 use Rattle.init_machine.specs.FileTree.{is_path, parts_of}
-use Rattle.model_fs.specs.Steps.{paths_of, place_of, with_path, IsIndexed, IsNoted, IsNumbered}
+use Rattle.model_fs.specs.internal.Steps.{paths_of, place_of, with_path, IsIndexed, IsNoted, IsNumbered}
 use Rattle.model_fs.specs.declared.noted.Noted.{Noted}
 use Rattle.model_fs.specs.declared.places.Step.{Step}
 use Rattle.model_fs.proofs.Steps.{place_with_path}

@@ -11,10 +11,10 @@ use Rattle.std.specs.Str.{bytes_eq}
 use Rattle.indexmap.specs.IndexSet.{insert_key}
 use Rattle.collections.specs.Texts.{with_text}
 use Rattle.init_machine.specs.FileTree.{same_path}
-use Rattle.model_fs.specs.Steps.{path_behind, path_of, paths_onto, paths_of, place_of, with_path, same_parent, same_step, AreDistinct, IsStepAt, IsNumbered}
+use Rattle.init_machine.proofs.Paths.{same_is, same_itself}
+use Rattle.model_fs.specs.internal.Steps.{path_behind, path_of, paths_onto, paths_of, place_of, with_path, same_parent, same_step, AreDistinct, IsStepAt, IsNumbered}
 use Rattle.model_fs.specs.declared.places.Step.{Step}
 use Rattle.model_fs.proofs.Positions.{any_at, any_nowhere, fails_everywhere, only_place, place_stays}
-use Rattle.model_fs.proofs.Same.{same_is, same_itself}
 
 onto_keeps : (names : List (List ℕ)) (paths : List (List (List ℕ))) (steps : List Step) (i : ℕ) → i < length paths
     → get_or (paths_onto names paths steps) i [] ≡ get_or paths i []

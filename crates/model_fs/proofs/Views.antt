@@ -1,9 +1,10 @@
 -- A tree that paths and their entries show.
 use Rattle.std.proofs.Common.{◌≡◌, ℕ, true, false, ◌&&◌, List, [], ◌∷◌, ◌++◌, Some, sym, ap, ◌∙◌, subst}
-use Rattle.init_machine.specs.FileTree.{Place, is_directory, is_full, is_root, node_at, put_node}
+use Rattle.init_machine.specs.FileTree.{is_directory, is_root}
 use Rattle.init_machine.specs.declared.node.Node.{Node}
-use Rattle.model_fs.specs.Entries.{node_in, place_in, shown, with_entry, IsKept, IsWalk}
-use Rattle.model_fs.specs.Steps.{place_of, with_path, AreDistinct}
+use Rattle.model_fs.specs.internal.Entries.{node_in, place_in, shown, with_entry, IsKept, IsWalk}
+use Rattle.model_fs.specs.internal.Rows.{Row, is_full, node_at, put_node}
+use Rattle.model_fs.specs.internal.Steps.{place_of, with_path, AreDistinct}
 use Rattle.model_fs.specs.declared.entries.Entry.{Entry}
 use Rattle.model_fs.specs.declared.entries.Walk.{Walk}
 use Rattle.model_fs.proofs.Children.{some_parts}
@@ -20,17 +21,17 @@ pub record IsChild (paths : List (List (List ℕ))) (path : List (List ℕ)) (pa
   pub below : place_of paths (front ++ part ∷ []) ≡ Some at
 
 -- paths and entries that show a tree with a node put at a path
-pub record IsPutIn (tree : List Place) (paths : List (List (List ℕ))) (entries : List Entry) (path : List (List ℕ)) (at : ℕ) (node : Node) : Type 0 where
+pub record IsPutIn (tree : List Row) (paths : List (List (List ℕ))) (entries : List Entry) (path : List (List ℕ)) (at : ℕ) (node : Node) : Type 0 where
   pub kept : IsKept paths entries
   pub shows : shown paths entries ≡ put_node tree path node
   pub placed : place_in (shown paths entries) path ≡ Some at
 
 module _ {paths : List (List (List ℕ))} {entries : List Entry} where
   -- a path has the place in the tree that it has among the paths
-  pub viewed : {tree : List Place} → IsKept paths entries → shown paths entries ≡ tree → (path : List (List ℕ)) → place_of paths path ≡ place_in tree path
+  pub viewed : {tree : List Row} → IsKept paths entries → shown paths entries ≡ tree → (path : List (List ℕ)) → place_of paths path ≡ place_in tree path
   viewed kept shows path = sym (place_shown paths entries path kept.long) ∙ ap (λ t. place_in t path) shows
 
-  pub child_found : {tree : List Place} {path : List (List ℕ)} {walk : Walk} {parent at : ℕ} → IsKept paths entries → shown paths entries ≡ tree
+  pub child_found : {tree : List Row} {path : List (List ℕ)} {walk : Walk} {parent at : ℕ} → IsKept paths entries → shown paths entries ≡ tree
       → IsWalk tree path walk → is_root path ≡ false → walk.parent ≡ Some parent → walk.at ≡ Some at → IsChild paths path parent at
   child_found {path = path} {at = at} kept shows led some up is =
       let split = some_parts path some in
@@ -44,7 +45,7 @@ module _ {paths : List (List (List ℕ))} {entries : List Entry} where
         below = ap (place_of paths) (sym split.2) ∙ here;
       }
 
-  pub child_taken : {tree : List Place} {path : List (List ℕ)} {parent at : ℕ} → IsKept paths entries → shown paths entries ≡ tree
+  pub child_taken : {tree : List Row} {path : List (List ℕ)} {parent at : ℕ} → IsKept paths entries → shown paths entries ≡ tree
       → IsChild paths path parent at → (is_directory (node_at tree path) && is_full tree path) ≡ false → IsTaken paths entries path parent at
   child_taken {path = path} {parent = parent} {at = at} kept shows child empty =
       subst (λ p. IsTaken paths entries p parent at) (sym child.parts)
@@ -52,7 +53,7 @@ module _ {paths : List (List (List ℕ))} {entries : List Entry} where
       (ap (λ p. is_directory (node_at (shown paths entries) p) && is_full (shown paths entries) p) (sym child.parts)
       ∙ ap (λ t. is_directory (node_at t path) && is_full t path) shows ∙ empty))
 
-  pub put_in : {tree : List Place} {paths' : List (List (List ℕ))} {entries' : List Entry} {parent at : ℕ} {node : Node} (front : List (List ℕ)) (part : List ℕ)
+  pub put_in : {tree : List Row} {paths' : List (List (List ℕ))} {entries' : List Entry} {parent at : ℕ} {node : Node} (front : List (List ℕ)) (part : List ℕ)
       → IsKept paths entries → shown paths entries ≡ tree → place_of paths front ≡ Some parent → paths' ≡ with_path paths (front ++ part ∷ [])
       → AreDistinct paths' → place_of paths' (front ++ part ∷ []) ≡ Some at → entries' ≡ with_entry entries at parent (Some node)
       → is_directory (node_in tree parent) ≡ true → (is_directory (node_at tree (front ++ part ∷ [])) ≡ true → is_directory (Some node) ≡ true)

@@ -1,4 +1,2 @@
 pub mod Calls
-pub mod Entries
-pub mod Steps
 pub mod internal

@@ -1,2 +1,5 @@
 -- What private functions say of themselves. No promise of the crate cites it, and a reader needn't believe it.
+pub mod Entries
 pub mod Paths
+pub mod Rows
+pub mod Steps

@@ -3,7 +3,8 @@
 ghost use Rattle.std.specs.Prelude.{◌≡◌, None, true, false, OnOk};
 ghost use Rattle.init_machine.specs.FileTree.{parts_of, node_at, is_directory, is_under_other, with_file, tree_after, tree_refusal};
 ghost use Rattle.init_machine.specs.declared.task.TreeCall.TheVariants as call;
-ghost use Rattle.model_fs.specs.Entries.{IsWalk};
+ghost use Rattle.model_fs.specs.internal.Entries.{IsWalk};
+ghost use Rattle.model_fs.specs.internal.Rows.{tree_of};
 
 use crate::entries::{Entries, Walk};
 use crate::node::{content_of, mode_for};
@@ -16,8 +17,8 @@ const LINK_MODE: u16 = 0o777;
 #[tactic(auto, unfolding(init_machine::specs::FileTree::tree_after))]
 pub fn write(entries: &mut Entries, path: &[u8], walk: Walk, content: Text) -> Result<(), NoMemory>
     requires walk { IsWalk entries.old (parts_of path.now) walk }
-    requires passes { tree_refusal entries.old (call.Write path.now content) ≡ None }
-    ensures { OnOk result (entries.new ≡ tree_after entries.old (call.Write path.now content)) }
+    requires passes { tree_refusal (tree_of entries.old) (call.Write path.now content) ≡ None }
+    ensures { OnOk result (tree_of entries.new ≡ tree_after (tree_of entries.old) (call.Write path.now content)) }
 {
     put_file(entries, path, walk, content)?;
     Ok(())
@@ -32,8 +33,8 @@ pub fn copy(
 ) -> Result<(), NoMemory>
     requires walk_from { IsWalk entries.old (parts_of from.now) walks.0 }
     requires walk_to { IsWalk entries.old (parts_of to.now) walks.1 }
-    requires passes { tree_refusal entries.old (call.Copy from.now to.now) ≡ None }
-    ensures { OnOk result (entries.new ≡ tree_after entries.old (call.Copy from.now to.now)) }
+    requires passes { tree_refusal (tree_of entries.old) (call.Copy from.now to.now) ≡ None }
+    ensures { OnOk result (tree_of entries.new ≡ tree_after (tree_of entries.old) (call.Copy from.now to.now)) }
 {
     entries.remember(from, walks.0);
     let content = content_of(entries.node_at(from, walks.0))?;
@@ -49,8 +50,8 @@ pub fn make_directory(
     mode: u16,
 ) -> Result<(), NoMemory>
     requires walk { IsWalk entries.old (parts_of path.now) walk }
-    requires passes { tree_refusal entries.old (call.MakeDirectory path.now mode) ≡ None }
-    ensures { OnOk result (entries.new ≡ tree_after entries.old (call.MakeDirectory path.now mode)) }
+    requires passes { tree_refusal (tree_of entries.old) (call.MakeDirectory path.now mode) ≡ None }
+    ensures { OnOk result (tree_of entries.new ≡ tree_after (tree_of entries.old) (call.MakeDirectory path.now mode)) }
 {
     entries.put(path, walk, Node::Directory { mode })?;
     Ok(())
@@ -59,8 +60,8 @@ pub fn make_directory(
 #[tactic(auto, unfolding(init_machine::specs::FileTree::tree_after))]
 pub fn link(entries: &mut Entries, target: Text, path: &[u8], walk: Walk) -> Result<(), NoMemory>
     requires walk { IsWalk entries.old (parts_of path.now) walk }
-    requires passes { tree_refusal entries.old (call.Link target path.now) ≡ None }
-    ensures { OnOk result (entries.new ≡ tree_after entries.old (call.Link target path.now)) }
+    requires passes { tree_refusal (tree_of entries.old) (call.Link target path.now) ≡ None }
+    ensures { OnOk result (tree_of entries.new ≡ tree_after (tree_of entries.old) (call.Link target path.now)) }
 {
     let mode = LINK_MODE;
     entries.put(path, walk, Node::Link { mode, target })?;
@@ -70,8 +71,8 @@ pub fn link(entries: &mut Entries, target: Text, path: &[u8], walk: Walk) -> Res
 #[tactic(auto, unfolding(init_machine::specs::FileTree::tree_after))]
 pub fn remove_file(entries: &mut Entries, path: &[u8], walk: Walk)
     requires walk { IsWalk entries.old (parts_of path.now) walk }
-    requires passes { tree_refusal entries.old (call.Remove path.now) ≡ None }
-    ensures { entries.new ≡ tree_after entries.old (call.Remove path.now) }
+    requires passes { tree_refusal (tree_of entries.old) (call.Remove path.now) ≡ None }
+    ensures { tree_of entries.new ≡ tree_after (tree_of entries.old) (call.Remove path.now) }
 {
     entries.remember(path, walk);
     entries.remove(path, walk);
@@ -80,8 +81,8 @@ pub fn remove_file(entries: &mut Entries, path: &[u8], walk: Walk)
 #[tactic(auto, unfolding(init_machine::specs::FileTree::tree_after))]
 pub fn remove_directory(entries: &mut Entries, path: &[u8], walk: Walk)
     requires walk { IsWalk entries.old (parts_of path.now) walk }
-    requires passes { tree_refusal entries.old (call.RemoveDirectory path.now) ≡ None }
-    ensures { entries.new ≡ tree_after entries.old (call.RemoveDirectory path.now) }
+    requires passes { tree_refusal (tree_of entries.old) (call.RemoveDirectory path.now) ≡ None }
+    ensures { tree_of entries.new ≡ tree_after (tree_of entries.old) (call.RemoveDirectory path.now) }
 {
     entries.remember(path, walk);
     entries.remove(path, walk);
@@ -90,7 +91,7 @@ pub fn remove_directory(entries: &mut Entries, path: &[u8], walk: Walk)
 #[tactic(auto, unfolding(init_machine::specs::FileTree::tree_after))]
 pub fn change_mode(entries: &mut Entries, path: &[u8], walk: Walk, mode: u16)
     requires { IsWalk entries.old (parts_of path.now) walk }
-    ensures { entries.new ≡ tree_after entries.old (call.ChangeMode mode path.now) }
+    ensures { tree_of entries.new ≡ tree_after (tree_of entries.old) (call.ChangeMode mode path.now) }
 {
     entries.remember(path, walk);
     entries.set_mode(path, walk, mode);
@@ -99,9 +100,9 @@ pub fn change_mode(entries: &mut Entries, path: &[u8], walk: Walk, mode: u16)
 /// Puts a file at the path, where no directory is, and makes its missing parents.
 fn put_file(entries: &mut Entries, path: &[u8], walk: Walk, content: Text) -> Result<(), NoMemory>
     requires walk { IsWalk entries.old (parts_of path.now) walk }
-    requires under { is_under_other entries.old (parts_of path.now) ≡ false }
-    requires directory { is_directory (node_at entries.old (parts_of path.now)) ≡ false }
-    ensures { OnOk result (entries.new ≡ with_file entries.old (parts_of path.now) content) }
+    requires under { is_under_other (tree_of entries.old) (parts_of path.now) ≡ false }
+    requires directory { is_directory (node_at (tree_of entries.old) (parts_of path.now)) ≡ false }
+    ensures { OnOk result (tree_of entries.new ≡ with_file (tree_of entries.old) (parts_of path.now) content) }
 {
     let mode = mode_for(entries.node_at(path, walk));
     entries.put(path, walk, Node::File { mode, content })

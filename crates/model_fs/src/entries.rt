@@ -1,8 +1,9 @@
-//! The entries of a tree: what stands at each place, and how much stands right below it.
+//! The entries of a tree: what stands at each place, and how much stands right below it. The tree is what the rows of paths with
+//! places show (`tree_of`).
 
 ghost use Rattle.std.specs.Prelude.{◌≡◌, ◌+◌, ◌<◌, ◌≤◌, ◌^◌, true, Some, length, vec_len, vec_capacity};
 ghost use Rattle.init_machine.specs.FileTree.{is_there};
-ghost use Rattle.model_fs.specs.Entries.{entry_at, grown, mode_changed, one_more, with_entry, with_node, without_entry};
+ghost use Rattle.model_fs.specs.internal.Entries.{entry_at, grown, mode_changed, one_more, with_entry, with_node, without_entry};
 
 use crate::node::{DIRECTORY_MODE, is_other, is_there, set_mode};
 use crate::path::{is_path, is_path_behind, is_root, split_first, split_last};
@@ -59,11 +60,11 @@ pub struct Entries {
 
 impl Model for Entries {
     ghost use Rattle.std.specs.Prelude.{List};
-    ghost use Rattle.init_machine.specs.FileTree.{Place};
+    ghost use Rattle.model_fs.specs.internal.Rows.{Row};
 
-    ghost Value = { List Place };
+    ghost Value = { List Row };
 
-    ghost use Rattle.model_fs.specs.Entries.{shown, IsKept};
+    ghost use Rattle.model_fs.specs.internal.Entries.{shown, IsKept};
 
     ghost view = { λ t. shown t.places t.entries.items };
 
@@ -73,13 +74,16 @@ impl Model for Entries {
 impl Entries {
     ghost use Rattle.std.specs.Prelude.{◌≡◌, ℕ, [], ◌∷◌, ◌++◌, List as Items, ◌&&◌, ◌||◌, true, false, Some, None, OnOk, IfOk, MatchOption, if◌then◌else◌};
     ghost use Rattle.std.specs.Option.{option_copied};
-    ghost use Rattle.init_machine.specs.FileTree.{first_tree, parts_of, is_directory, put_node, without_path, change_mode, with_parent, with_parents};
+    ghost use Rattle.std.specs.List.{list_any};
+    ghost use Rattle.init_machine.specs.FileTree.{first_tree, parts_of, is_directory, is_below};
     ghost use Rattle.init_machine.specs.FileTree as spec;
-    ghost use Rattle.model_fs.specs.Entries.{place_in, node_in, has_below, IsWalk};
+    ghost use Rattle.model_fs.specs.internal.Entries.{place_in, node_in, IsWalk};
+    ghost use Rattle.model_fs.specs.internal.Rows as rows;
+    ghost use Rattle.model_fs.specs.internal.Rows.{tree_of, put_node, with_parent, with_parents};
 
     /// The root directory alone.
     pub fn new(alloc: Global) -> Result<Entries, NoMemory>
-        ensures { IfOk result (λ t. t ≡ first_tree) }
+        ensures { IfOk result (λ t. tree_of t ≡ first_tree) }
     {
         let mut entries = Vec::new(alloc);
         let mode = DIRECTORY_MODE;
@@ -91,7 +95,7 @@ impl Entries {
 
     /// What stands at a place.
     fn node(&self, at: Option<usize>) -> Option<&Node>
-        ensures { (path : Items (Items ℕ)) → place_in self.now path ≡ at → option_copied result ≡ spec.node_at self.now path }
+        ensures { (path : Items (Items ℕ)) → place_in self.now path ≡ at → option_copied result ≡ rows.node_at self.now path }
     {
         let entries = &self.entries;
         entries.get(at?)?.node.as_ref()
@@ -100,7 +104,7 @@ impl Entries {
     /// What a call sees of a path. None exactly where the text is that of no path.
     pub fn look(&self, path: &[u8]) -> Option<Sight<'_>>
         ensures { MatchOption result (spec.is_path path.now ≡ false) (λ sight. (spec.is_path path.now ≡ true) × IsWalk self.now
-            (parts_of path.now) sight.walk × (option_copied sight.node ≡ spec.node_at self.now (parts_of path.now))) }
+            (parts_of path.now) sight.walk × (option_copied sight.node ≡ spec.node_at (tree_of self.now) (parts_of path.now))) }
     {
         let walk = self.walk(path)?;
         let node = self.node(walk.at);
@@ -151,7 +155,7 @@ impl Entries {
         requires { (at : ℕ) → known ≡ Some at → place_in self.now (parts_of front.now) ≡ Some at }
         ensures at { result.at ≡ place_in self.now (parts_of front.now) }
         ensures other { result.has_other
-            ≡ (spec.is_under_other self.now (parts_of front.now) || spec.is_other (spec.node_at self.now (parts_of front.now))) }
+            ≡ (rows.is_under_other self.now (parts_of front.now) || spec.is_other (rows.node_at self.now (parts_of front.now))) }
     {
         let _ = &self.places;
         if let Some(at) = known {
@@ -175,7 +179,7 @@ impl Entries {
     /// Where a path leads, by a look at each of its parts.
     fn lead(&self, path: &[u8]) -> Lead
         ensures at { result.at ≡ place_in self.now (parts_of path.now) }
-        ensures under { result.is_under_other ≡ spec.is_under_other self.now (parts_of path.now) }
+        ensures under { result.is_under_other ≡ rows.is_under_other self.now (parts_of path.now) }
     {
         let _ = &self.places;
         self.lead_on(0, false, path)
@@ -186,8 +190,8 @@ impl Entries {
         ensures at { (front : Items (Items ℕ)) → place_in self.now front ≡ Some at
             → result.at ≡ place_in self.now (front ++ parts_of rest.now) }
         ensures under { (front : Items (Items ℕ)) → place_in self.now front ≡ Some at
-            → is_under_other ≡ spec.is_under_other self.now front
-            → result.is_under_other ≡ spec.is_under_other self.now (front ++ parts_of rest.now) }
+            → is_under_other ≡ rows.is_under_other self.now front
+            → result.is_under_other ≡ rows.is_under_other self.now (front ++ parts_of rest.now) }
     {
         let Some((part, behind)) = split_first(rest) else {
             return Lead {
@@ -208,7 +212,7 @@ impl Entries {
     /// What stands where a walk led.
     pub fn node_at(&self, path: &[u8], walk: Walk) -> Option<&Node>
         requires { IsWalk self.now (parts_of path.now) walk }
-        ensures { option_copied result ≡ spec.node_at self.now (parts_of path.now) }
+        ensures { option_copied result ≡ spec.node_at (tree_of self.now) (parts_of path.now) }
     {
         self.node(walk.at)
     }
@@ -216,14 +220,15 @@ impl Entries {
     /// Whether something stands below the path. The root counts as full.
     pub fn is_full(&self, path: &[u8], walk: Walk) -> bool
         requires { IsWalk self.now (parts_of path.now) walk }
-        ensures { result ≡ spec.is_full self.now (parts_of path.now) }
+        ensures { result ≡ spec.is_full (tree_of self.now) (parts_of path.now) }
     {
         is_root(path) || self.has_children(walk.at)
     }
 
     /// Whether something stands below a place.
     fn has_children(&self, at: Option<usize>) -> bool
-        ensures { (path : Items (Items ℕ)) → place_in self.now path ≡ at → result ≡ has_below self.now path }
+        ensures { (path : Items (Items ℕ)) → place_in self.now path ≡ at
+            → result ≡ list_any (λ place. is_below path place.path) (tree_of self.now) }
     {
         let entries = &self.entries;
         let Some(at) = at else {
@@ -238,9 +243,10 @@ impl Entries {
     /// Puts a node at the path, and makes the missing directories above it. A directory isn't replaced by something else.
     pub fn put(&mut self, path: &[u8], walk: Walk, node: Node) -> Result<(), NoMemory>
         requires walk { IsWalk self.old (parts_of path.now) walk }
-        requires under { spec.is_under_other self.old (parts_of path.now) ≡ false }
-        requires kept { is_directory (spec.node_at self.old (parts_of path.now)) ≡ true → is_directory (Some node) ≡ true }
-        ensures { OnOk result (self.new ≡ put_node (with_parents self.old (parts_of path.now)) (parts_of path.now) node) }
+        requires under { spec.is_under_other (tree_of self.old) (parts_of path.now) ≡ false }
+        requires kept { is_directory (spec.node_at (tree_of self.old) (parts_of path.now)) ≡ true → is_directory (Some node) ≡ true }
+        ensures { OnOk result (tree_of self.new
+            ≡ spec.put_node (spec.with_parents (tree_of self.old) (parts_of path.now)) (parts_of path.now) node) }
     {
         let Some((front, part)) = split_last(path) else {
             self.put_root(node);
@@ -278,8 +284,9 @@ impl Entries {
     /// Takes away what stands at the path. It isn't a directory below which something stands.
     pub fn remove(&mut self, path: &[u8], walk: Walk)
         requires walk { IsWalk self.old (parts_of path.now) walk }
-        requires empty { (is_directory (spec.node_at self.old (parts_of path.now)) && spec.is_full self.old (parts_of path.now)) ≡ false }
-        ensures { self.new ≡ without_path self.old (parts_of path.now) }
+        requires empty { (is_directory (spec.node_at (tree_of self.old) (parts_of path.now))
+            && spec.is_full (tree_of self.old) (parts_of path.now)) ≡ false }
+        ensures { tree_of self.new ≡ spec.without_path (tree_of self.old) (parts_of path.now) }
     {
         let _ = &self.places;
         if is_root(path) {
@@ -297,7 +304,8 @@ impl Entries {
     /// Gives what stands at the path another mode.
     pub fn set_mode(&mut self, path: &[u8], walk: Walk, mode: u16)
         requires { IsWalk self.old (parts_of path.now) walk }
-        ensures { self.new ≡ change_mode self.old (parts_of path.now) mode (spec.node_at self.old (parts_of path.now)) }
+        ensures { tree_of self.new
+            ≡ spec.change_mode (tree_of self.old) (parts_of path.now) mode (spec.node_at (tree_of self.old) (parts_of path.now)) }
     {
         let _ = path;
         if let Some(at) = walk.at {
@@ -309,11 +317,11 @@ impl Entries {
     /// Above what stands, nothing is missing.
     fn make_front(&mut self, front: &[u8], known: Option<usize>) -> Result<usize, NoMemory>
         requires known { known ≡ place_in self.old (parts_of front.now) }
-        requires under { spec.is_under_other self.old (parts_of front.now) ≡ false }
-        requires other { spec.is_other (spec.node_at self.old (parts_of front.now)) ≡ false }
+        requires under { rows.is_under_other self.old (parts_of front.now) ≡ false }
+        requires other { spec.is_other (rows.node_at self.old (parts_of front.now)) ≡ false }
         ensures tree { OnOk result (self.new ≡ with_parent (with_parents self.old (parts_of front.now)) (parts_of front.now)) }
         ensures place { IfOk result (λ at. place_in self.new (parts_of front.now) ≡ Some at) }
-        ensures directory { OnOk result (is_directory (spec.node_at self.new (parts_of front.now)) ≡ true) }
+        ensures directory { OnOk result (is_directory (rows.node_at self.new (parts_of front.now)) ≡ true) }
     {
         let _ = &self.places;
         if let Some(at) = known {
@@ -326,7 +334,7 @@ impl Entries {
 
     /// Puts a directory in the root's place.
     fn put_root(&mut self, node: Node)
-        requires { is_directory (spec.node_at self.old []) ≡ true → is_directory (Some node) ≡ true }
+        requires { is_directory (rows.node_at self.old []) ≡ true → is_directory (Some node) ≡ true }
         ensures { self.new ≡ put_node self.old [] node }
     {
         self.entries[0].node = Some(node);
@@ -334,11 +342,11 @@ impl Entries {
 
     /// Makes the missing directories at the path and above it, and answers the path's place.
     fn make_directories(&mut self, path: &[u8]) -> Result<usize, NoMemory>
-        requires under { spec.is_under_other self.old (parts_of path.now) ≡ false }
-        requires other { spec.is_other (spec.node_at self.old (parts_of path.now)) ≡ false }
+        requires under { rows.is_under_other self.old (parts_of path.now) ≡ false }
+        requires other { spec.is_other (rows.node_at self.old (parts_of path.now)) ≡ false }
         ensures tree { OnOk result (self.new ≡ with_parent (with_parents self.old (parts_of path.now)) (parts_of path.now)) }
         ensures place { IfOk result (λ at. place_in self.new (parts_of path.now) ≡ Some at) }
-        ensures directory { OnOk result (is_directory (spec.node_at self.new (parts_of path.now)) ≡ true) }
+        ensures directory { OnOk result (is_directory (rows.node_at self.new (parts_of path.now)) ≡ true) }
     {
         let Some((front, part)) = split_last(path) else {
             return self.root();
@@ -351,7 +359,7 @@ impl Entries {
     fn make_directory(&mut self, parent: usize, part: &[u8]) -> Result<usize, NoMemory>
         requires directory { is_directory (node_in self.old parent) ≡ true }
         requires other { (front : Items (Items ℕ)) → place_in self.old front ≡ Some parent
-            → spec.is_other (spec.node_at self.old (front ++ part.now ∷ [])) ≡ false }
+            → spec.is_other (rows.node_at self.old (front ++ part.now ∷ [])) ≡ false }
         ensures tree { OnOk result ((front : Items (Items ℕ)) → place_in self.old front ≡ Some parent
             → self.new ≡ with_parent self.old (front ++ part.now ∷ [])) }
         ensures place { IfOk result (λ at. (front : Items (Items ℕ)) → place_in self.old front ≡ Some parent
@@ -367,7 +375,7 @@ impl Entries {
     /// The place of the path that is a part behind a place, where something stands there.
     fn standing(&self, parent: usize, part: &[u8]) -> Option<usize>
         ensures { (front : Items (Items ℕ)) → place_in self.now front ≡ Some parent → result ≡ (if spec.is_there
-            (spec.node_at self.now (front ++ part.now ∷ [])) then place_in self.now (front ++ part.now ∷ []) else None) }
+            (rows.node_at self.now (front ++ part.now ∷ [])) then place_in self.now (front ++ part.now ∷ []) else None) }
     {
         let at = self.places.child(Some(parent), part);
         if is_there(self.node(at)) { at } else { None }
@@ -377,7 +385,7 @@ impl Entries {
     fn put_child(&mut self, parent: usize, part: &[u8], node: Node) -> Result<usize, NoMemory>
         requires directory { is_directory (node_in self.old parent) ≡ true }
         requires kept { (front : Items (Items ℕ)) → place_in self.old front ≡ Some parent
-            → is_directory (spec.node_at self.old (front ++ part.now ∷ [])) ≡ true → is_directory (Some node) ≡ true }
+            → is_directory (rows.node_at self.old (front ++ part.now ∷ [])) ≡ true → is_directory (Some node) ≡ true }
         ensures tree { OnOk result ((front : Items (Items ℕ)) → place_in self.old front ≡ Some parent
             → self.new ≡ put_node self.old (front ++ part.now ∷ []) node) }
         ensures place { IfOk result (λ at. (front : Items (Items ℕ)) → place_in self.old front ≡ Some parent
@@ -393,7 +401,7 @@ impl Entries {
     fn root(&self) -> Result<usize, NoMemory>
         ensures tree { self.now ≡ with_parent self.now [] }
         ensures place { IfOk result (λ at. place_in self.now [] ≡ Some at) }
-        ensures directory { is_directory (spec.node_at self.now []) ≡ true }
+        ensures directory { is_directory (rows.node_at self.now []) ≡ true }
     {
         let _ = &self.places;
         Ok(0)

@@ -4,7 +4,8 @@ ghost use Rattle.std.specs.Prelude.{◌≡◌, ℕ, List as Items, IfOk};
 ghost use Rattle.std.specs.Result.{result_err};
 ghost use Rattle.init_machine.specs.FileTree.{parts_of, tree_refusal};
 ghost use Rattle.init_machine.specs.declared.task.TreeCall.TheVariants as call;
-ghost use Rattle.model_fs.specs.Entries.{IsWalk};
+ghost use Rattle.model_fs.specs.internal.Entries.{IsWalk};
+ghost use Rattle.model_fs.specs.internal.Rows.{tree_of};
 
 use crate::entries::{Entries, Walk};
 use crate::node::{is_directory, is_insecure, is_other, is_there};
@@ -12,7 +13,7 @@ use init_machine::FsRefusal;
 
 #[tactic(auto, unfolding(init_machine::specs::FileTree::tree_refusal))]
 pub fn judge_write(entries: &Entries, path: &[u8]) -> Result<Walk, FsRefusal>
-    ensures refused { (content : Items ℕ) → result_err result ≡ tree_refusal entries.now (call.Write path.now content) }
+    ensures refused { (content : Items ℕ) → result_err result ≡ tree_refusal (tree_of entries.now) (call.Write path.now content) }
     ensures walk { IfOk result (λ walk. IsWalk entries.now (parts_of path.now) walk) }
 {
     let Some(sight) = entries.look(path) else {
@@ -29,7 +30,7 @@ pub fn judge_write(entries: &Entries, path: &[u8]) -> Result<Walk, FsRefusal>
 
 #[tactic(auto, unfolding(init_machine::specs::FileTree::tree_refusal))]
 pub fn judge_copy(entries: &Entries, from: &[u8], to: &[u8]) -> Result<(Walk, Walk), FsRefusal>
-    ensures refused { result_err result ≡ tree_refusal entries.now (call.Copy from.now to.now) }
+    ensures refused { result_err result ≡ tree_refusal (tree_of entries.now) (call.Copy from.now to.now) }
     ensures walks { IfOk result (λ walks. IsWalk entries.now (parts_of from.now) walks.0 × IsWalk entries.now (parts_of to.now) walks.1) }
 {
     let (Some(copied), Some(sight)) = (entries.look(from), entries.look(to)) else {
@@ -52,7 +53,7 @@ pub fn judge_copy(entries: &Entries, from: &[u8], to: &[u8]) -> Result<(Walk, Wa
 
 #[tactic(auto, unfolding(init_machine::specs::FileTree::tree_refusal))]
 pub fn judge_make_directory(entries: &Entries, path: &[u8]) -> Result<Walk, FsRefusal>
-    ensures refused { (mode : ℕ) → result_err result ≡ tree_refusal entries.now (call.MakeDirectory path.now mode) }
+    ensures refused { (mode : ℕ) → result_err result ≡ tree_refusal (tree_of entries.now) (call.MakeDirectory path.now mode) }
     ensures walk { IfOk result (λ walk. IsWalk entries.now (parts_of path.now) walk) }
 {
     let Some(sight) = entries.look(path) else {
@@ -69,7 +70,7 @@ pub fn judge_make_directory(entries: &Entries, path: &[u8]) -> Result<Walk, FsRe
 
 #[tactic(auto, unfolding(init_machine::specs::FileTree::tree_refusal))]
 pub fn judge_link(entries: &Entries, path: &[u8]) -> Result<Walk, FsRefusal>
-    ensures refused { (target : Items ℕ) → result_err result ≡ tree_refusal entries.now (call.Link target path.now) }
+    ensures refused { (target : Items ℕ) → result_err result ≡ tree_refusal (tree_of entries.now) (call.Link target path.now) }
     ensures walk { IfOk result (λ walk. IsWalk entries.now (parts_of path.now) walk) }
 {
     let Some(sight) = entries.look(path) else {
@@ -86,7 +87,7 @@ pub fn judge_link(entries: &Entries, path: &[u8]) -> Result<Walk, FsRefusal>
 
 #[tactic(auto, unfolding(init_machine::specs::FileTree::tree_refusal))]
 pub fn judge_remove(entries: &Entries, path: &[u8]) -> Result<Walk, FsRefusal>
-    ensures refused { result_err result ≡ tree_refusal entries.now (call.Remove path.now) }
+    ensures refused { result_err result ≡ tree_refusal (tree_of entries.now) (call.Remove path.now) }
     ensures walk { IfOk result (λ walk. IsWalk entries.now (parts_of path.now) walk) }
 {
     let Some(sight) = entries.look(path) else {
@@ -103,7 +104,7 @@ pub fn judge_remove(entries: &Entries, path: &[u8]) -> Result<Walk, FsRefusal>
 
 #[tactic(auto, unfolding(init_machine::specs::FileTree::tree_refusal))]
 pub fn judge_remove_directory(entries: &Entries, path: &[u8]) -> Result<Walk, FsRefusal>
-    ensures refused { result_err result ≡ tree_refusal entries.now (call.RemoveDirectory path.now) }
+    ensures refused { result_err result ≡ tree_refusal (tree_of entries.now) (call.RemoveDirectory path.now) }
     ensures walk { IfOk result (λ walk. IsWalk entries.now (parts_of path.now) walk) }
 {
     let Some(sight) = entries.look(path) else {
@@ -123,7 +124,7 @@ pub fn judge_remove_directory(entries: &Entries, path: &[u8]) -> Result<Walk, Fs
 
 #[tactic(auto, unfolding(init_machine::specs::FileTree::tree_refusal))]
 pub fn judge_change_mode(entries: &Entries, path: &[u8]) -> Result<Walk, FsRefusal>
-    ensures refused { (mode : ℕ) → result_err result ≡ tree_refusal entries.now (call.ChangeMode mode path.now) }
+    ensures refused { (mode : ℕ) → result_err result ≡ tree_refusal (tree_of entries.now) (call.ChangeMode mode path.now) }
     ensures walk { IfOk result (λ walk. IsWalk entries.now (parts_of path.now) walk) }
 {
     let Some(sight) = entries.look(path) else {

@@ -1,7 +1,8 @@
 //! The file tree of a modelled device (AOSP, init's README, "Commands"; the modes and the refusals are this project's
 //! profile).
 //!
-//! `Tree` is its places in the order of their making. Its calls are `tree_refusal` and `tree_after` of `init_machine`.
+//! `Tree` is a map from paths to nodes, in ascending order of paths, however it is kept. Its calls are `tree_refusal` and
+//! `tree_after` of `init_machine`.
 #![tactic(auto)]
 
 mod changing;

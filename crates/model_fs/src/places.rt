@@ -34,7 +34,7 @@ impl Model for Places {
 
     ghost use Rattle.std.specs.Prelude.{nat_eq};
     ghost use Rattle.indexmap.specs.IndexMap.{get};
-    ghost use Rattle.model_fs.specs.Steps.{paths_of, IsIndexed};
+    ghost use Rattle.model_fs.specs.internal.Steps.{paths_of, IsIndexed};
 
     ghost view = { λ places. paths_of places.names places.steps.keys };
 
@@ -45,7 +45,7 @@ impl Places {
     ghost use Rattle.std.specs.Prelude.{◌≡◌, ◌<◌, ℕ, List as Items, [], ◌∷◌, ◌++◌, true, length, Some, None, OnOk, OnErr, IfOk, IfSome};
     ghost use Rattle.init_machine.specs.FileTree.{parts_of};
     ghost use Rattle.init_machine.specs.FileTree as spec;
-    ghost use Rattle.model_fs.specs.Steps.{place_of, with_path, AreDistinct};
+    ghost use Rattle.model_fs.specs.internal.Steps.{place_of, with_path, AreDistinct};
 
     /// The place of the root alone.
     pub fn new(alloc: Global) -> Result<Places, NoMemory>

@@ -34,7 +34,9 @@ impl Model for Tree {
 
     ghost Value = { List Place };
 
-    ghost view = { λ t. t.entries };
+    ghost use Rattle.model_fs.specs.internal.Rows.{tree_of};
+
+    ghost view = { λ t. tree_of t.entries };
 }
 
 impl Tree {

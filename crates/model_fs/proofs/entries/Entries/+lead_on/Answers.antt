@@ -1,7 +1,8 @@
 -- A path leads on by its next part, and behind a part without a place nothing stands.
 use Rattle.std.proofs.Common.{◌≡◌, ◌||◌, List, ℕ, ◌++◌, ◌∷◌, [], None, refl, sym, ap, ◌∙◌, append_assoc, append-nil}
-use Rattle.init_machine.specs.FileTree.{parts_of, node_at, is_other, is_under_other}
-use Rattle.model_fs.specs.Entries.{place_in}
+use Rattle.init_machine.specs.FileTree.{parts_of, is_other}
+use Rattle.model_fs.specs.internal.Entries.{place_in}
+use Rattle.model_fs.specs.internal.Rows.{node_at, is_under_other}
 use Rattle.model_fs.proofs.Above.{under_by_last}
 use Rattle.model_fs.proofs.Standing.{under_beyond}
 use Rattle.model_fs.proofs.Views.{viewed}

@@ -1,7 +1,8 @@
 -- The directories above are made first, and the path's own is right below the last of them.
 use Rattle.std.proofs.Common.{◌≡◌, ◌++◌, ◌∷◌, [], false, sym, ap, ◌∙◌, rules}
 use Rattle.std.proofs.lemmas.Result.{on_ok_weaker}
-use Rattle.init_machine.specs.FileTree.{is_directory, is_other, node_at, parts_of, with_parent, with_parents}
+use Rattle.init_machine.specs.FileTree.{is_directory, is_other, parts_of}
+use Rattle.model_fs.specs.internal.Rows.{node_at, with_parent, with_parents}
 use Rattle.model_fs.proofs.Above.{none_above, parent_is_directory, parents_by_last, parents_keep}
 use Rattle.model_fs.proofs.Trees.{node_found, same_front}
 use Rattle.model_fs.proofs.entries.Entries.+make_directories.Goals as goal

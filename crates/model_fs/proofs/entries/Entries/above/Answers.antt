@@ -1,7 +1,8 @@
 -- Above what stands, no file and no link stands.
 use Rattle.std.proofs.Common.{◌≡◌, true, ◌||◌, sym, ap, ◌∙◌, subst}
-use Rattle.init_machine.specs.FileTree.{is_other, is_there, node_at, parts_of}
-use Rattle.model_fs.specs.Entries.{IsReached}
+use Rattle.init_machine.specs.FileTree.{is_other, is_there, parts_of}
+use Rattle.model_fs.specs.internal.Entries.{IsReached}
+use Rattle.model_fs.specs.internal.Rows.{node_at}
 use Rattle.model_fs.proofs.Standing.{none_above_standing}
 use Rattle.model_fs.proofs.entries.Entries.above.Goals as goal
 

@@ -1,16 +1,21 @@
 -- The count at the path's place tells whether something stands below.
 use Rattle.std.proofs.Common.{◌≡◌, ◌<◌, length, get_or, nat_lt, Some, sym, ap, ◌∙◌, arith}
 use Rattle.std.proofs.lemmas.Grind.{common_steps}
-use Rattle.model_fs.specs.Entries.{has_below, place_in, shown}
+use Rattle.std.specs.List.{list_any}
+use Rattle.init_machine.specs.FileTree.{is_below}
+use Rattle.model_fs.specs.internal.Entries.{place_in, shown}
+use Rattle.model_fs.specs.internal.Rows.{tree_of}
 use Rattle.model_fs.proofs.Below.{counted_below, none_below}
 use Rattle.model_fs.proofs.Kept.{read_entry}
+use Rattle.model_fs.proofs.Rows.{below_is}
 use Rattle.model_fs.proofs.Shown.{place_shown, place_within}
 use Rattle.model_fs.proofs.entries.Entries.has_children.Goals as goal
 
 pub returns-in_default : goal.returns-in_default
 returns-in_default c path at =
     none_below (shown c.self.inside.places c.self.inside.entries.items) path c.self.invariant.reached (ap (λ t. place_in t path) c.self.view_is ∙ at ∙ c.in_default.is)
-    ∙ ap (λ t. has_below t path) c.self.view_is
+    ∙ below_is c.self.inside.places c.self.inside.entries.items path c.self.invariant
+    ∙ ap (λ rows. list_any (λ place. is_below path place.path) (tree_of rows)) c.self.view_is
 
 pub returns-in-Some-get : goal.returns-in-Some-get
 returns-in-Some-get c path at =
@@ -21,7 +26,8 @@ returns-in-Some-get c path at =
     (read_entry paths entries path c.in-Some.at c.in-Some-get.entry.now c.self.invariant (sym (place_shown paths entries path c.self.invariant.long) ∙ is)
     (c.in-Some-get.ensures.lookup.1 ∙ ap (λ es. get_or es c.in-Some.at c.in-Some-get.entry.now) c.deref.ensures.value))
     ∙ counted_below paths entries path c.in-Some.at c.self.invariant is
-    ∙ ap (λ t. has_below t path) c.self.view_is
+    ∙ below_is c.self.inside.places c.self.inside.entries.items path c.self.invariant
+    ∙ ap (λ rows. list_any (λ place. is_below path place.path) (tree_of rows)) c.self.view_is
 
 pub returns-in-None : goal.returns-in-None
 returns-in-None c path at =

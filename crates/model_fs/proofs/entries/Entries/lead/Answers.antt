@@ -1,6 +1,6 @@
 -- From the root on.
 use Rattle.std.proofs.Common.{[], refl, sym, ap, ◌∙◌}
-use Rattle.model_fs.specs.Entries.{place_in}
+use Rattle.model_fs.specs.internal.Entries.{place_in}
 use Rattle.model_fs.proofs.Shown.{place_shown}
 use Rattle.model_fs.proofs.entries.Entries.lead.Goals as goal
 

@@ -1,8 +1,8 @@
 -- Where nothing stands, a directory is put.
 use Rattle.std.proofs.Common.{◌++◌, ◌∷◌, [], Bool, if◌then◌else◌, sym, ap, ◌∙◌}
 use Rattle.std.proofs.lemmas.Result.{on_ok_weaker}
-use Rattle.init_machine.specs.FileTree.{put_node}
 use Rattle.init_machine.specs.declared.node.Node.TheVariants.{Directory}
+use Rattle.model_fs.specs.internal.Rows.{put_node}
 use Rattle.model_fs.proofs.Trees.{not_standing}
 use Rattle.model_fs.proofs.entries.Entries.make_directory.Goals as goal
 

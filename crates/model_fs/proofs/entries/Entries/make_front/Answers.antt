@@ -1,7 +1,8 @@
 -- Above what stands, nothing is missing.
 use Rattle.std.proofs.Common.{◌≡◌, true, sym, ap, ◌∙◌, subst}
-use Rattle.init_machine.specs.FileTree.{is_there, node_at, parts_of}
-use Rattle.model_fs.specs.Entries.{IsReached}
+use Rattle.init_machine.specs.FileTree.{is_there, parts_of}
+use Rattle.model_fs.specs.internal.Entries.{IsReached}
+use Rattle.model_fs.specs.internal.Rows.{node_at}
 use Rattle.model_fs.proofs.Standing.{none_missing}
 use Rattle.model_fs.proofs.entries.Entries.make_front.Goals as goal
 

@@ -2,8 +2,8 @@
 use Rattle.std.proofs.Common.{◌≡◌, ◌<◌, length, get_or, Some, sym, ap, ◌∙◌, arith}
 use Rattle.std.proofs.lemmas.Grind.{common_steps}
 use Rattle.std.specs.Option.{option_copied}
-use Rattle.init_machine.specs.FileTree.{node_at}
-use Rattle.model_fs.specs.Entries.{place_in, shown}
+use Rattle.model_fs.specs.internal.Entries.{place_in, shown}
+use Rattle.model_fs.specs.internal.Rows.{node_at}
 use Rattle.model_fs.proofs.Shown.{node_shown, place_within}
 use Rattle.model_fs.proofs.Trees.{node_not_found}
 use Rattle.model_fs.proofs.entries.Entries.node.Goals as goal

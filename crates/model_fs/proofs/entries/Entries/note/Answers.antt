@@ -1,7 +1,7 @@
 -- The path's place is the same among the paths and in the tree.
 use Rattle.std.proofs.Common.{sym, ap, ◌∙◌}
 use Rattle.init_machine.specs.FileTree.{parts_of}
-use Rattle.model_fs.specs.Entries.{place_in}
+use Rattle.model_fs.specs.internal.Entries.{place_in}
 use Rattle.model_fs.proofs.Shown.{place_shown}
 use Rattle.model_fs.proofs.entries.Entries.note.Goals as goal
 

@@ -1,8 +1,8 @@
 -- The path is given a place, where it has none, and the node stands there.
 use Rattle.std.proofs.Common.{◌≡◌, ℕ, List, ◌++◌, ◌∷◌, [], length, get_or, Some, sym, ap, ◌∙◌, arith}
 use Rattle.init_machine.specs.FileTree.{is_directory}
-use Rattle.model_fs.specs.Entries.{entry_at, node_in, place_in, with_entry}
-use Rattle.model_fs.specs.Steps.{place_of}
+use Rattle.model_fs.specs.internal.Entries.{entry_at, node_in, place_in, with_entry}
+use Rattle.model_fs.specs.internal.Steps.{place_of}
 use Rattle.model_fs.proofs.Kept.{added_within, count_within, place_here, shown_within}
 use Rattle.model_fs.proofs.Views.{put_in, viewed, IsPutIn}
 use Rattle.model_fs.proofs.entries.Entries.put_child.Goals as goal

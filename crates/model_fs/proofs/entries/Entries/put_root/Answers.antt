@@ -1,7 +1,8 @@
 -- A directory stands in the root's place as before.
 use Rattle.std.proofs.Common.{[], Some, set, sym, ap, ◌∙◌, subst}
-use Rattle.init_machine.specs.FileTree.{is_directory, node_at, put_node}
-use Rattle.model_fs.specs.Entries.{entry_at, shown, IsKept}
+use Rattle.init_machine.specs.FileTree.{is_directory}
+use Rattle.model_fs.specs.internal.Entries.{entry_at, shown, IsKept}
+use Rattle.model_fs.specs.internal.Rows.{node_at, put_node}
 use Rattle.model_fs.specs.declared.entries.Entry.{Entry}
 use Rattle.model_fs.proofs.Kept.{directory_there, kept_same, root_is_directory, read_entry, shown_with_node}
 use Rattle.model_fs.proofs.Shown.{place_shown}

@@ -1,5 +1,5 @@
 use Rattle.std.proofs.Common.{[], sym, ap, ◌∙◌}
-use Rattle.model_fs.specs.Entries.{place_in}
+use Rattle.model_fs.specs.internal.Entries.{place_in}
 use Rattle.model_fs.proofs.Shown.{place_shown}
 use Rattle.model_fs.proofs.entries.Entries.root.Goals as goal
 

@@ -1,7 +1,7 @@
 -- The path's place is looked up, and what stands there.
 use Rattle.std.proofs.Common.{◌++◌, ◌∷◌, [], Bool, None, if◌then◌else◌, sym, ap, ◌∙◌}
 use Rattle.init_machine.specs.FileTree.{is_there}
-use Rattle.model_fs.specs.Entries.{place_in}
+use Rattle.model_fs.specs.internal.Entries.{place_in}
 use Rattle.model_fs.proofs.Views.{viewed}
 use Rattle.model_fs.proofs.entries.Entries.standing.Goals as goal
 

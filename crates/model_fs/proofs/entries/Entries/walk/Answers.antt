@@ -1,9 +1,10 @@
 -- A path leads on from where its front leads.
 use Rattle.std.proofs.Common.{◌≡◌, ◌++◌, ◌∷◌, [], sym, ap, ◌∙◌}
 use Rattle.init_machine.specs.FileTree.{parts_of}
-use Rattle.model_fs.specs.Entries.{place_in}
-use Rattle.model_fs.specs.Steps.{place_of}
+use Rattle.model_fs.specs.internal.Entries.{place_in}
+use Rattle.model_fs.specs.internal.Steps.{place_of}
 use Rattle.model_fs.proofs.Above.{under_by_last}
+use Rattle.model_fs.proofs.Rows.{under_is}
 use Rattle.model_fs.proofs.Shown.{place_shown}
 use Rattle.model_fs.proofs.Slots.{place_noted}
 use Rattle.model_fs.proofs.Steps.{last_parts}
@@ -35,6 +36,7 @@ returns c =
         parent = λ other last is.
             c.above-above.ensures.at ∙ ap (place_in tree) (last_parts front other c.in-Some.part.now last (sym c.in-Some.ensures.0 ∙ is)).0;
         behind = λ root none. c.child.ensures.none none;
-        under = c.above-above.ensures.other ∙ sym (under_by_last tree (parts_of c.args.path.now) front c.in-Some.part.now c.in-Some.ensures.0);
+        under = c.above-above.ensures.other ∙ sym (under_by_last tree (parts_of c.args.path.now) front c.in-Some.part.now c.in-Some.ensures.0)
+            ∙ sym (under_is tree (parts_of c.args.path.now));
       },
     )

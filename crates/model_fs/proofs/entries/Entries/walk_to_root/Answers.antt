@@ -1,7 +1,8 @@
 -- The root has the first place, and nothing above it.
 use Rattle.std.proofs.Common.{[], sym, ap, ◌∙◌}
 use Rattle.init_machine.specs.FileTree.{is_root, is_under_other}
-use Rattle.model_fs.specs.Entries.{place_in}
+use Rattle.model_fs.specs.internal.Entries.{place_in}
+use Rattle.model_fs.specs.internal.Rows.{tree_of}
 use Rattle.model_fs.proofs.Shown.{place_shown}
 use Rattle.model_fs.proofs.Steps.{some_last}
 use Rattle.model_fs.proofs.entries.Entries.walk_to_root.Goals as goal
@@ -17,6 +18,6 @@ returns c = (
         ∙ ap (place_in c.args.self.now) (sym c.requires);
     parent = λ front last is. absurd (some_last front last (sym c.requires ∙ is));
     behind = λ root none. absurd (let e = ap is_root c.requires in cc);
-    under = sym (ap (is_under_other c.args.self.now) c.requires);
+    under = sym (ap (is_under_other (tree_of c.args.self.now)) c.requires);
   },
 )

@@ -1,7 +1,7 @@
 -- The step goes behind the others, unless it is there.
 use Rattle.std.proofs.Common.{◌≡◌, ◌<◌, ◌++◌, ◌∷◌, [], length, get_or, slice_get, nat_eq, Some, Result, Ok, Err, OnErr, refl, sym, ap, ◌∙◌, subst, arith}
 use Rattle.indexmap.specs.IndexMap.{get}
-use Rattle.model_fs.specs.Steps.{place_of, with_path, paths_of, IsIndexed, IsNumbered}
+use Rattle.model_fs.specs.internal.Steps.{place_of, with_path, paths_of, IsIndexed, IsNumbered}
 use Rattle.model_fs.proofs.Slots.{indexed_added, indexed_same}
 use Rattle.model_fs.proofs.Steps.{are_distinct, length-paths, numbered_with_text, paths_with_text, numbered_added, paths_added, place_added, place_is}
 use Rattle.model_fs.proofs.places.Places.add.Goals as goal

@@ -1,6 +1,6 @@
 -- The path is found from its parent on.
 use Rattle.std.proofs.Common.{◌≡◌, ◌++◌, ◌∷◌, [], None, sym, ap, ◌∙◌}
-use Rattle.model_fs.specs.Steps.{paths_of, place_of}
+use Rattle.model_fs.specs.internal.Steps.{paths_of, place_of}
 use Rattle.model_fs.proofs.Steps.{no_parent, no_name, none_behind, child_is}
 use Rattle.model_fs.proofs.places.Places.child.Goals as goal
 

@@ -3,7 +3,7 @@ use Rattle.std.proofs.Common.{nat_eq, sym, ap, ◌∙◌}
 use Rattle.std.specs.Map.{lookup}
 use Rattle.indexmap.specs.IndexMap.{get}
 use Rattle.init_machine.specs.FileTree.{is_path, parts_of}
-use Rattle.model_fs.specs.Steps.{paths_of, place_of}
+use Rattle.model_fs.specs.internal.Steps.{paths_of, place_of}
 use Rattle.model_fs.proofs.Slots.{indexed_noted, indexed_unchanged}
 use Rattle.model_fs.proofs.places.Places.note.Goals as goal
 

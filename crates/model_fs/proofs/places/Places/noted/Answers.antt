@@ -3,7 +3,7 @@ use Rattle.std.proofs.Common.{◌≡◌, nat_eq, Some, sym, ap, ◌∙◌}
 use Rattle.std.specs.Cmp.Lexicographic.{bytes_decides}
 use Rattle.indexmap.specs.IndexMap.{get}
 use Rattle.init_machine.specs.FileTree.{is_path, parts_of}
-use Rattle.model_fs.specs.Steps.{place_of}
+use Rattle.model_fs.specs.internal.Steps.{place_of}
 use Rattle.model_fs.proofs.places.Places.noted.Goals as goal
 
 pub returns-then-eq : goal.returns-then-eq

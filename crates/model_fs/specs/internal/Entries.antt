@@ -1,41 +1,42 @@
--- The entries of a tree: what stands at each place, and how much stands right below it.
+-- The rows of entries: what stands at each place, and how much stands right below it.
 use Rattle.std.specs.Prelude.{◌≡◌, ℕ, ◌+◌, ◌-◌, Bool, true, false, ◌&&◌, List, [], ◌∷◌, ◌++◌, length, position, count_by, slice_get, slice_index_or, slice_set, nat_lt, Option, Some, None, is_some, if◌then◌else◌}
 use Rattle.std.specs.List.{list_any}
 use Rattle.std.specs.Str.{bytes_eq}
-use Rattle.init_machine.specs.FileTree.{Place, same_path, node_of, node_at, with_mode, is_there, is_directory, is_below, is_root, is_under_other}
+use Rattle.init_machine.specs.FileTree.{same_path, with_mode, is_there, is_directory, is_below, is_root, is_under_other}
 use Rattle.init_machine.specs.declared.node.Node.{Node}
-use Rattle.model_fs.specs.Steps.{place_of, AreDistinct}
+use Rattle.model_fs.specs.internal.Rows.{Row, tree_of, node_of, node_at}
+use Rattle.model_fs.specs.internal.Steps.{place_of, AreDistinct}
 use Rattle.model_fs.specs.declared.entries.Entry.{Entry}
 use Rattle.model_fs.specs.declared.entries.Walk.{Walk}
 
 -- what stands at paths, by their entries
-abbrev pub shown : List (List (List ℕ)) → List Entry → List Place
+abbrev pub shown : List (List (List ℕ)) → List Entry → List Row
 shown [] entries = []
 shown (path ∷ paths) [] = []
 shown (path ∷ paths) (entry ∷ entries) = record { path = path; node = entry.node } ∷ shown paths entries
 
--- the place of a path in a tree
-abbrev pub place_in : List Place → List (List ℕ) → Option ℕ
-place_in tree path = position (λ place. same_path place.path path) tree
+-- the place of a path, by its row
+abbrev pub place_in : List Row → List (List ℕ) → Option ℕ
+place_in rows path = position (λ place. same_path place.path path) rows
 
 -- a place more at the end, at which nothing stands yet, unless the path has one
-abbrev pub with_place : List Place → List (List ℕ) → List Place
-with_place tree path = if is_some (place_in tree path) then tree else tree ++ record { path = path; node = None } ∷ []
+abbrev pub with_place : List Row → List (List ℕ) → List Row
+with_place rows path = if is_some (place_in rows path) then rows else rows ++ record { path = path; node = None } ∷ []
 
 -- what stands at a place
-abbrev pub node_in : List Place → ℕ → Option Node
-node_in tree at = node_of (slice_get tree at)
+abbrev pub node_in : List Row → ℕ → Option Node
+node_in rows at = node_of (slice_get rows at)
 
--- where a path leads in a tree: its place and that of its front, and whether a file or a link stands above it
-pub record IsWalk (tree : List Place) (path : List (List ℕ)) (walk : Walk) : Type 0 where
-  pub at : walk.at ≡ place_in tree path
-  pub parent : (front : List (List ℕ)) (last : List ℕ) → path ≡ front ++ last ∷ [] → walk.parent ≡ place_in tree front
+-- where a path leads: its place and that of its front, and whether a file or a link stands above it
+pub record IsWalk (rows : List Row) (path : List (List ℕ)) (walk : Walk) : Type 0 where
+  pub at : walk.at ≡ place_in rows path
+  pub parent : (front : List (List ℕ)) (last : List ℕ) → path ≡ front ++ last ∷ [] → walk.parent ≡ place_in rows front
   pub behind : is_root path ≡ false → walk.parent ≡ None → walk.at ≡ None
-  pub under : walk.is_under_other ≡ is_under_other tree path
+  pub under : walk.is_under_other ≡ is_under_other (tree_of rows) path
 
 -- whether something stands below a path
-abbrev pub has_below : List Place → List (List ℕ) → Bool
-has_below tree path = list_any (λ place. is_below path place.path && is_there place.node) tree
+abbrev pub has_below : List Row → List (List ℕ) → Bool
+has_below rows path = list_any (λ place. is_below path place.path && is_there place.node) rows
 
 -- the other path is that of one part more
 abbrev pub is_child : List (List ℕ) → List (List ℕ) → Bool
@@ -44,14 +45,14 @@ is_child [] (q ∷ qs) = is_root qs
 is_child (p ∷ ps) (q ∷ qs) = bytes_eq p q && is_child ps qs
 
 -- how many nodes stand right below a path
-abbrev pub children_of : List Place → List (List ℕ) → ℕ
-children_of tree path = count_by (λ place. is_child path place.path && is_there place.node) tree
+abbrev pub children_of : List Row → List (List ℕ) → ℕ
+children_of rows path = count_by (λ place. is_child path place.path && is_there place.node) rows
 
 -- each node stands in a directory, but the root's
-abbrev pub IsReached : List Place → Type 0
-IsReached tree =
-    (i : ℕ) (place : Place) → slice_get tree i ≡ Some place → is_there place.node ≡ true
-    → (front : List (List ℕ)) (last : List ℕ) → place.path ≡ front ++ last ∷ [] → is_directory (node_at tree front) ≡ true
+abbrev pub IsReached : List Row → Type 0
+IsReached rows =
+    (i : ℕ) (place : Row) → slice_get rows i ≡ Some place → is_there place.node ≡ true
+    → (front : List (List ℕ)) (last : List ℕ) → place.path ≡ front ++ last ∷ [] → is_directory (node_at rows front) ≡ true
 
 -- what the entries of paths keep: the root is a directory and has the first place, each node stands in a directory, and
 -- the nodes right below each place are counted
