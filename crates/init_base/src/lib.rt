@@ -7,6 +7,7 @@
 mod adapters;
 mod byte_test;
 mod comparing;
+mod early_ends;
 mod fifo;
 mod in_memory;
 mod lines;
@@ -29,6 +30,7 @@ pub use adapters::machine::read_some;
 pub use adapters::sink::StdSink;
 pub use adapters::source::StdSource;
 pub use comparing::same_bytes;
+pub use early_ends::{both, unless};
 pub use fifo::Fifo;
 pub use in_memory::files::{MemFiles, SteadyFiles};
 pub use in_memory::keeper::{MemKeeper, SteadyKeeper};

@@ -2,9 +2,9 @@
 
 ghost use Rattle.std.specs.Prelude.{◌≡◌, ◌≤◌, ◌↔◌, [], length, true, false, IfOk, OnOk};
 
-use crate::opening::{Opened, both};
+use crate::opening::Opened;
 use crate::step::step;
-use init_base::{List, NoMemory, PropName, Text};
+use init_base::{List, NoMemory, PropName, Text, both};
 use init_machine::{Config, Input, Pair, PropStore};
 use machine_parts::{Parts, Saved};
 use outputs::Outputs;

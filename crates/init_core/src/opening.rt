@@ -1,13 +1,13 @@
 //! `Opened`: what of a machine takes memory when it is opened.
 
-ghost use Rattle.std.specs.Prelude.{◌≡◌, IsTrue, IfOk, Ok, map};
+ghost use Rattle.std.specs.Prelude.{◌≡◌, IsTrue, IfOk, map};
 ghost use Rattle.std.specs.List.{list_all};
 ghost use Rattle.action_queue.specs.Queue.{is_well_formed};
 ghost use Rattle.init_machine.specs.WellFormed.{are_distinct};
 ghost use Rattle.model_kernel.specs.Kernel.{end_in_time, paths_of};
 ghost use Rattle.init_core.specs.Opened.{first_parts, opened_by};
 
-use init_base::{List, NoMemory};
+use init_base::{List, NoMemory, both};
 use init_machine::{Action, Plan, PropStore, ServiceDef};
 use machine_parts::{Environment, Parts, Saved, Schedule};
 use model_fs::Tree;
@@ -19,15 +19,6 @@ use std::alloc::Global;
 
 /// The pid of the first process.
 const FIRST_PID: u32 = 100;
-
-/// A value and a second one, where there was memory for that. Else the first one is dropped here, so that the proof of a
-/// caller has nothing to do with it.
-pub fn both<A: Drop, B>(first: A, second: Result<B, NoMemory>) -> Result<(A, B), NoMemory>
-    ensures first { IfOk result (λ pair. pair.0 ≡ first) }
-    ensures second { IfOk result (λ pair. second ≡ Ok pair.1) }
-{
-    Ok((first, second?))
-}
 
 /// The queue, the services, the kernel and the tree of a machine.
 #[derive(Drop)]

@@ -1,6 +1,6 @@
 //! `race`: a script's clients and its main actor beside each other.
 
-ghost use Rattle.std.specs.Prelude.{◌≡◌, ◌≤◌, ◌∷◌, ◌++◌, ℕ, [], All, Ok, Err, IfOk, IfErr, IsOkAnd, IsTrue, OnOk, length, slice_get};
+ghost use Rattle.std.specs.Prelude.{◌≡◌, ◌≤◌, ◌∷◌, ◌++◌, [], All, IfOk, IsOkAnd, IsTrue, OnOk, length, slice_get};
 ghost use Rattle.init_base.specs.Faults.{Counted};
 ghost use Rattle.init_core.specs.Core.{opening_of};
 ghost use Rattle.init_driver.specs.Keeper.{seen_by};
@@ -22,7 +22,7 @@ use crate::gate::Gate;
 use crate::refusal::RaceRefusal;
 use crate::seating::seat_all;
 use crate::threads::act_all;
-use init_base::{IoRefusal, Keeper, List, NoMemory};
+use init_base::{IoRefusal, Keeper, List, NoMemory, both};
 use init_driver::{Setup, open_area};
 use init_machine::{ClientPart, Config, Diagnostic, Entry, Output, Pair, Report};
 use prop_contexts::Policy;
@@ -196,17 +196,6 @@ fn run_over<N: AreaName + Send + Sync, R: Threads + Wait + Sync, G: Gate>(
     let writer = AreaWriter::new(area, seat);
     let service = Service::<N>::new(alloc, config, policy, writer)?;
     run_actors(rt, alloc, area, service, script, gate)
-}
-
-/// Two values, where the second isn't refused. Else the first one ends here, so that the proof of a caller has nothing to do with it.
-fn both<A: Drop, B: Drop, E>(first: A, second: Result<B, E>) -> Result<(A, B), E>
-    ensures pair { IfOk result (λ pair. (pair.0 ≡ first) × (second ≡ Ok pair.1)) }
-    ensures refused { IfErr result (λ why. second ≡ Err why) }
-{
-    match second {
-        Ok(second) => Ok((first, second)),
-        Err(why) => Err(why),
-    }
 }
 
 /// The actors' run over an area that is made for it and ends with it.

@@ -1,7 +1,7 @@
 //! What is to be run or raced, or what a trace is held against: the script, the tree and the store are read, in this order, and the
 //! first refusal ends it.
 
-ghost use Rattle.std.specs.Prelude.{◌≡◌, ℕ, [], map, Ok, IfErr, IfOk, IfSome};
+ghost use Rattle.std.specs.Prelude.{◌≡◌, ℕ, map, IfErr, IfOk, IfSome};
 ghost use Rattle.init_base.specs.Faults.{Counted};
 ghost use Rattle.init_driver.specs.Keeper.{seen_by};
 ghost use Rattle.init_machine.specs.WellFormed.{IsWellFormed};
@@ -16,7 +16,7 @@ use crate::loading::load;
 use crate::reading::{read_script, read_store};
 use crate::stop::Stop;
 use crate::texts::read_policy;
-use init_base::{Files, Keeper, List, NoMemory, Source, Text};
+use init_base::{Files, Keeper, List, NoMemory, Source, Text, both};
 use init_driver::Setup;
 use init_machine::{Config, Pair, Plan};
 use prop_contexts::Policy;
@@ -101,14 +101,6 @@ fn given_by(alloc: Global, script: &Script) -> Result<(List<Plan>, List<Text>), 
 {
     let plans = copy_of(alloc, script.plans.items())?;
     both(plans, domains_of(alloc, script.clients.items()))
-}
-
-/// Two values, where there was memory for the second. Else the first one ends here, so that the proof of a caller has nothing to do
-/// with it.
-fn both<A: Drop, B: Drop>(first: A, second: Result<B, NoMemory>) -> Result<(A, B), NoMemory>
-    ensures { IfOk result (λ pair. (pair.0 ≡ first) × (second ≡ Ok pair.1)) }
-{
-    Ok((first, second?))
 }
 
 /// Reads the script, the tree and the store.

@@ -1,6 +1,6 @@
 //! The policy that two texts spell, and the look-ups in it.
 
-ghost use Rattle.std.specs.Prelude.{◌≡◌, ◌≤◌, Some, None, Ok, Err, IfOk, IfErr, IfSome, IfNone, length};
+ghost use Rattle.std.specs.Prelude.{◌≡◌, ◌≤◌, Some, None, IfOk, IfErr, IfSome, IfNone, length};
 ghost use Rattle.init_machine.specs.Policy.{context_of, is_allowed};
 ghost use Rattle.prop_contexts.specs.Allowed.{AreAllowed, IsAllowRefusal};
 ghost use Rattle.prop_contexts.specs.Grammar.{IsPolicy, IsRefused};
@@ -10,32 +10,18 @@ use crate::allows::read_allows;
 use crate::contexts::{Contexts, read_contexts};
 use crate::names::Names;
 use crate::refusal::PolicyRefusal;
-use init_base::PropName;
+use init_base::{PropName, both};
 use init_machine::{Context, PolicyView};
 use std::alloc::Global;
 use std::marker::Model;
 
-/// A value and another one beside it, where there is the first; else the other one ends here. So does what `both` lets go: the proof
-/// of a caller has nothing to do with it.
+/// A value and another one beside it, where there is the first; else the other one ends here, so that the proof of a caller
+/// has nothing to do with it.
 fn beside<A: Drop, B: Drop>(one: Option<A>, other: B) -> Option<(A, B)>
     ensures pair { IfSome result (λ pair. (one ≡ Some pair.0) × (pair.1 ≡ other)) }
     ensures none { IfNone result (one ≡ None) }
 {
     Some((one?, other))
-}
-
-/// A value and a second one, where that isn't refused.
-fn both<A: Drop, B: Drop>(
-    first: A,
-    second: Result<B, PolicyRefusal>,
-) -> Result<(A, B), PolicyRefusal>
-    ensures pair { IfOk result (λ pair. (pair.0 ≡ first) × (second ≡ Ok pair.1)) }
-    ensures refused { IfErr result (λ why. second ≡ Err why) }
-{
-    match second {
-        Ok(second) => Ok((first, second)),
-        Err(why) => Err(why),
-    }
 }
 
 /// The allowances that an allow text spells.

@@ -17,7 +17,7 @@ ghost use Rattle.property_service.specs.Record.{recorded};
 ghost use Rattle.property_service.specs.Service.{Agrees, MayAsk, has_seat, next_entry, state_after};
 
 use crate::area_name::AreaName;
-use init_base::{ClientId, List, NoMemory};
+use init_base::{ClientId, List, NoMemory, both};
 use init_core::{Core, CoreStop};
 use init_machine::{Config, Input, Pair};
 use outputs::Outputs;
@@ -66,12 +66,13 @@ impl<'a, N: AreaName, O: Outputs> Desk<'a, N, O> {
         ensures ready { IfOk result (λ desk. desk.spent ≡ false) }
     {
         let count = config.domains.len() + 1;
-        let seats = List::from_vec(vec![in alloc; false; count]?);
+        let seats = vec![in alloc; false; count];
         writer.begin(&config, &policy);
         let core = Core::new(alloc, config, policy, writer, outputs)?;
+        let (core, seats) = both(core, seats)?;
         Ok(Desk {
             core,
-            seats,
+            seats: List::from_vec(seats),
             spent: false,
             of: PhantomData,
         })

@@ -12,7 +12,7 @@ use crate::area_name::AreaName;
 use crate::desk::Desk;
 use crate::leaving::{first_seated, take_in_all};
 use crate::service::Service;
-use init_base::{ClientId, List};
+use init_base::{ClientId, List, unless};
 use init_core::Ended;
 use init_machine::{Entry, Pair};
 use outputs::Outputs;
@@ -120,15 +120,17 @@ fn close_all(
         mut store,
     } = ended;
     take_in_all(&mut store, &mut seats, readers);
-    if let Some(who) = first_seated(&seats) {
-        return Err(FinishRefusal::Missing { who });
-    }
-    Ok(Closed {
+    let seat = store.into_seat();
+    let closed = Closed {
         saved,
         saving,
         policy,
-        seat: store.into_seat(),
-    })
+        seat,
+    };
+    match unless(first_seated(&seats), closed) {
+        Ok(closed) => Ok(closed),
+        Err(who) => Err(FinishRefusal::Missing { who }),
+    }
 }
 
 impl<'a, N: AreaName> Service<'a, N> {

@@ -2,7 +2,7 @@
 
 use crate::request::Request;
 use clap::{Arg, ArgAction, ArgMatches, Command, Error, value_parser};
-use init_base::{List, NoMemory, Text};
+use init_base::{List, NoMemory, Text, both};
 use lint_baseline::Baseline;
 use lint_findings::{About, Promoted, about_of};
 use lint_page::{Format, Style};
@@ -204,17 +204,6 @@ fn asked_of(alloc: Global, matches: &ArgMatches<'_>) -> Result<Asked, WordsRefus
         known,
         kept,
     })
-}
-
-/// Two values, where the second isn't refused. Else the first one ends here, so that the proof of a caller has nothing to do with it.
-fn both<A: Drop, B: Drop>(
-    first: A,
-    second: Result<B, WordsRefusal>,
-) -> Result<(A, B), WordsRefusal> {
-    match second {
-        Ok(second) => Ok((first, second)),
-        Err(why) => Err(why),
-    }
 }
 
 /// The excuses, of which memory alone can lack.

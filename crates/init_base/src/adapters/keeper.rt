@@ -188,20 +188,37 @@ fn replace_file<R: fs::Files>(
     let folder = folder_path(tree, alloc, &make_folders(tree, alloc, folder)?)?;
     let file = join(alloc, folder.bytes(), name)?;
     let new = join(alloc, file.bytes(), NEW)?;
-    write_new(tree.rt, path_of(&new)?, content)?;
-    fs::rename(tree.rt, path_of(&new)?, path_of(&file)?)?;
+    put_file(tree.rt, path_of(&new)?, path_of(&file)?, content)?;
     sync_folder(tree.rt, path_of(&folder)?)?;
     Ok(())
 }
 
-/// Writes a new file, in place of what an earlier run may have left, and waits until it reaches the disk. A link isn't
-/// followed.
-fn write_new<R: fs::Files>(rt: &R, path: &str, content: &[u8]) -> Result<(), Error> {
+/// Writes a new file, and moves it to its path. Where one of the two fails, the new file goes again.
+fn put_file<R: fs::Files>(rt: &R, new: &str, file: &str, content: &[u8]) -> Result<(), Error> {
+    let mut opened = make_new(rt, new)?;
+    let put = match write_synced(&mut opened, content) {
+        Ok(()) => fs::rename(rt, new, file),
+        Err(error) => Err(error),
+    };
+    if put.is_err() {
+        match fs::remove_file(rt, new) {
+            Ok(()) | Err(_) => {}
+        }
+    }
+    put
+}
+
+/// Makes a new file, in place of what an earlier run may have left. A link isn't followed.
+fn make_new<R: fs::Files>(rt: &R, path: &str) -> Result<R::File, Error> {
     match fs::remove_file(rt, path) {
         Err(error) if error.kind() == ErrorKind::NotFound => {}
         outcome => outcome?,
     }
-    let mut file = File::create_new(rt, path)?;
+    File::create_new(rt, path)
+}
+
+/// Writes the content, and waits until it reaches the disk.
+fn write_synced<F: OpenFile + Write>(file: &mut F, content: &[u8]) -> Result<(), Error> {
     file.write_all(content)?;
     file.sync_all()
 }

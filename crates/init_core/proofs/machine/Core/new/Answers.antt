@@ -17,6 +17,6 @@ of-saved-requires g c = c.requires.config.saved
 pub returns : goal.returns
 returns g c =
     let config = c.args.config in
-    let opened = of_ok (λ opened. opened ≡ opened_by config.actions config.services config.plans) c.new.result c.in_ok-policy.opened c.in_ok-policy.ensures.second c.new.ensures in
+    let opened = of_ok (λ opened. opened ≡ opened_by config.actions config.services config.plans) c.new.result c.in_ok-policy.opened c.in_ok-policy.ensures.pair.1 c.new.ensures in
     opens g.S.PropStore.meaning config c.args.policy c.args.store c.args.outputs c.into_parts-parts.result c.requires.empty c.requires.count
-    (c.into_parts-parts.ensures ∙ (λ i. first_parts (opened i) c.args.store (c.in_ok-policy.ensures.first i) (c.of-saved.ensures i) c.args.outputs))
+    (c.into_parts-parts.ensures ∙ (λ i. first_parts (opened i) c.args.store (c.in_ok-policy.ensures.pair.0 i) (c.of-saved.ensures i) c.args.outputs))
