@@ -4,25 +4,16 @@ use Rattle.std.proofs.lemmas.Bool.{and_parts, and_from, not-true, not_from_false
 use Rattle.std.proofs.lemmas.List.{append-nil}
 use Rattle.std.proofs.lemmas.Grind.{flat_map-append}
 use Rattle.std.proofs.lemmas.List.Folds.{list_any-append}
-use Rattle.std.proofs.lemmas.Map.Text.{is_eq-slice_cmp}
 use Rattle.std.proofs.lemmas.Slice.Eq.{bytes_eq-Decides}
 use Rattle.std.specs.Cmp.{both_ways}
-use Rattle.std.specs.BTreeMap.{BTreeMap, is_at, insert_entry}
-use Rattle.std.specs.Cmp.Lexicographic.{slice_cmp}
 use Rattle.std.specs.List.{list_any}
-use Rattle.std.specs.Map.{lookup}
 use Rattle.std.specs.Option.{is_some, option_to_list}
-use Rattle.std.specs.Ordering.{nat_cmp, is_eq, match_ordering}
 use Rattle.std.specs.Str.{bytes_eq}
-use Rattle.std.specs.declared.alloc.Global.{Global}
-use Rattle.std.specs.declared.cmp.Ordering.{Ordering}
-use Rattle.std.specs.declared.cmp.Ordering.TheVariants.{Less, Equal, Greater}
-use Rattle.std.specs.declared.vec.Vec.{Vec}
 use Rattle.init_machine.specs.declared.diagnostic.DiagKind.TheVariants.{ServiceAgain}
 use Rattle.init_machine.specs.declared.service.ServiceDef.{ServiceDef}
 use Rattle.rc_parse.specs.Readings.{diagnostic}
 use Rattle.rc_parse.specs.Kept.{is_named, is_again, kept_behind, not_overridden, merged, agains_behind}
-use Rattle.rc_parse.specs.internal.Merging.{standing, place_of, has_name, holds, is_only_at, is_placed, IsVacated}
+use Rattle.rc_parse.specs.internal.Merging.{standing, has_name, holds, is_only_at, is_placed, IsVacated}
 
 -- ---- names
 
@@ -278,56 +269,3 @@ all_standing old new services service vacated are again =
     flat_map-append option_to_list new (Some service ∷ [])
     ∙ ap (λ (u : List ServiceDef). u ++ service ∷ []) (vacated.stay service refl old_again ∙ ap (not_overridden (service ∷ [])) are)
     ∙ ap (λ (u : List ServiceDef). not_overridden (service ∷ []) services ++ u) (sym (kept_one services service again))
-
--- ---- the index
-
-abbrev Entries : Type 0
-Entries = List (Vec ℕ Global × ℕ)
-
-abbrev found : List ℕ → Entries → Option ℕ
-found name entries = lookup (is_at (λ key. slice_cmp nat_cmp name key.items)) entries
-
-abbrev put : Entries → Vec ℕ Global → ℕ → Entries
-put entries key value = insert_entry (λ x y. slice_cmp nat_cmp x.items y.items) entries key value
-
-twice : (b : Bool) (value other : ℕ) (rest : Option ℕ) → cond b (Some value) rest ≡ (if b then Some value else cond b (Some other) rest)
-twice true value other rest = refl
-twice false value other rest = refl
-
-behind : (here there : Bool) (value other : ℕ) (rest : Option ℕ) → (there ≡ true → here ≡ false)
-    → cond here (Some other) (if there then Some value else rest) ≡ (if there then Some value else cond here (Some other) rest)
-behind true true value other rest apart = absurd (false≢true (sym (apart refl)))
-behind true false value other rest apart = refl
-behind false true value other rest apart = refl
-behind false false value other rest apart = refl
-
-in_order : (order : Ordering) (name : List ℕ) (key : Vec ℕ Global) (value : ℕ) (entry : Vec ℕ Global × ℕ) (entries : Entries)
-    → slice_cmp nat_cmp key.items entry.0.items ≡ order
-    → found name (put entries key value) ≡ (if bytes_eq name key.items then Some value else found name entries)
-    → found name (match_ordering order ((key, value) ∷ entry ∷ entries) ((entry.0, value) ∷ entries) (entry ∷ put entries key value))
-    ≡ (if bytes_eq name key.items then Some value else found name (entry ∷ entries))
-in_order Less name key value entry entries is next = ap (λ (b : Bool). cond b (Some value) (found name (entry ∷ entries))) (is_eq-slice_cmp name key.items)
-in_order Equal name key value entry entries is next =
-    let same : key.items ≡ entry.0.items = same_name key.items entry.0.items (sym (is_eq-slice_cmp key.items entry.0.items) ∙ ap is_eq is) in
-    let here : is_eq (slice_cmp nat_cmp name entry.0.items) ≡ bytes_eq name key.items = is_eq-slice_cmp name entry.0.items ∙ ap (bytes_eq name) (sym same) in
-    ap (λ (b : Bool). cond b (Some value) (found name entries)) here
-    ∙ twice (bytes_eq name key.items) value entry.1 (found name entries)
-    ∙ ap (λ (b : Bool). if bytes_eq name key.items then Some value else cond b (Some entry.1) (found name entries)) (sym here)
-in_order Greater name key value entry entries is next =
-    let apart : bytes_eq name key.items ≡ true → is_eq (slice_cmp nat_cmp name entry.0.items) ≡ false =
-    λ e. ap (λ (n : List ℕ). is_eq (slice_cmp nat_cmp n entry.0.items)) (same_name name key.items e) ∙ ap is_eq is in
-    ap (λ (o : Option ℕ). cond (is_eq (slice_cmp nat_cmp name entry.0.items)) (Some entry.1) o) next
-    ∙ behind (is_eq (slice_cmp nat_cmp name entry.0.items)) (bytes_eq name key.items) value entry.1 (found name entries) apart
-
-found_put : (entries : Entries) (name : List ℕ) (key : Vec ℕ Global) (value : ℕ)
-    → found name (put entries key value) ≡ (if bytes_eq name key.items then Some value else found name entries)
-found_put [] name key value = ap (λ (b : Bool). cond b (Some value) None) (is_eq-slice_cmp name key.items)
-found_put (entry ∷ entries) name key value =
-    in_order (slice_cmp nat_cmp key.items entry.0.items) name key value entry entries refl (found_put entries name key value)
-
-pub place_put : (old new : BTreeMap (Vec ℕ Global) ℕ) (key : Vec ℕ Global) (value : ℕ) (name : List ℕ)
-    → new.entries ≡ insert_entry (λ x y. slice_cmp nat_cmp x.items y.items) old.entries key value → name ≡ key.items
-    → (other : List ℕ) → place_of new other ≡ (if bytes_eq other name then Some value else place_of old other)
-place_put old new key value name are is other =
-    ap (found other) are ∙ found_put old.entries other key value
-    ∙ ap (λ (n : List ℕ). if bytes_eq other n then Some value else found other old.entries) (sym is)

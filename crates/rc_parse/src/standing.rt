@@ -7,10 +7,11 @@ ghost use Rattle.std.specs.Str.{bytes_eq};
 ghost use Rattle.rc_parse.specs.internal.Merging.{IsVacated, is_placed, place_of, standing};
 ghost use Rattle.rc_parse.specs.Kept.{is_again, is_named, merged};
 
+use collections::{Spelled, TextKey};
+use indexmap::IndexMap;
 use init_base::{List, NoMemory};
 use init_machine::ServiceDef;
 use std::alloc::Global;
-use std::collections::BTreeMap;
 use std::marker::Model;
 
 /// The services that stay, in the order in which they were read, with an index of their names.
@@ -19,7 +20,7 @@ pub struct Standing {
     /// The services that were read, with nothing in the place of one that a later one overrides.
     slots: List<Option<ServiceDef>>,
     /// The place of each name in `slots`.
-    places: BTreeMap<Vec<u8>, usize>,
+    places: IndexMap<TextKey, usize>,
 }
 
 impl Model for Standing {
@@ -40,7 +41,7 @@ impl Standing {
     {
         Standing {
             slots: List::new(alloc),
-            places: BTreeMap::new(alloc),
+            places: IndexMap::new(alloc),
         }
     }
 
@@ -48,7 +49,7 @@ impl Standing {
     pub fn has_name(&self, name: &[u8]) -> bool
         ensures { result ≡ list_any (is_named name.now) self.now }
     {
-        self.places.contains_key(name)
+        self.places.contains_key(Spelled { bytes: name })
     }
 
     /// These services and one more, which takes the place of one of its name.
@@ -91,11 +92,11 @@ fn push_some(services: &mut List<ServiceDef>, slot: Option<ServiceDef>) -> Resul
 }
 
 /// Empties the slot of a name.
-fn vacate(slots: &mut List<Option<ServiceDef>>, places: &BTreeMap<Vec<u8>, usize>, name: &[u8])
+fn vacate(slots: &mut List<Option<ServiceDef>>, places: &IndexMap<TextKey, usize>, name: &[u8])
     requires { is_placed name.now slots.old (place_of places.now name.now) ≡ true }
     ensures { IsVacated name.now slots.old slots.new }
 {
-    let Some(place) = places.get(name) else {
+    let Some(place) = places.get(Spelled { bytes: name }) else {
         return;
     };
     slots.set(*place, None);
@@ -103,14 +104,14 @@ fn vacate(slots: &mut List<Option<ServiceDef>>, places: &BTreeMap<Vec<u8>, usize
 
 /// Notes the place of a name, in place of an earlier one.
 fn put_place(
-    places: &mut BTreeMap<Vec<u8>, usize>,
+    places: &mut IndexMap<TextKey, usize>,
     alloc: Global,
     name: &[u8],
     place: usize,
 ) -> Result<(), NoMemory>
     ensures { OnOk result ((other : Items ℕ)
-        → place_of places.new other ≡ (if bytes_eq other name.now then Some place else place_of places.old other)) }
+        → place_of places.new other ≡ (if bytes_eq name.now other then Some place else place_of places.old other)) }
 {
-    places.insert(Vec::from_slice(alloc, name)?, place)?;
+    places.insert(TextKey::of(alloc, name)?, place)?;
     Ok(())
 }

@@ -1,13 +1,10 @@
 -- The services that stay, as slots with an index of names.
 use Rattle.std.specs.Prelude.{◌≡◌, length, ℕ, zero, suc, Bool, true, false, not, ◌&&◌, List, [], ◌∷◌, Option, Some, None}
-use Rattle.std.specs.BTreeMap.{BTreeMap, get_by}
-use Rattle.std.specs.Cmp.Lexicographic.{slice_cmp}
+use Rattle.std.specs.HashMap.{get_by}
 use Rattle.std.specs.List.{flat_map, list_any}
 use Rattle.std.specs.Option.{option_to_list}
-use Rattle.std.specs.Ordering.{nat_cmp}
 use Rattle.std.specs.Str.{bytes_eq}
-use Rattle.std.specs.declared.alloc.Global.{Global}
-use Rattle.std.specs.declared.vec.Vec.{Vec}
+use Rattle.indexmap.specs.IndexMap.{IndexMap}
 use Rattle.init_machine.specs.declared.service.ServiceDef.{ServiceDef}
 use Rattle.rc_parse.specs.Kept.{is_named, is_again, not_overridden}
 
@@ -16,8 +13,8 @@ abbrev pub standing : List (Option ServiceDef) → List ServiceDef
 standing slots = flat_map option_to_list slots
 
 -- the place of a name
-abbrev pub place_of : BTreeMap (Vec ℕ Global) ℕ → List ℕ → Option ℕ
-place_of places name = get_by (λ key. slice_cmp nat_cmp name key.items) places
+abbrev pub place_of : {S : Type 0} → IndexMap (List ℕ) ℕ S → List ℕ → Option ℕ
+place_of places name = get_by (bytes_eq name) places
 
 abbrev pub has_name : List ℕ → List (Option ServiceDef) → Bool
 has_name name slots = list_any (is_named name) (standing slots)
