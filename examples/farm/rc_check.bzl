@@ -16,8 +16,8 @@ or a rule that fetches them. Then, in a BUILD file:
     )
 
 `bazel build :pecan_rc` gives pecan_rc.lint and pecan_rc.trace, and fails with the messages where the tree has errors. The action
-has all its inputs in its key, no network and no environment, and its output is the same on each machine, so it is cached and run
-remotely like a compilation.
+has all its inputs in its key, no network, and of the environment only what the rule sets, and its output is the same on each
+machine, so it is cached and run remotely like a compilation.
 """
 
 def _rc_check_impl(ctx):

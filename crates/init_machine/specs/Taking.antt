@@ -1,6 +1,6 @@
--- Which events are taken, where no action runs, and which actions they begin (AOSP, init's README, "Actions" and
--- "Triggers"). A Next takes events up to the first that triggers an action. The mark stands behind the events of a boot. When it is reached, AllProperties is queued behind all that
--- is queued then, so that the property triggers are tested once during a boot (this project's profile).
+-- Which events are taken, where no action runs, and which actions they begin (AOSP, init's README, "Actions" and "Triggers"). A Next
+-- takes events up to the first that triggers an action. The mark stands behind the events of a boot. When it is reached, AllProperties is
+-- queued behind all that is queued then, so that the property triggers are tested once during a boot (this project's profile).
 use Rattle.std.specs.Prelude.{◌+◌, Bool, true, false, ◌&&◌, nat_lt, nat_le, List, [], ◌∷◌, ◌++◌, length, take, drop, map, filter, remove, slice_get, Option, Some, None, if◌then◌else◌}
 use Rattle.std.specs.List.{list_any, flat_map, position_or_len}
 use Rattle.init_machine.specs.declared.action.Action.{Action}

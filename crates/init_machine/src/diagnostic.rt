@@ -10,6 +10,7 @@ pub struct Diagnostic {
     pub kind: DiagKind,
 }
 
+/// What is wrong.
 #[derive(Clone, Copy, Debug, PartialEq, Eq)]
 pub enum DiagKind {
     /// The file ends inside quotes or just behind a backslash.
@@ -34,14 +35,14 @@ pub enum DiagKind {
     ServiceAgain,
     /// An import that hasn't exactly one argument.
     BadImport,
-    /// An import of a file that isn't there.
+    /// An import of a file that isn't there, or of a path that doesn't begin with `/`.
     NoFile,
     /// An import of a file that is being imported.
     Loop,
     /// An import deeper than the limit.
     TooDeep,
-    /// An import whose path has a property that isn't there.
+    /// An import whose path can't be expanded, or is too long when it is.
     BadExpand,
-    /// A line of a build file that sets no property.
+    /// A line of a build file without `=`, or with a name that begins with `ctl.`.
     BadProp,
 }

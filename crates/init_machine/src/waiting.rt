@@ -3,7 +3,7 @@
 use crate::config::Pair;
 use init_base::{Millis, Pid, Text};
 
-/// What the running commands wait for.
+/// What the running command waits for.
 #[derive(Debug, Drop)]
 pub enum Waiting {
     Child(Pid),

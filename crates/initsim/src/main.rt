@@ -1,4 +1,5 @@
-//! `initsim`: Android's first process over a modelled kernel, for a tree of rc files and a script, and the audit of its traces.
+//! `initsim`: Android's first process over a modelled kernel. It checks a tree of rc files, runs or races a script over it, audits
+//! traces, and tells how much made-up services give to do.
 //!
 //! `top` has the call that does all that the program does, with its promise. `main` makes the real files, script,
 //! trace and output, and makes that call.

@@ -1,4 +1,4 @@
-//! Paths as references in URIs.
+//! Paths as URI references.
 
 ghost use Rattle.std.specs.Prelude.{◌≡◌, ◌++◌, IfOk, OnOk};
 ghost use Rattle.std.specs.List.{flat_map};

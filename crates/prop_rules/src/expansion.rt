@@ -1,4 +1,4 @@
-//! Expansion of properties in a text (AOSP, init's README, "Property expansion").
+//! Expansion of properties in a text (AOSP, init's README, "Android Init Language").
 
 ghost use Rattle.std.specs.Prelude.{ℕ, List as Items, Option as Maybe, IsTrue, ◌≡◌, ◌+◌, ◌<◌, ◌≤◌, length, Ok, IfOk, not, ◌==◌};
 ghost use Rattle.std.specs.List.{list_all};

@@ -1,4 +1,4 @@
-//! Whether a set has room, where 0 words that it needs are none.
+//! Whether a set has room, by the words that it needs: 0 for a name that is there.
 
 ghost use Rattle.std.specs.Prelude.{◌≡◌};
 ghost use Rattle.std.specs.Result.{result_err};

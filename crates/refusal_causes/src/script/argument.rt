@@ -93,7 +93,7 @@ pub fn request_arguments_of(word: &[u8]) -> Option<&'static [Argument]>
     }
 }
 
-/// Why the first of some words that isn't what it must be isn't.
+/// What is wrong with the first of some words that isn't what it must be.
 pub fn arguments_cause(
     alloc: Global,
     arguments: &[Argument],

@@ -1,4 +1,4 @@
-use Rattle.std.proofs.Common.{ℕ, List, ◌≤◌, ◌==◌, ◌∙◌, not, ap, sym, subst}
+use Rattle.std.proofs.Common.{◌≤◌, ◌==◌, ◌∙◌, not, ap, sym, subst}
 use Rattle.std.specs.List.{list_all}
 use Rattle.prop_rules.proofs.Expansions.{own_expansion}
 use Rattle.prop_rules.proofs.expansion.stands_for_itself.Goals as goal
