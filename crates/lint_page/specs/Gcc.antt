@@ -45,10 +45,15 @@ message_text root finding =
 abbrev pub finding_line : Style → Finding → List ℕ
 finding_line style finding = front_text style finding ++ message_text style.root finding
 
+-- `1 NAME`, `2 NAMEs`
+abbrev pub counted : ℕ → List ℕ → List ℕ
+counted number name = decimal number ++ codes " " ++ name ++ (if number == 1 then [] else codes "s")
+
 -- `N errors, M warnings in K files`
 abbrev pub last_line : ℕ → ℕ → ℕ → List ℕ
 last_line errors warnings files =
-    decimal errors ++ codes " errors, " ++ decimal warnings ++ codes " warnings in " ++ decimal files ++ codes " files\n"
+    counted errors (codes "error") ++ codes ", " ++ counted warnings (codes "warning")
+    ++ codes " in " ++ counted files (codes "file") ++ codes "\n"
 
 abbrev pub report_text : Style → List Finding → ℕ → List ℕ
 report_text style findings files =

@@ -87,6 +87,16 @@ fn put_findings(page: &mut Vec<u8>, style: &Style, findings: &[Finding]) -> Resu
     Ok(())
 }
 
+/// Adds a number of things, by the name of one.
+fn put_counted(page: &mut Vec<u8>, number: usize, name: &[u8]) -> Result<(), NoMemory>
+    ensures { OnOk result (page.new.items ≡ page.old.items ++ spec.counted number name.now) }
+{
+    put_number(page, number as u64)?;
+    put(page, b" ")?;
+    put(page, name)?;
+    if number == 1 { Ok(()) } else { put(page, b"s") }
+}
+
 /// Adds the last line.
 fn put_last(
     page: &mut Vec<u8>,
@@ -96,12 +106,12 @@ fn put_last(
 ) -> Result<(), NoMemory>
     ensures { OnOk result (page.new.items ≡ page.old.items ++ spec.last_line errors warnings files) }
 {
-    put_number(page, errors as u64)?;
-    put(page, b" errors, ")?;
-    put_number(page, warnings as u64)?;
-    put(page, b" warnings in ")?;
-    put_number(page, files as u64)?;
-    put(page, b" files\n")
+    put_counted(page, errors, b"error")?;
+    put(page, b", ")?;
+    put_counted(page, warnings, b"warning")?;
+    put(page, b" in ")?;
+    put_counted(page, files, b"file")?;
+    put(page, b"\n")
 }
 
 /// The page of a report on so many files.

@@ -62,7 +62,10 @@ pub fn tell_unknown_kind(rt: &HostRuntime, name: &Text) -> io::Result<()> {
         eprintln!(rt; "rc-lint: --werror: a kind is empty")?;
     } else {
         let name = String::from_utf8_lossy(rt.alloc(), name.bytes())?;
-        eprintln!(rt; "rc-lint: --werror: no kind of a warning or a hint: {name}")?;
+        eprintln!(rt;
+            "rc-lint: --werror: no kind of a warning or a hint: {}",
+            OneLine(name.as_str())
+        )?;
     }
     eprintln!(rt;
         "rc-lint: the kinds are all, NotModelled, NoService, NoClass, UnheardEvent, UnsentEvent, ByteOrderMark, SpannedLines and CapitalHeader"
@@ -72,7 +75,10 @@ pub fn tell_unknown_kind(rt: &HostRuntime, name: &Text) -> io::Result<()> {
 /// A form that isn't known, and those that are.
 pub fn tell_unknown_format(rt: &HostRuntime, name: &Text) -> io::Result<()> {
     let name = String::from_utf8_lossy(rt.alloc(), name.bytes())?;
-    eprintln!(rt; "rc-lint: --format takes gcc, json or sarif, and not {name}")
+    eprintln!(rt;
+        "rc-lint: --format takes gcc, json or sarif, and not {}",
+        OneLine(name.as_str())
+    )
 }
 
 /// Why a file knows no findings, and the line that fits no baseline.
@@ -85,10 +91,16 @@ pub fn tell_baseline(
     let name = String::from_utf8_lossy(rt.alloc(), path.bytes())?;
     match refusal {
         BaselineRefusal::BadLine { line } => {
-            eprintln!(rt; "rc-lint: {name}:{line}: no line of a baseline")
+            eprintln!(rt;
+                "rc-lint: {}:{line}: no line of a baseline",
+                OneLine(name.as_str())
+            )
         }
         BaselineRefusal::TooLarge => {
-            eprintln!(rt; "rc-lint: {name}: more than 33554432 bytes are no baseline")
+            eprintln!(rt;
+                "rc-lint: {}: more than 33554432 bytes are no baseline",
+                OneLine(name.as_str())
+            )
         }
         BaselineRefusal::ReadFault => tell_fault(rt, fault),
         BaselineRefusal::NoMemory => eprintln!(rt; "rc-lint: no memory"),
@@ -98,7 +110,10 @@ pub fn tell_baseline(
 /// A baseline isn't written in the place of what is no plain file.
 pub fn tell_no_file(rt: &HostRuntime, path: &Text) -> io::Result<()> {
     let name = String::from_utf8_lossy(rt.alloc(), path.bytes())?;
-    eprintln!(rt; "rc-lint: {name}: not a plain file, so no baseline is written there")
+    eprintln!(rt;
+        "rc-lint: {}: not a plain file, so no baseline is written there",
+        OneLine(name.as_str())
+    )
 }
 
 /// The limit that a path passes.

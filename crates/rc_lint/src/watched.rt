@@ -3,7 +3,7 @@
 ghost use Rattle.std.specs.Prelude.{◌≡◌, ℕ, List as Items, Option as Maybe};
 
 use crate::loading::{SYSTEM_PATH, VENDOR_PATH};
-use crate::quotes::spanned_line;
+use crate::quotes::spanned_lines;
 use collections::TextIndex;
 use init_base::{Files, Found, List, NoMemory, Text};
 use std::alloc::Global;
@@ -17,8 +17,8 @@ pub struct Seen {
     /// The text of a build file.
     pub text: Option<Text>,
     pub begins_with_mark: bool,
-    /// The line of an rc file on which the first quotes begin that go over the end of a line.
-    pub spanned_line: Option<u32>,
+    /// The lines of an rc file on which quotes begin that go over the end of a line, in order.
+    pub spanned_lines: Vec<u32>,
 }
 
 impl Seen {
@@ -36,17 +36,17 @@ impl Seen {
                 path,
                 text: Some(text.share()?),
                 begins_with_mark,
-                spanned_line: None,
+                spanned_lines: Vec::new(alloc),
             }
         } else {
             Seen {
                 path,
                 text: None,
                 begins_with_mark,
-                spanned_line: if looks_at_quotes {
-                    spanned_line(bytes)
+                spanned_lines: if looks_at_quotes {
+                    spanned_lines(alloc, bytes)?
                 } else {
-                    None
+                    Vec::new(alloc)
                 },
             }
         })

@@ -47,7 +47,7 @@ fn looks_good(word: &[u8]) -> bool {
 fn bad_critical(alloc: Global, words: &[Text]) -> Result<Text, NoMemory> {
     let message = Message::of(
         alloc,
-        b"critical takes window=MINUTES and target=TARGET, each once, where MINUTES is a number from 0 to 1000000 or off; ",
+        b"critical takes window=MINUTES and target=TARGET, each once, where MINUTES is a number from 0 to 1000000, off, or ${NAME:-M} with one of these for M; ",
     )?;
     let message = match words.iter().find(|word| !looks_good(word.bytes())) {
         Some(word) => message.quote(word.bytes())?,

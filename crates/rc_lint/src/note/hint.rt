@@ -16,8 +16,8 @@ pub fn add(notes: &mut Notes<'_>, seen: &[Seen], sources: &[Source]) -> Result<(
         if file.begins_with_mark {
             add_byte_order_mark(notes, file)?;
         }
-        if let Some(line) = file.spanned_line {
-            add_spanned_line(notes, file, line)?;
+        if !file.spanned_lines.is_empty() {
+            add_spanned_lines(notes, file)?;
         }
     }
     for source in sources {
@@ -36,14 +36,18 @@ fn add_byte_order_mark(notes: &mut Notes<'_>, file: &Seen) -> Result<(), NoMemor
     notes.add(&file.path, 1, kind, message)
 }
 
-fn add_spanned_line(notes: &mut Notes<'_>, file: &Seen, line: u32) -> Result<(), NoMemory> {
+/// Adds a hint on each line on which quotes begin that go over its end. They share their message, since a file may have very many.
+fn add_spanned_lines(notes: &mut Notes<'_>, file: &Seen) -> Result<(), NoMemory> {
     let message = Message::of(
         notes.alloc,
         b"quotes that begin here go over the end of the line; is a quote missing?",
     )?
     .end()?;
     let kind = NoteKind::Hint(HintKind::SpannedLines);
-    notes.add(&file.path, line, kind, message)
+    for line in file.spanned_lines.iter() {
+        notes.add(&file.path, *line, kind, message.share()?)?;
+    }
+    Ok(())
 }
 
 /// The word of a header, where this is one but for its capitals.
