@@ -327,12 +327,13 @@ SHAPES = dict([
 
 def main():
     unknown = [it for it in sys.argv[2:] if it not in SHAPES]
-    if len(sys.argv) < 2 or unknown:
-        sys.exit(f"bench: {' '.join(unknown) or 'no folder'}: usage: inputs.py FOLDER [SHAPE..], of {' '.join(SHAPES)}")
-    if sys.argv[1] == "--known":
+    folder = sys.argv[1] if len(sys.argv) > 1 else ""
+    if not folder or folder.startswith("-") and folder != "--known" or unknown:
+        sys.exit(f"bench: {' '.join(unknown) or folder or 'no folder'}: usage: inputs.py FOLDER [SHAPE..], of {' '.join(SHAPES)}")
+    if folder == "--known":
         return
     for name in sys.argv[2:] or SHAPES:
-        SHAPES[name](Shape(sys.argv[1], name))
+        SHAPES[name](Shape(folder, name))
 
 
 if __name__ == "__main__":

@@ -7,10 +7,10 @@ use Rattle.std.proofs.lemmas.List.Elements.{All-get_or}
 use Rattle.std.proofs.lemmas.Option.{slice_get-get_or}
 use Rattle.init_machine.specs.declared.diagnostic.Diagnostic.{Diagnostic}
 use Rattle.rc_lint.specs.internal.Judged.{told_by}
-use Rattle.rc_lint.specs.internal.Sources.{AreSourcesOf, HasSourceAt, IsSourceOf}
-use Rattle.rc_lint.specs.Excused.{all_taken_elsewhere, errors_among, is_excusable, is_excused}
-use Rattle.rc_lint.specs.Told.{Told, lines_at}
-use Rattle.rc_lint.specs.declared.source.Source.{Source}
+use Rattle.lint_sources.specs.Sources.{AreSourcesOf, HasSourceAt, IsSourceOf}
+use Rattle.lint_sources.specs.Excused.{all_taken_elsewhere, errors_among, is_excusable, is_excused}
+use Rattle.lint_sources.specs.Told.{Told, lines_at}
+use Rattle.lint_sources.specs.declared.source.Source.{Source}
 
 -- a diagnostic that is excused is left out
 by_excuse : (b : Bool) (d : Diagnostic) (rest : List Diagnostic)

@@ -1,9 +1,2 @@
-pub mod Loads
-pub mod Worlds
-pub mod ReadLines
-pub mod Headers
-pub mod Bodies
 pub mod Judged
-pub mod Placed
 pub mod Said
-pub mod Words

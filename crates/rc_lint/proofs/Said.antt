@@ -12,12 +12,12 @@ use Rattle.rc_import.specs.declared.loaded.Loaded.{Loaded}
 use Rattle.rc_import.specs.declared.loaded.LoadRefusal.{LoadRefusal}
 use Rattle.rc_import.specs.declared.loaded.LoadRefusal.TheVariants as why
 use Rattle.rc_lint.specs.internal.Reported.{status_of}
-use Rattle.rc_lint.specs.internal.Sources.{IsLater}
+use Rattle.lint_sources.specs.Sources.{IsLater}
 use Rattle.rc_lint.specs.Keeps.{IsUnkept, LintKeeps}
-use Rattle.rc_lint.specs.Loads.{loaded}
+use Rattle.lint_sources.specs.Loads.{loaded}
 use Rattle.rc_lint.specs.Says.{IsReport, IsUnwritten, LintSays, ReportsFront, Tells}
 use Rattle.rc_lint.specs.Status.{AreCounted, Counts}
-use Rattle.rc_lint.specs.Told.{Told}
+use Rattle.lint_sources.specs.Told.{Told}
 use Rattle.rc_lint.specs.declared.request.Request.{Request}
 use Rattle.rc_lint.specs.declared.status.Status.{Status}
 use Rattle.rc_lint.specs.declared.status.Status.TheVariants as status

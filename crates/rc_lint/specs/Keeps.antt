@@ -3,9 +3,9 @@ use Rattle.std.specs.Prelude.{◌≡◌, ℕ, ⊤, List, Option, Err}
 use Rattle.lint_baseline.specs.Outside.{HoldsBaselineOf}
 use Rattle.lint_findings.specs.declared.finding.Finding.{Finding}
 use Rattle.rc_import.specs.declared.loaded.LoadRefusal.TheVariants as why
-use Rattle.rc_lint.specs.Loads.{loaded}
+use Rattle.lint_sources.specs.Loads.{loaded}
 use Rattle.rc_lint.specs.Says.{Tells}
-use Rattle.rc_lint.specs.Told.{Told}
+use Rattle.lint_sources.specs.Told.{Told}
 use Rattle.rc_lint.specs.declared.request.Request.{Request}
 use Rattle.rc_lint.specs.declared.status.Status.{Status}
 use Rattle.rc_lint.specs.declared.status.Status.TheVariants as status

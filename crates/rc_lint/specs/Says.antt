@@ -8,9 +8,9 @@ use Rattle.lint_findings.specs.declared.finding.Finding.{Finding}
 use Rattle.lint_page.specs.Page.{IsPage}
 use Rattle.rc_import.specs.declared.loaded.Loaded.{Loaded}
 use Rattle.rc_import.specs.declared.loaded.LoadRefusal.TheVariants as why
-use Rattle.rc_lint.specs.Excused.{errors_among}
-use Rattle.rc_lint.specs.Loads.{loaded}
-use Rattle.rc_lint.specs.Told.{Told}
+use Rattle.lint_sources.specs.Excused.{errors_among}
+use Rattle.lint_sources.specs.Loads.{loaded}
+use Rattle.lint_sources.specs.Told.{Told}
 use Rattle.rc_lint.specs.declared.request.Request.{Request}
 use Rattle.rc_lint.specs.declared.status.Status.{Status}
 use Rattle.rc_lint.specs.declared.status.Status.TheVariants as status

@@ -1,5 +1,3 @@
 -- What private functions say of themselves. No promise of the program cites it, and a reader needn't believe it.
-pub mod Steps
-pub mod Sources
 pub mod Judged
 pub mod Reported

@@ -4,17 +4,17 @@ ghost use Rattle.std.specs.Prelude.{◌≡◌, ◌++◌, IfErr, IfOk, OnOk};
 ghost use Rattle.init_base.specs.Faults.{Counted};
 ghost use Rattle.rc_import.specs.Answers.{is_read_fault};
 ghost use Rattle.rc_lint.specs.internal.Judged.{told_by};
-ghost use Rattle.rc_lint.specs.internal.Sources.{IsLater};
-ghost use Rattle.rc_lint.specs.Excused.{errors_among};
+ghost use Rattle.lint_sources.specs.Sources.{IsLater};
+ghost use Rattle.lint_sources.specs.Excused.{errors_among};
 ghost use Rattle.lint_findings.specs.Findings.{diagnostics_of};
-ghost use Rattle.rc_lint.specs.Told.{IsTold, Told};
+ghost use Rattle.lint_sources.specs.Told.{IsTold, Told};
 
-use crate::message::Teller;
 use crate::request::Request;
-use crate::source::{Source, Sources};
 use init_base::{Files, List, NoMemory};
 use init_machine::Diagnostic;
 use lint_findings::{About, Finding, WarningKind};
+use lint_messages::Teller;
+use lint_sources::{Source, Sources};
 use rc_import::LoadRefusal;
 use std::alloc::Global;
 

@@ -5,24 +5,16 @@
 #![tactic(auto)]
 
 mod command_line;
-mod excuse;
 mod judge;
-mod law;
-mod loading;
-mod message;
-mod not_modelled;
-mod note;
-mod quotes;
 mod request;
-mod source;
 mod status;
 mod telling;
 mod top;
-mod watched;
 
 use command_line::{Asked, WordsRefusal, asked_by, words_of};
 use init_base::{Fault, NoMemory, StdFiles, StdKeeper, StdSink, StdSource, Text};
 use lint_baseline::{Baseline, BaselineRefusal, load};
+use lint_sources::Watched;
 use rc_import::LoadRefusal;
 use request::Request;
 use status::Status;
@@ -32,7 +24,6 @@ use telling::{
     print_told, tell, tell_baseline, tell_no_file, tell_unknown_format, tell_unknown_kind,
 };
 use top::{keep_known, lint};
-use watched::Watched;
 
 /// The exit status where the words are wrong, or there is no report.
 const REFUSED: u8 = 2;

@@ -6,26 +6,24 @@ ghost use Rattle.rc_import.specs.Answers.{is_read_fault};
 ghost use Rattle.lint_findings.specs.Findings.{diagnostics_of, errors_in};
 ghost use Rattle.rc_lint.specs.internal.Reported.{Finds, IsRead};
 ghost use Rattle.rc_lint.specs.internal.Reported as spec;
-ghost use Rattle.rc_lint.specs.internal.Sources.{IsLater};
-ghost use Rattle.rc_lint.specs.Excused.{errors_among};
+ghost use Rattle.lint_sources.specs.Sources.{IsLater};
+ghost use Rattle.lint_sources.specs.Excused.{errors_among};
 ghost use Rattle.rc_lint.specs.Keeps.{IsUnkept, LintKeeps};
 ghost use Rattle.rc_lint.specs.Says.{IsUnwritten, LintSays, Tells};
 ghost use Rattle.rc_lint.specs.Status.{AreCounted};
-ghost use Rattle.rc_lint.specs.Told.{IsTold, Told};
+ghost use Rattle.lint_sources.specs.Told.{IsTold, Told};
 ghost use Rattle.rc_lint.specs.declared.request.Request.{Request as AnyRequest};
 
 use crate::judge::{Judged, tell_all};
-use crate::loading::load;
-use crate::message::Teller;
-use crate::note::add_notes;
 use crate::request::Request;
 use crate::status::Status;
-use crate::watched::{SeenFiles, Watched};
 use init_base::{Files, IoRefusal, Keeper, List, Sink};
 use init_trace::send;
 use lint_baseline::{keep, left};
 use lint_findings::{Finding, Promoted, count_errors};
+use lint_messages::{Teller, add_notes};
 use lint_page::page_of;
+use lint_sources::{SeenFiles, Watched, load};
 use rc_import::{LoadRefusal, Loaded};
 use std::alloc::Global;
 use std::mem::forget;
@@ -75,7 +73,8 @@ fn findings_of<F: Files>(
         sources,
     } = tell_all(alloc, files, request, &mut teller, diagnostics)?;
     if request.warns {
-        add_notes(alloc, &mut findings, tree, &sources)?;
+        let config = &tree.loaded.config;
+        add_notes(alloc, &mut findings, config, &tree.seen, sources.items())?;
     }
     Ok(findings)
 }

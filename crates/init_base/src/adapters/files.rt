@@ -5,8 +5,10 @@ ghost use Rattle.init_base.specs.Resolve.{is_below_root};
 
 use super::count::{count, has_read_failed};
 use super::fault::{Fault, fault_at};
-use super::machine::{MachineRefusal, is_absent, join, path_of};
-use super::machine_links::{MachineLinks, Unread, folder_path, no_way, read_path, resolve_path};
+use super::machine::{MachineRefusal, is_absent, join, parted, path_of};
+use super::machine_links::{
+    MachineLinks, Unread, folder_path, no_way, plain_file, read_plain, resolve_path,
+};
 use super::resolve::{End, resolve};
 use crate::list::List;
 use crate::memory::NoMemory;
@@ -28,6 +30,8 @@ const MAX_NAMES: usize = 1_024;
 pub struct StdFiles<'a, R: fs::Files + AllocGlobal + Clone + Drop> {
     rt: &'a R,
     root: Text,
+    /// The path of the folder in which the last file was read, with no link on its way. Empty where none was.
+    folder: Text,
     faults: u64,
     last_fault: Option<Fault>,
 }
@@ -48,6 +52,7 @@ impl<'a, R: fs::Files + AllocGlobal + Clone + Drop> StdFiles<'a, R> {
         Ok(StdFiles {
             rt,
             root: root.share()?,
+            folder: Text::empty(),
             faults: 0,
             last_fault: None,
         })
@@ -56,6 +61,39 @@ impl<'a, R: fs::Files + AllocGlobal + Clone + Drop> StdFiles<'a, R> {
     /// What the system said at the last call that found nothing at its path, or failed.
     pub fn last_fault(&self) -> Option<&Fault> {
         self.last_fault.as_ref()
+    }
+
+    /// The tree of the files. The folder in which the last file was read isn't looked at again.
+    fn tree(&self) -> MachineLinks<'_, R> {
+        MachineLinks {
+            rt: self.rt,
+            root: &self.root,
+            seen: self.folder.bytes(),
+        }
+    }
+
+    /// The bytes of the plain file to which a path leads.
+    fn read_path(&mut self, alloc: Global, path: &[u8], limit: usize) -> Result<Text, Unread>
+        ensures bound { IfOk result (λ text. length text ≤ limit) }
+        ensures count { self.new ≡ self.old }
+    {
+        let tree = self.tree();
+        let file = plain_file(&tree, alloc, path)?;
+        let text = read_plain(&tree, alloc, &file, limit)?;
+        self.enter(&file)?;
+        Ok(text)
+    }
+
+    /// Keeps the path of the folder of a file.
+    fn enter(&mut self, file: &Text) -> Result<(), NoMemory>
+        ensures { self.new ≡ self.old }
+    {
+        if let Some((folder, _)) = parted(file.bytes())
+            && !self.folder.is(folder)
+        {
+            self.folder = file.slice(0, folder.len())?;
+        }
+        Ok(())
     }
 
     /// What a call on a path answers where the machine gave nothing: None where nothing has the path. Keeps what the
@@ -88,11 +126,7 @@ impl<R: fs::Files + AllocGlobal + Clone + Drop> Files for StdFiles<'_, R> {
     }
 
     fn list(&mut self, alloc: Global, dir: &[u8]) -> Found<List<Text>> {
-        let tree = MachineLinks {
-            rt: self.rt,
-            root: &self.root,
-        };
-        let outcome = match list_folder(&tree, alloc, dir) {
+        let outcome = match list_folder(&self.tree(), alloc, dir) {
             Ok(names) => Ok(Some(names)),
             Err(refusal) => self.refused(alloc, dir, refusal),
         };
@@ -101,11 +135,7 @@ impl<R: fs::Files + AllocGlobal + Clone + Drop> Files for StdFiles<'_, R> {
     }
 
     fn read(&mut self, alloc: Global, path: &[u8], limit: usize) -> Found<Text> {
-        let tree = MachineLinks {
-            rt: self.rt,
-            root: &self.root,
-        };
-        let outcome = match read_path(&tree, alloc, path, limit) {
+        let outcome = match self.read_path(alloc, path, limit) {
             Ok(text) => Ok(Some(text)),
             Err(unread) => self.refused(alloc, path, refusal_of(unread)),
         };

@@ -5,7 +5,7 @@ ghost use Rattle.std.specs.Prelude.{◌≡◌, ◌≤◌, None, ℕ, List, IfOk,
 use super::count::{count, has_read_failed, has_write_failed};
 use super::fault::{Fault, fault_at};
 use super::folders::{make_folders, sync_folder};
-use super::machine::{MachineRefusal, is_absent, join, path_of};
+use super::machine::{MachineRefusal, is_absent, join, parted, path_of};
 use super::machine_links::{MachineLinks, Unread, folder_path, no_way, read_path};
 use super::resolve::End;
 use crate::memory::NoMemory;
@@ -84,10 +84,7 @@ impl<'a, R: fs::Files> StdKeeper<'a, R> {
         ensures bound { IfOk result (λ text. length text ≤ limit) }
         ensures count { self.new ≡ self.old }
     {
-        let tree = MachineLinks {
-            rt: self.rt,
-            root: &self.root,
-        };
+        let tree = MachineLinks::of(self.rt, &self.root);
         match read_path(&tree, alloc, self.path.bytes(), limit).map_err(refusal_of) {
             Ok(text) => Ok(text),
             Err(MachineRefusal::System(error)) if is_absent(&error) => Ok(Text::empty()),
@@ -104,10 +101,7 @@ impl<'a, R: fs::Files> StdKeeper<'a, R> {
     fn try_replace(&mut self, alloc: Global, content: &[u8]) -> Result<(), IoRefusal>
         ensures { self.new ≡ self.old }
     {
-        let tree = MachineLinks {
-            rt: self.rt,
-            root: &self.root,
-        };
+        let tree = MachineLinks::of(self.rt, &self.root);
         match replace_file(&tree, alloc, self.path.bytes(), content) {
             Ok(()) => Ok(()),
             Err(MachineRefusal::NoMemory) => Err(IoRefusal::NoMemory),
@@ -167,12 +161,6 @@ fn refusal_of(unread: Unread) -> MachineRefusal {
         }
         Unread::NoFile(end) => no_way(end),
     }
-}
-
-/// The folder and the name of a path. None where it has no folder.
-fn parted(path: &[u8]) -> Option<(&[u8], &[u8])> {
-    let at = path.iter().rposition(|byte| *byte == b'/')?;
-    Some((&path[..at], &path[at + 1..]))
 }
 
 /// Makes the folders that lack, writes the content into a new file, and moves that to the path.

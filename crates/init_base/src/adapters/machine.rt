@@ -1,6 +1,6 @@
 //! Reading and writing on the machine, with the errors of the traits.
 
-ghost use Rattle.std.specs.Prelude.{◌≡◌, ◌≤◌, ◌+◌, IfOk, length, vec_len};
+ghost use Rattle.std.specs.Prelude.{◌≡◌, ◌≤◌, ◌+◌, IfOk, IfSome, length, vec_len};
 ghost use Rattle.std.specs.Io.{ReadsAtMost};
 
 use crate::memory::NoMemory;
@@ -114,6 +114,14 @@ pub(crate) fn join(alloc: Global, front: &[u8], behind: &[u8]) -> Result<Text, N
     let mut bytes = Vec::from_slice(alloc, front)?;
     bytes.extend_from_slice(behind)?;
     Text::from_vec(bytes)
+}
+
+/// The folder and the name of a path. None where it has no folder.
+pub(crate) fn parted(path: &[u8]) -> Option<(&[u8], &[u8])>
+    ensures { IfSome result (λ parts. length parts.0.now ≤ length path.now) }
+{
+    let at = path.iter().rposition(|byte| *byte == b'/')?;
+    Some((&path[..at], &path[at + 1..]))
 }
 
 /// Whether the error says that nothing has the path.

@@ -33,12 +33,28 @@ const MAX_PATH: usize = 4_095;
 pub(crate) struct MachineLinks<'a, R: fs::Files> {
     pub(crate) rt: &'a R,
     pub(crate) root: &'a Text,
+    /// The path of a folder to which directories alone were seen to lead: they aren't looked at again. Empty where there is none.
+    pub(crate) seen: &'a [u8],
+}
+
+impl<'a, R: fs::Files> MachineLinks<'a, R> {
+    /// The tree below a folder with this path of the machine.
+    pub(crate) fn of(rt: &'a R, root: &'a Text) -> MachineLinks<'a, R> {
+        MachineLinks {
+            rt,
+            root,
+            seen: b"",
+        }
+    }
 }
 
 impl<R: fs::Files> LinkTree for MachineLinks<'_, R> {
     ghost standing = { λ _. None };
 
     fn look_up(&self, alloc: Global, path: &[u8]) -> Result<Standing, MachineRefusal> {
+        if is_on_way(path, self.seen) {
+            return Ok(Standing::Directory);
+        }
         let path = join(alloc, self.root.bytes(), path)?;
         let path = path_of(&path)?;
         let kind = match self.rt.symlink_metadata(path) {
@@ -50,6 +66,14 @@ impl<R: fs::Files> LinkTree for MachineLinks<'_, R> {
             return link_at(self.rt, alloc, path);
         }
         Ok(standing_of(kind))
+    }
+}
+
+/// Whether a path is that of a folder or of one above it.
+fn is_on_way(path: &[u8], folder: &[u8]) -> bool {
+    match folder.strip_prefix(path) {
+        Some(behind) => behind.is_empty() || behind.starts_with(b"/"),
+        None => false,
     }
 }
 
@@ -104,6 +128,12 @@ impl From<MachineRefusal> for Unread {
     }
 }
 
+impl From<NoMemory> for Unread {
+    fn from(_: NoMemory) -> Self {
+        Unread::Refused(MachineRefusal::NoMemory)
+    }
+}
+
 /// The bytes of the plain file to which a path leads.
 pub(crate) fn read_path<R: fs::Files>(
     tree: &MachineLinks<'_, R>,
@@ -113,23 +143,33 @@ pub(crate) fn read_path<R: fs::Files>(
 ) -> Result<Text, Unread>
     ensures { IfOk result (λ text. length text ≤ limit) }
 {
+    let file = plain_file(tree, alloc, path)?;
+    Ok(read_plain(tree, alloc, &file, limit)?)
+}
+
+/// The path of the plain file to which a path leads, with no link on its way.
+pub(crate) fn plain_file<R: fs::Files>(
+    tree: &MachineLinks<'_, R>,
+    alloc: Global,
+    path: &[u8],
+) -> Result<Text, Unread> {
     let lead = resolve_path(tree, alloc, path)?;
     match lead.end {
-        End::PlainFile => Ok(read_place(tree, alloc, &lead.place, limit)?),
+        End::PlainFile => Ok(path_to(alloc, &lead.place)?),
         end => Err(Unread::NoFile(end)),
     }
 }
 
-/// The bytes of the plain file at a place.
-fn read_place<R: fs::Files>(
+/// The bytes of the plain file at a path that has no link on its way.
+pub(crate) fn read_plain<R: fs::Files>(
     tree: &MachineLinks<'_, R>,
     alloc: Global,
-    place: &List<Text>,
+    path: &Text,
     limit: usize,
 ) -> Result<Text, MachineRefusal>
     ensures { IfOk result (λ text. length text ≤ limit) }
 {
-    let path = join(alloc, tree.root.bytes(), path_to(alloc, place)?.bytes())?;
+    let path = join(alloc, tree.root.bytes(), path.bytes())?;
     read_file(alloc, open(tree.rt, &path)?, limit)
 }
 

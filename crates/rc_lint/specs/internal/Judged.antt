@@ -2,8 +2,8 @@
 use Rattle.std.specs.Prelude.{◌&&◌, nat_eq, if◌then◌else◌, List, [], ◌∷◌}
 use Rattle.std.specs.List.{list_any}
 use Rattle.init_machine.specs.declared.diagnostic.Diagnostic.{Diagnostic}
-use Rattle.rc_lint.specs.Excused.{is_excusable}
-use Rattle.rc_lint.specs.declared.source.Source.{Source}
+use Rattle.lint_sources.specs.Excused.{is_excusable}
+use Rattle.lint_sources.specs.declared.source.Source.{Source}
 
 -- the diagnostic, where the lines of its file don't excuse it
 abbrev pub told_by : Source → Diagnostic → List Diagnostic

@@ -3,9 +3,9 @@ use Rattle.std.specs.Prelude.{◌≡◌, List, [], ◌∷◌, Result, Ok, Err}
 use Rattle.lint_findings.specs.declared.finding.Finding.{Finding}
 use Rattle.rc_import.specs.Answers.{IsAnswer}
 use Rattle.rc_import.specs.declared.loaded.LoadRefusal.{LoadRefusal}
-use Rattle.rc_lint.specs.Loads.{loaded}
+use Rattle.lint_sources.specs.Loads.{loaded}
 use Rattle.rc_lint.specs.Says.{Tells}
-use Rattle.rc_lint.specs.Told.{Told}
+use Rattle.lint_sources.specs.Told.{Told}
 use Rattle.rc_lint.specs.declared.request.Request.{Request}
 use Rattle.rc_lint.specs.declared.status.Status.{Status}
 use Rattle.rc_lint.specs.declared.status.Status.TheVariants as status

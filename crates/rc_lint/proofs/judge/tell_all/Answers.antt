@@ -1,7 +1,7 @@
 use Rattle.std.proofs.Common.{◌∙◌, List, ap, sym, subst, get_or}
 use Rattle.lint_findings.specs.Findings.{diagnostics_of}
-use Rattle.rc_lint.specs.Told.{IsTold}
-use Rattle.rc_lint.specs.declared.source.Source.{Source}
+use Rattle.lint_sources.specs.Told.{IsTold}
+use Rattle.lint_sources.specs.declared.source.Source.{Source}
 use Rattle.rc_lint.proofs.Judged.{told_at, told_all}
 use Rattle.rc_lint.proofs.judge.tell_all.Goals as goal
 

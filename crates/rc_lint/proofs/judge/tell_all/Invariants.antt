@@ -1,8 +1,8 @@
 use Rattle.std.proofs.Common.{◌≡◌, ◌++◌, drop}
-use Rattle.rc_lint.specs.internal.Sources.{AreSourcesOf}
-use Rattle.rc_lint.specs.Excused.{errors_among}
+use Rattle.lint_sources.specs.Sources.{AreSourcesOf}
+use Rattle.lint_sources.specs.Excused.{errors_among}
 use Rattle.lint_findings.specs.Findings.{diagnostics_of}
-use Rattle.rc_lint.specs.Told.{IsTold, Told}
+use Rattle.lint_sources.specs.Told.{IsTold, Told}
 use Rattle.rc_lint.proofs.judge.tell_all.Given as goal
 
 -- what is left decides, the lines that were read are those of the tree, and no call failed

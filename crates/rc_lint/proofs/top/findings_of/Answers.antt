@@ -2,7 +2,7 @@ use Rattle.std.proofs.Common.{◌≡◌, ◌∙◌, ap}
 use Rattle.init_base.specs.Faults.{Counted}
 use Rattle.rc_import.specs.Answers.{is_read_fault}
 use Rattle.rc_import.specs.declared.loaded.LoadRefusal.TheVariants.{NoMemory}
-use Rattle.rc_lint.specs.Excused.{errors_among}
+use Rattle.lint_sources.specs.Excused.{errors_among}
 use Rattle.lint_findings.specs.Findings.{diagnostics_of}
 use Rattle.rc_import.proofs.Outcomes.{err_is}
 use Rattle.rc_lint.proofs.top.findings_of.Goals as goal

@@ -3,7 +3,7 @@ use Rattle.init_base.specs.Faults.{Counted}
 use Rattle.rc_import.specs.Answers.{is_read_fault}
 use Rattle.rc_import.specs.declared.loaded.LoadRefusal.TheVariants.{NoMemory}
 use Rattle.rc_lint.specs.internal.Reported.{Finds}
-use Rattle.rc_lint.specs.Told.{IsTold}
+use Rattle.lint_sources.specs.Told.{IsTold}
 use Rattle.rc_import.proofs.Outcomes.{err_is}
 use Rattle.rc_lint.proofs.Said.{later_answer}
 use Rattle.rc_lint.proofs.top.report_of.Goals as goal

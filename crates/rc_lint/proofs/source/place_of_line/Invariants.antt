@@ -1,8 +1,0 @@
-use Rattle.std.proofs.Common.{◌≤◌, ◌-◌}
-use Rattle.rc_lint.proofs.source.place_of_line.Given as goal
-
-abbrev pub invariant-loop-least : goal.invariant-loop-least
-invariant-loop-least l = l.least ≤ l.most
-
-abbrev pub decreases-loop-least : goal.decreases-loop-least
-decreases-loop-least l = l.most - l.least
