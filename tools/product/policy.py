@@ -1,104 +1,19 @@
-"""The property contexts, and who may set what."""
+"""Who may set what, by the product's policy."""
 import itertools
 import re
 import shutil
 import subprocess
-from typing import NamedTuple
 
+from product.cil.files import differing_sum
 from product.device import read_plain
-from product.texts import BAD_GIVEN, Stop, counted, text_of
-
-# The property contexts in the order in which init reads them.
-CONTEXTS = (
-    "/system/etc/selinux/plat_property_contexts",
-    "/system_ext/etc/selinux/system_ext_property_contexts",
-    "/vendor/etc/selinux/vendor_property_contexts",
-    "/product/etc/selinux/product_property_contexts",
-    "/odm/etc/selinux/odm_property_contexts",
-)
-DEFAULT_LINE = "* default_prop"
-TYPES = {"string", "bool", "int", "uint", "double", "size"}
-CONTROLS = {"ctl.start$": "ctl.start", "ctl.stop$": "ctl.stop", "ctl.restart$": "ctl.restart"}
+from product.texts import BAD_GIVEN, Stop, bytes_of, counted, text_of
 
 # The compiled policy, in the order in which init looks for it.
 POLICIES = ("/odm/etc/selinux/precompiled_sepolicy", "/vendor/etc/selinux/precompiled_sepolicy", "/sepolicy")
 POLICY_SECONDS = 600
+# The most bytes of property_allow that initsim reads.
+MOST_ALLOW_BYTES = 1_048_576
 
-
-class Context(NamedTuple):
-    key: tuple
-    text: str
-
-
-def is_type(words):
-    return not words or words[0] == "enum" and len(words) > 1 or len(words) == 1 and words[0] in TYPES
-
-
-def control_name(name):
-    """The name by which this machine asks who may set a control name; None where it doesn't ask of this one."""
-    if not name.startswith("ctl.") or name in ("ctl.", *CONTROLS.values()):
-        return name
-    return CONTROLS.get(name)
-
-
-def context_of(line):
-    """The context of a line of AOSP's, in our words; else why there is none."""
-    name, *rest = line.split()
-    label = rest[0].split(":")[2] if rest and rest[0].count(":") >= 3 else None
-    kind, types = (rest[1] if len(rest) > 1 else "prefix"), rest[2:]
-    if label is None:
-        return None, "NAME and a context u:object_r:LABEL:s0 are expected"
-    if kind not in ("exact", "prefix"):
-        return None, f'exact or prefix is expected, "{kind}" is given'
-    if not is_type(types):
-        return None, f'"{" ".join(types)}" is no type'
-    mapped = control_name(name)
-    if mapped is None:
-        return None, f"{name}: this machine asks who may set ctl.start, ctl.stop and ctl.restart, whatever the service"
-    kind = "exact" if mapped != name else kind
-    if mapped == "*":
-        return Context(("*",), " ".join(["*", label, *(["prefix"] if types else []), *types])), None
-    return Context((mapped, kind), " ".join([mapped, label, kind, *types])), None
-
-
-def take_contexts(device, report):
-    """The text of property_contexts; None where the product has none."""
-    lines, places, absent = {}, {}, []
-    for path in CONTEXTS:
-        content = device.read(path)
-        if content is None:
-            absent.append(path)
-            continue
-        count = add_contexts(text_of(content), path, lines, places, report)
-        report.took(f"{path}: {counted(count, 'line', 'lines')}")
-    if absent == list(CONTEXTS):
-        report.lacks("property_contexts: OUT has none, so each property has the context default_prop and the type string")
-        return None
-    if absent:
-        report.lacks(f"{', '.join(absent)}; a product needn't have them all")
-    if ("*",) not in lines:
-        lines[("*",)] = DEFAULT_LINE
-    return "".join(f"{it}\n" for it in ["# Made by take-product from the product's property contexts.", *lines.values()])
-
-
-def add_contexts(text, path, lines, places, report):
-    """Adds the contexts of a file, and answers how many it has. Of one name and kind the last one holds."""
-    count = 0
-    for number, line in enumerate(text.split("\n"), 1):
-        if not line.strip() or line.strip().startswith("#"):
-            continue
-        place = f"{path}:{number}"
-        context, why = context_of(line)
-        if context is None:
-            report.left(f"{place}: {why}")
-            continue
-        if context.key in lines:
-            what = " ".join(context.key)
-            report.left(f"{places[context.key]}: {what} stands in {place} too, and the last one is taken; init refuses two")
-            del lines[context.key]
-        lines[context.key], places[context.key] = context.text, place
-        count += 1
-    return count
 
 
 RULE = re.compile(r"allow\s+(\S+)\s+([^\s:]+):property_service\s+(?:set|\{[^}]*\bset\b[^}]*\})\s*;.*")
@@ -123,14 +38,13 @@ def rules_in(text):
     return rules, attributes
 
 
-def allow_text(text):
-    """The lines of property_allow, with a line for each type of an attribute."""
+def pairs_in(text):
+    """The pairs of domains and labels that sesearch wrote, with a pair for each type of an attribute."""
     rules, attributes = rules_in(text)
     pairs = set()
     for domain, label in rules:
         pairs.update(itertools.product(attributes.get(domain, [domain]), attributes.get(label, [label])))
-    lines = [f"allow {domain} {label}" for domain, label in sorted(pairs)]
-    return len(lines), "".join(f"{it}\n" for it in ["# Made by take-product from the product's policy: who may set what.", *lines])
+    return sorted(pairs)
 
 
 def ask_policy(policy):
@@ -154,7 +68,7 @@ def find_rules(device, given, report):
         return text_of(read_plain(given, BAD_GIVEN)), given
     path = next((it for it in POLICIES if device.follow(it)), None)
     if path is None:
-        report.lacks("property_allow: OUT has no compiled policy. No client may set anything; give the rules by --sesearch FILE")
+        report.lacks("property_allow: OUT has no policy, as CIL or compiled. No client may set anything; give the rules by --sesearch FILE")
         return None, None
     if shutil.which("sesearch") is None:
         report.lacks(
@@ -168,13 +82,39 @@ def find_rules(device, given, report):
     return text, path
 
 
-def take_rules(device, given, report):
-    """The text of property_allow; None where nothing is known."""
-    text, source = find_rules(device, given, report)
-    if text is None:
-        return None
-    count, made = allow_text(text)
-    if given and not count:
+def tell_split(device, policy, report):
+    """Says where a device does something else than its policy's rules say."""
+    for domain, place in policy.permissive:
+        report.left(f"{place}: {domain} is permissive, so a device lets it set anything; here it may set what its rules allow")
+    differing = differing_sum(device)
+    if differing:
+        path, own, its = differing
+        report.left(f"{path}: {own} and {its} differ, so a device compiles the CIL")
+
+
+def allow_text(pairs, report):
+    """The text of property_allow."""
+    lines = ["# Made by take-product from the product's policy: who may set what.", *(f"allow {domain} {label}" for domain, label in pairs)]
+    text = "".join(f"{it}\n" for it in lines)
+    size = len(bytes_of(text))
+    if size > MOST_ALLOW_BYTES:
+        report.lacks(f"property_allow: it has {size} bytes, and initsim refuses more than {MOST_ALLOW_BYTES}")
+    return text
+
+
+def take_rules(device, given, policy, report):
+    """The text of property_allow, of the file that is given, else of the policy that was read as text, else of the compiled one; None where
+    nothing is known."""
+    if policy:
+        pairs, source = policy.pairs, f"{counted(policy.files, 'file', 'files')} of CIL"
+    else:
+        text, source = find_rules(device, given, report)
+        if text is None:
+            return None
+        pairs = pairs_in(text)
+    if given and not pairs:
         raise Stop(BAD_GIVEN, f"{given}: it has no line of sesearch's, as in: allow shell shell_prop:property_service set;")
-    report.took(f"{source}: {counted(count, 'allowed pair', 'allowed pairs')}")
-    return made
+    report.took(f"{source}: {counted(len(pairs), 'allowed pair', 'allowed pairs')}")
+    if policy:
+        tell_split(device, policy, report)
+    return allow_text(pairs, report)
