@@ -120,12 +120,10 @@ class Following:
 
     def begin_command(self, entry, place, output):
         action = self.owner(output) if type(entry.head) is form.Next else None
-        made = CommandRun(output.file, output.line, output.word, output.arguments, entry.moment(place), action, None)
-        made.service = None if type(entry.head) is form.Next else self.reaped
-        self.command = made
-        self.commands.append(made)
+        self.command = CommandRun(output.file, output.line, output.word, output.arguments, entry.moment(place), action, self.reaped)
+        self.commands.append(self.command)
         if action:
-            action.commands.append(made)
+            action.commands.append(self.command)
 
     def owner(self, command):
         """The action whose command this is: the first one of the queue that can have it. Those before it are done."""
