@@ -1,5 +1,6 @@
 """Reads the text of a trace as strictly as `initsim audit` does: what isn't the text of a report is refused with its line."""
 import contextlib
+import errno
 import gc
 import os
 import re
@@ -29,7 +30,7 @@ def read_trace(path):
     """The trace in a file. An OSError says why the file can't be read, a NotATrace why it is none."""
     with open(path, "rb") as file:
         if stat.S_ISDIR(os.fstat(file.fileno()).st_mode):
-            raise IsADirectoryError("Is a directory")
+            raise IsADirectoryError(errno.EISDIR, os.strerror(errno.EISDIR))
         content = file.read(MOST_BYTES + 1)
     if len(content) > MOST_BYTES:
         raise NotATrace(1, f"the file has more than {MOST_BYTES} bytes")
