@@ -25,6 +25,10 @@ class Difference:
     new: Place | None = None
     notes: list = field(default_factory=list)
     ends_boot: bool = False  # a wait that is open, so that nothing runs after it
+    subject: str = ""  # the name of the service, or of the property
+    # (what a difference of commands does: the services that start otherwise, the properties that end otherwise)
+    services: list = field(default_factory=list)
+    properties: list = field(default_factory=list)
     noted: set = field(default_factory=set)  # the groups of which the notes say something
     # (the runs of commands that differ: what they did belongs to this difference)
     old_runs: list = field(default_factory=list)

@@ -29,12 +29,13 @@ class PropertyDifferences:
         how = value_change(before, after)
         difference = next((self.commands[id(it)] for it in runs if id(it) in self.commands), None)
         if difference:
+            difference.properties.append(name)
             self.notes.setdefault(id(difference), (difference, []))[1].append(f"{name} {how}")
             return
         sign = "-" if after is None else "+" if before is None else "~"
         heads = [self.head(boot, name) for boot in (self.old, self.new)]
         by = next((f" ({it})" for it in reversed(heads) if it), "") if not any(runs) else ""
-        self.found.append(Difference(sign, "property", f"property {name}", how + by, *map(place_of, runs)))
+        self.found.append(Difference(sign, "property", f"property {name}", how + by, *map(place_of, runs), subject=name))
 
     def setter(self, boot, at, name):
         """The command that set it last, if one did."""

@@ -31,7 +31,7 @@ class ServiceDifferences:
 
     def tell_with(self, difference):
         """Adds to a difference of commands what it did to the starts of services."""
-        names = [name for name, it in self.explained.items() if it is difference]
+        names = difference.services = [name for name, it in self.explained.items() if it is difference]
         gone = [it for it in names if it not in self.new.services]
         added = [it for it in names if it not in self.old.services]
         if gone:
@@ -106,7 +106,7 @@ class ServiceDifferences:
 
     def add(self, sign, name, how, old, new):
         places = [place_of(lives[0].started_by) if lives and isinstance(lives[0].started_by, CommandRun) else None for lives in (old, new)]
-        self.found.append(Difference(sign, "service", f"service {name}", how, *places))
+        self.found.append(Difference(sign, "service", f"service {name}", how, *places, subject=name))
 
 
 def restarts(lives):
