@@ -5,6 +5,8 @@ from collections import Counter, defaultdict
 from boot_diff.difference import Difference, listed, place_of, times
 from boot_diff.order import Orders
 
+STILL, GONE = ", which still comes", ", which no longer comes"
+
 
 def label(run):
     """When a command runs: the event of its action, or the service whose `onrestart` line it is."""
@@ -88,7 +90,8 @@ class CommandDifferences:
         texts = listed(it[0].text for it in members)
         how = f"nothing of it runs any more: {actions} actions" if sign == "-" else f"{actions} actions of it now run"
         if kind == "event":
-            how = f"no longer begins anything{self.comes(name)}: {actions} actions" if sign == "-" else f"now begins {actions} actions"
+            still = {"": "", STILL: ", though it still comes", GONE: ", since it no longer comes"}[self.comes(name)]
+            how = f"no longer begins anything{still}: {actions} actions" if sign == "-" else f"now begins {actions} actions"
         side = {"old" if sign == "-" else "new": [run for it in members for run in it]}
         self.add(sign, kind, f"{kind} {name}", f"{how}, {len(members)} commands: {texts}", **side)
 
@@ -96,7 +99,7 @@ class CommandDifferences:
         """Whether an event at which nothing runs now still comes."""
         if event not in self.events[0]:
             return ""
-        return ", though it still comes" if event in self.events[1] else ", since it no longer comes"
+        return STILL if event in self.events[1] else GONE
 
     def by_action(self, sign, some):
         """Commands that are on one side alone, those of one action together."""

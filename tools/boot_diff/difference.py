@@ -90,7 +90,7 @@ def listed(names, most=MOST_NAMED):
 
 
 def times(count):
-    return "once" if count == 1 else f"{count} times"
+    return {1: "once", 2: "twice"}.get(count, f"{count} times")
 
 
 def value_change(before, after):

@@ -14,8 +14,9 @@ class ServiceDifferences:
         self.explained = {}
         for it in commands:
             self.explain(it)
-        moved = [name for name in self.explained if name in old.services and name in new.services]
-        self.orders = Orders(old.services, new.services, moved)
+        both = [it for it in old.services if it in new.services]
+        otherwise = {it for it in both if starter(old.services[it][0]) != starter(new.services[it][0])}
+        self.orders = Orders(old.services, new.services, otherwise | self.explained.keys())
         for it in commands:
             self.tell_with(it)
         for name in dict.fromkeys([*new.services, *old.services]):

@@ -3,7 +3,7 @@ from boot_diff.difference import Names
 
 MOST_LINES = 5
 # What is said not to have changed, by the group.
-ALIKE = {"service": "service", "wait": "wait", "failure": "failure", "property": "property"}
+ALIKE = {"service": "service", "wait": "wait", "failure": "failure", "refusal": "refused set", "property": "property"}
 
 
 def lines_of(old, new, groups, most=MOST_LINES):

@@ -7,6 +7,7 @@ from boot_trace.lines import Reboot
 from boot_trace.lives import EXEC
 from boot_trace.properties import Setter
 from boot_trace.waits import WaitEnd, WaitKind
+from product.texts import counted
 
 
 def wait_differences(old, new):
@@ -49,7 +50,7 @@ def wait_name(wait):
 
 def length(wait):
     if wait.end is WaitEnd.OPEN:
-        return f"still open at the end, with {wait.blocked} Nexts blocked"
+        return f"still open at the end, with {counted(wait.blocked, 'Next', 'Nexts')} blocked"
     return f"{wait.milliseconds} ms" + (", to its time limit" if wait.end is WaitEnd.TIMEOUT else "")
 
 
