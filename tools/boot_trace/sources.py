@@ -6,7 +6,7 @@ from functools import cached_property
 
 from product.device import Device
 from product.rc import RC_FOLDERS, ROOT_RC, RcFiles, Scanner
-from product.texts import Report, text_of
+from product.texts import UNREADABLE, Report, Stop, text_of
 
 BUILD_FILES = ("/system/build.prop", "/vendor/build.prop")
 HEADERS = ("on", "service", "import")
@@ -59,6 +59,8 @@ class Root(Device):
 
 class Sources:
     def __init__(self, root):
+        if not os.path.isdir(root):
+            raise Stop(UNREADABLE, f"{root}: there is no such folder")
         self.root = Root(root)
         self.known = {}
 

@@ -3,6 +3,7 @@ from boot_trace.lives import EXEC
 from boot_trace.waits import WaitEnd, WaitKind
 from boot_view.axis import HEIGHT, spoken
 from boot_view.shapes import CHARACTER, Box, Label, Line, Panel, label_start, lanes_for, shortened, width_of
+from product.texts import counted
 
 LANE = 14
 MOST_LANES = 13
@@ -40,7 +41,7 @@ def labels(axis, panel, y, wanted):
 def events(boot, axis, panel, y, folded):
     panel.shapes.append(Label(axis.left - 6, y + LANE - 4, "events", "head", "end"))
     begun = [it for it in boot.events if it.actions]
-    wanted = [(axis.x(it.moment.entry), str(it), f"{it}: entry {it.moment.entry}, {len(it.actions)} actions", "event") for it in begun]
+    wanted = [(axis.x(it.moment.entry), str(it), f"{it}: entry {it.moment.entry}, {counted(len(it.actions), 'action', 'actions')}", "event") for it in begun]
     height, missing = labels(axis, panel, y, wanted)
     folded.add(missing, "names of events without room")
     folded.add(len(boot.events) - len(begun), "events that began no action")
@@ -57,7 +58,7 @@ def actions(boot, axis, panel, y, marked, folded):
             continue
         name = action.file.rsplit("/", 1)[-1]
         style = f"action{at % 2}" + (" differs" if id(action) in marked else "")
-        title = f"on {action.event}: {action.place}, {len(action.commands)} commands, from entry {action.commands[0].moment.entry}"
+        title = f"on {action.event}: {action.place}, {counted(len(action.commands), 'command', 'commands')}, from entry {action.commands[0].moment.entry}"
         panel.shapes.append(Box(x, y, max(end - x, 1), ACTION - 2, style, title))
         room = int((end - x - 6) / CHARACTER)
         if room >= min(len(name), 12):
@@ -84,7 +85,7 @@ def waits(boot, axis, panel, y, folded):
             continue
         took = "open at the end" if wait.end is WaitEnd.OPEN else spoken(wait.milliseconds)
         limit = ", to its time limit" if wait.end is WaitEnd.TIMEOUT else ""
-        title = f"{wait.place} waits for {wait.what}: {took}{limit}, {wait.blocked} Nexts blocked"
+        title = f"{wait.place} waits for {wait.what}: {took}{limit}, {counted(wait.blocked, 'Next', 'Nexts')} blocked"
         panel.shapes.append(Box(x, y, max(end - x, 3), LANE - 2, "wait", title))
         wanted.append((x, f"{short_name(wait)}: {took}{limit}", title, "waiting"))
         last = end

@@ -6,6 +6,7 @@ from boot_trace.failures import is_only_in_model
 from boot_trace.lives import STATES, Ending
 from boot_trace.waits import WaitEnd
 from boot_view.axis import spoken
+from product.texts import counted
 
 MOST_ROWS = 300
 AGAIN = 3  # starts from which a service is said to restart again and again
@@ -34,7 +35,7 @@ def open_table(boot):
     rows = []
     if boot.open_wait:
         wait = boot.open_wait
-        rows.append(["wait", wait.what, wait.place, f"{wait.blocked} Nexts blocked, from entry {wait.began.entry} on"])
+        rows.append(["wait", wait.what, wait.place, f"{counted(wait.blocked, 'Next', 'Nexts')} blocked, from entry {wait.began.entry} on"])
     for name in boot.sets:
         if name.startswith(STATES) and boot.value(name) in ("restarting", "stopping"):
             rows.append(["service", name.removeprefix(STATES), "", f"{boot.value(name)} since entry {boot.sets[name][-1].moment.entry}"])
@@ -50,7 +51,7 @@ def failure_table(boot):
         groups[str(it.cause), it.place, it.text].append(it)
     rows = [[cause, text, place, str(len(runs))] for (cause, place, text), runs in sorted(groups.items(), key=lambda it: it[0][0])]
     only = sum(map(is_only_in_model, boot.failures))
-    note = f"{only} more failures are the model's alone: its tree lacks files of the kernel." if only else ""
+    note = f"{counted(only, 'more failure is', 'more failures are')} the model's alone: its tree lacks files of the kernel." if only else ""
     return Table("Failed commands", ["cause", "command", "place", "times"], rows, "No command failed as it would on a device.", note)
 
 
