@@ -9,7 +9,7 @@ from product.texts import counted
 
 
 def differences(old, new):
-    """The differences by their group, in the order in which they are told: what was given, why the boot doesn't go on, what was refused, what ran, and what came of it."""
+    """The differences by their group, causes first: what was given, why the boot doesn't go on, what was refused, what ran, and what followed."""
     commands = CommandDifferences(old, new).found
     services = ServiceDifferences(old, new, commands).found
     properties = PropertyDifferences(old, new, commands).found

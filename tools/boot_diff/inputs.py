@@ -45,9 +45,7 @@ def acts(boot):
 def act(boot, head):
     """What an actor of the script did, as a script has it."""
     if type(head) is Set:
-        clients = boot.trace.clients
-        name = clients[head.client - 1].name if head.client <= len(clients) else head.client
-        return f"act @{name} set {head.name} {head.value}"
+        return f"act @{boot.client_name(head.client)} set {head.name} {head.value}"
     if type(head) is Exit:
         return f"act exit {head.name} {head.status}"
     return f"act file {head.path}" if type(head) is File else None

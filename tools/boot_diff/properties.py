@@ -48,8 +48,7 @@ class PropertyDifferences:
         head = boot.trace.entries[boot.sets[name][-1].moment.entry - 1].head
         if type(head) is BootHead:
             return "a build file"
-        clients = boot.trace.clients
-        return f"set by {clients[head.client - 1].name}" if type(head) is Set and head.client <= len(clients) else None
+        return f"set by {boot.client_name(head.client)}" if type(head) is Set else None
 
 
 def setters(boot):

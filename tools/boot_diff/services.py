@@ -97,7 +97,7 @@ class ServiceDifferences:
             return []
         crashes = [sum(it.is_crash for it in side) for side in (old, new)]
         if crashes[0] != crashes[1]:
-            return [f"crashes {times(crashes[1])}, was {times(crashes[0])}" if all(crashes) else f"{'crashes' if crashes[1] else 'no longer crashes'}"]
+            return [crash_change(*crashes)]
         at = next((at for at, pair in enumerate(zip(before, after)) if pair[0] != pair[1]), None)
         return [] if at is None else [f"{now(new[at])}, {past(old[at])} before"]
 
@@ -115,6 +115,12 @@ def restarts(lives):
     return [it.began.clock - before.ended.clock for before, it in zip(lives, lives[1:]) if it.is_restart and before.ended]
 
 
+def crash_change(before, after):
+    if before and after:
+        return f"crashes {times(after)}, was {times(before)}"
+    return "crashes" if after else "no longer crashes"
+
+
 def starter(life):
     """What began a life, in words."""
     by = life.started_by
@@ -125,11 +131,15 @@ def starter(life):
 
 def now(life):
     """How a life ends, in words."""
-    return "runs to the end" if life.ending is Ending.RUNNING else f"exits with {life.status}" if life.ending is Ending.EXITED else f"is killed by {killer(life)}"
+    if life.ending is Ending.RUNNING:
+        return "runs to the end"
+    return f"exits with {life.status}" if life.ending is Ending.EXITED else f"is killed by {killer(life)}"
 
 
 def past(life):
-    return "ran to the end" if life.ending is Ending.RUNNING else f"exited with {life.status}" if life.ending is Ending.EXITED else f"was killed by {killer(life)}"
+    if life.ending is Ending.RUNNING:
+        return "ran to the end"
+    return f"exited with {life.status}" if life.ending is Ending.EXITED else f"was killed by {killer(life)}"
 
 
 def killer(life):

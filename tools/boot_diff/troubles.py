@@ -123,7 +123,8 @@ def changed_refusal(before, after):
     what = f"set {it.name} {it.value} by {it.by}" if it.value is not None else f"set {it.name} by {it.by}"
     if not after:
         return Difference("-", "refusal", what, f"no longer refused: {it.refusal}")
-    return Difference("!", "refusal", what, f"refused{'' if len(after) == 1 else ' ' + times(len(after))}: {it.refusal}" + (f", was {times(len(before))}" if before else ""))
+    often = f" {times(len(after))}, was {times(len(before)) if before else 'never'}" if len(after) > 1 or before else ""
+    return Difference("!", "refusal", what, f"refused{often}: {it.refusal}")
 
 
 def reboot_differences(old, new):

@@ -21,6 +21,14 @@ class Boot:
         self.trace = trace
 
     @cached_property
+    def clients(self):
+        """The clients by their numbers."""
+        return {it.number: it for it in self.trace.clients}
+
+    def client_name(self, number):
+        return self.clients[number].name if number in self.clients else f"client {number}"
+
+    @cached_property
     def followed(self):
         return Following(self.trace)
 

@@ -55,8 +55,8 @@ def refused_sets(trace, commands):
     found = []
     for entry in trace.entries:
         for place, output in enumerate(entry.outputs):
-            if type(output) is form.Refused:
-                head = entry.head
+            head = entry.head
+            if type(output) is form.Refused and type(head) is form.Set:
                 found.append(RefusedSet(head.name, head.value, output.refusal, Setter.CLIENT, entry.moment(place), clients.get(head.client)))
             elif type(output) is form.Unset:
                 found.append(RefusedSet(output.name, None, output.refusal, Setter.INIT, entry.moment(place)))
@@ -65,5 +65,5 @@ def refused_sets(trace, commands):
 
 
 def of_command(command):
-    name, value = command.arguments
+    name, value = [*command.arguments, "", ""][:2]
     return RefusedSet(name, value, command.cause.details[0], Setter.COMMAND, command.moment, command=command)

@@ -69,7 +69,8 @@ def restart_table(boot):
             statuses = Counter(str(it.status) for it in lives if it.is_crash)
             said = ", ".join(f"exit {status}: {count}" for status, count in statuses.items())
             rows.append([name, str(len(lives)), str(crashes), said])
-    return Table("Services that restart again and again", ["service", "starts", "crashes", "statuses"], rows, f"No service started {AGAIN} times, or crashed twice.")
+    nothing = f"No service started {AGAIN} times, or crashed twice."
+    return Table("Services that restart again and again", ["service", "starts", "crashes", "statuses"], rows, nothing)
 
 
 def wait_table(boot):
