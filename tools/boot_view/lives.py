@@ -101,7 +101,7 @@ def title_of(it):
 
 def crowd(group, axis, y, folded):
     """Lives that are drawn as one."""
-    folded.add(len(group) - 1, "lives of services, in bars that stand for several")
+    folded.add(len(group) - 1, "lives of services, in boxes with dotted lines")
     x, end = axis.x(group[0].began.entry), min(end_of(group[-1], axis), axis.x(group[-1].began.entry) + NEAREST)
     crashes = sum(it.is_crash for it in group)
     title = f"{group[0].name}: {len(group)} lives, {crashes} of them crashes, entries {group[0].began.entry} to {group[-1].began.entry}"

@@ -1,6 +1,7 @@
 """What a picture is made of. A class names a style (boot_view.style); a title is shown when one points at it."""
 from dataclasses import dataclass, field
 
+FEW = 60
 CHARACTER = 6.3  # about the width of one, at the size of the text
 
 
@@ -71,12 +72,14 @@ def label_start(x, width, right):
 
 def lanes_for(labels, right, most):
     """Lanes for labels, each by its point and width, from the left: one for each, or None where `most` aren't enough. No label touches
-    another one. Those to the left are the lower ones, if there is room, so that no line from a point down to its label crosses another label."""
+    another one. Those to the left are the lower ones, so that no line from a point down to its label crosses another label; if the labels are
+    few, one without room is crossed, and not left out."""
     gap, edges, found = 8, [float("inf")] * most, []
     for x, width in reversed(labels):
         start = label_start(x, width, right)
         free = [it for it in range(most) if start + width + gap <= edges[it]]
-        lane = next((it for it in free if start + width + gap <= min(edges[it:])), free[-1] if free else None)
+        crossed = free[-1] if free and len(labels) <= FEW else None
+        lane = next((it for it in free if start + width + gap <= min(edges[it:])), crossed)
         if lane is not None:
             edges[lane] = start
         found.append(lane)

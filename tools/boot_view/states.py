@@ -71,7 +71,7 @@ def crowded(crowd, y, folded):
     """A box for values that are too near to each other to be drawn apart."""
     if not crowd:
         return []
-    folded.add(len(crowd), "values of properties, in dotted boxes")
+    folded.add(len(crowd), "values of properties, in boxes with dotted lines")
     (first, x, _), (last, _, end) = crowd[0], crowd[-1]
     title = f"{first.name}: {len(crowd)} values, entries {first.moment.entry} to {last.moment.entry}, the last {last.value}"
     return [Box(x - 1, y + 2, max(end - x, 2) + 1, ROW - 5, "values", title)]

@@ -33,9 +33,9 @@ svg .running { fill: var(--running) }
 svg .exited { fill: var(--exited) }
 svg .crash { fill: var(--crash) }
 svg .killed { fill: var(--killed) }
-svg .crowd { fill: url(#crowd); stroke: var(--ink); stroke-width: .8 }
+svg .crowd { fill: var(--band); stroke: var(--ink); stroke-width: 1.2; stroke-dasharray: 2 2 }
 svg .value { fill: var(--value); stroke: var(--quiet); stroke-width: .5 }
-svg .values { fill: url(#crowd); stroke: var(--quiet); stroke-width: .5 }
+svg .values { fill: var(--band); stroke: var(--ink); stroke-width: 1; stroke-dasharray: 2 2 }
 svg path { fill: none; stroke: var(--ink); stroke-width: 1.6 }
 svg path.solid { fill: var(--ink); stroke: var(--paper); stroke-width: 1 }
 svg path.halo { stroke: var(--paper); stroke-width: 4 }

@@ -9,7 +9,6 @@ from boot_view.style import SHAPES, colours
 PATTERNS = """<defs>
 <pattern id="hatch" width="6" height="6" patternUnits="userSpaceOnUse" patternTransform="rotate(45)"><rect class="paper" width="6" height="6"/><line x1="0" y1="0" x2="0" y2="6" style="stroke: var(--ink); stroke-width: 2.4"/></pattern>
 <pattern id="faint" width="8" height="8" patternUnits="userSpaceOnUse" patternTransform="rotate(45)"><line x1="0" y1="0" x2="0" y2="8" style="stroke: var(--line); stroke-width: 2.5"/></pattern>
-<pattern id="crowd" width="4" height="4" patternUnits="userSpaceOnUse"><rect width="4" height="4" style="fill: var(--band)"/><circle cx="2" cy="2" r="1" style="fill: var(--running)"/></pattern>
 </defs>"""
 # What the marks look like, around the point 0,0.
 GLYPHS = {
