@@ -1,0 +1,4 @@
+pub mod Feeding
+pub mod Format
+pub mod Wire
+pub mod internal

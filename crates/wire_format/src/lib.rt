@@ -1,0 +1,20 @@
+//! The messages that clients of init's property socket send: their spelling, and reading them from a stream that comes in any pieces.
+//! The form is in `specs/Format.antt`, what a stream is in `specs/Wire.antt`, what a feeder makes of pieces in `specs/Feeding.antt`.
+#![tactic(auto)]
+
+mod encoding;
+mod feeder;
+mod field;
+mod laws;
+mod message;
+mod pieces;
+mod reading;
+mod refusal;
+mod shape;
+mod word;
+
+pub use encoding::encode;
+pub use feeder::Feeder;
+pub use laws::{each_stream_has_one_reading, pieces_join};
+pub use message::{Message, Rest};
+pub use refusal::FeedRefusal;
