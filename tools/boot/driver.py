@@ -10,8 +10,9 @@ from boot.language import Expectation, Rule, Until
 from boot.standing import Standing
 
 # Nexts that one run looks ahead: the first try, and the most.
-FIRST_LOOK, MOST_LOOK = 256, 20_000
-MOST_RULE_ACTS = 1_000
+FIRST_LOOK, MOST_LOOK = 64, 20_000
+# Acts of rules in a row, behind one Next or other act.
+MOST_RULE_ACTS = 100
 MOST_TICKS = 200
 # By these acts of clients nothing is done: they make no entry.
 SILENT = ("read", "sync", "catch")
@@ -112,6 +113,7 @@ class Driver:
         """Does one act that is no step."""
         words = text.split()
         if not (words[0].startswith("@") and words[1] in SILENT):
+            self.look = FIRST_LOOK
             self.look_ahead(1, text)
         self.script.add(text)
         self.counts.ticks += words[0] == "tick"
@@ -177,10 +179,14 @@ class Driver:
 
     def apply_rules(self):
         """Lets the rules act whose conditions have come true, until none is left."""
+        acts = 0
         while True:
             rule = next((it for it in self.rules if self.is_wanted(it) and self.is_able(it)), None)
             if rule is None:
                 return
+            acts += len(rule.acts)
+            if acts > MOST_RULE_ACTS:
+                raise Undone(rule.line, rule.text, f"rules acted {MOST_RULE_ACTS} times in a row, and it still holds")
             self.acted[rule.line] = self.now.occurrence(rule.condition)
             self.let_act(rule)
 
@@ -195,8 +201,6 @@ class Driver:
     def let_act(self, rule):
         before, self.script.source = self.script.source, (rule.line, rule.text)
         for act in rule.acts:
-            if self.counts.rule_acts == MOST_RULE_ACTS:
-                raise Undone(rule.line, rule.text, f"the rules have acted {MOST_RULE_ACTS} times, and still act")
             self.counts.rule_acts += 1
             if act.text.startswith("step "):
                 for _ in range(int(act.text.split()[1])):

@@ -99,7 +99,7 @@ class Reading:
         made.append(self.act_of(line, words) if kind == "when" else (line, tuple(q_form(it) for it in words)))
 
     def close_block(self):
-        if self.below and not self.below[2]:
+        if self.below and not self.below[2] and not any(line >= self.below[1] for line, _ in self.faults):
             kind, line, _ = self.below
             self.faults.append((line, "an act is expected behind `then`, or indented below it" if kind == "when" else "what may be is expected below it, indented"))
         self.below = None
