@@ -20,6 +20,8 @@ class Causes:
 
     def __init__(self, standing, root):
         self.now, self.root = standing, root
+        # (whether acts are left out before this)
+        self.is_cut = False
         self.boot = standing.cut()
 
     @cached_property

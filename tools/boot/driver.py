@@ -88,6 +88,8 @@ class Driver:
         self.faults, self.notes = [], []
         # (what couldn't be done, and the parts behind it)
         self.undone, self.skipped, self.reached = None, [], []
+        # (whether what is expected now rests on acts that weren't done)
+        self.is_left = False
         self.look = FIRST_LOOK
         self.now = Standing(None, 0)
         self.look_ahead(1)
@@ -121,12 +123,16 @@ class Driver:
     # -- the parts of a test
 
     def drive(self, judge):
-        """Does the parts of the test in their order. Expectations are judged also behind what couldn't be done."""
+        """Does the parts of the test in their order. Behind what couldn't be done the next expectations are judged, up to a further act."""
+        is_judged = False
         for part in self.test.parts:
-            if isinstance(part, Expectation):
+            is_expectation = isinstance(part, Expectation)
+            if is_expectation and not self.is_left:
                 judge(part, self.now)
+                is_judged = is_judged or self.undone is not None
             elif self.undone:
                 self.skipped.append(part)
+                self.is_left = is_judged
             else:
                 self.do_part(part)
 

@@ -56,7 +56,7 @@ def lives_of(expectation, causes):
 
 def no_crash(expectation, causes):
     crashes = [it for it in causes.boot.lives if it.is_crash]
-    return but(expectation, [((quoted(it.name),), f"{it.name} {end_of(it)}") for it in crashes], "didn't crash")
+    return but(expectation, [((quoted(it.name),), f"{it.name} {end_of(it)}") for it in crashes], "didn't crash", causes)
 
 
 def no_failure(expectation, causes):
@@ -64,7 +64,7 @@ def no_failure(expectation, causes):
     for it in causes.boot.device_failures:
         words = it.word, *map(quoted, it.arguments)
         found.append((words, f"{it.place}: {' '.join(words)}: {it.cause} (trace line {it.moment.line})"))
-    return but(expectation, found, "didn't fail")
+    return but(expectation, found, "didn't fail", causes)
 
 
 def no_refusal(expectation, causes):
@@ -73,15 +73,17 @@ def no_refusal(expectation, causes):
         if it.setter is not Setter.COMMAND:
             words = (quoted(it.name), *([quoted(it.value)] if it.value is not None else []))
             found.append((words, f"{' '.join(words)}, set by {it.by}: {it.refusal} (trace line {it.moment.line})"))
-    return but(expectation, found, "wasn't refused")
+    return but(expectation, found, "wasn't refused", causes)
 
 
-def but(expectation, found, absence):
+def but(expectation, found, absence, causes):
     """What was found and isn't listed, or was listed and not found."""
     listed = [words for _, words in expectation.listed]
     odd = [said for words, said in found if not any(fits(it, words) for it in listed)]
     if odd:
         return shown(odd)
+    if causes.is_cut:
+        return None
     absent = [f"{' '.join(it)} {absence}" for it in listed if not any(fits(it, words) for words, _ in found)]
     return f"{shown(absent)}, and is listed below" if absent else None
 

@@ -6,7 +6,7 @@ from boot_trace.words import text
 from boot.causes import Causes
 from boot.driver import Driver
 from boot.expectations import judge
-from boot.language import Rule
+from boot.language import Expectation, Rule
 from boot.reporters import Check, Result
 
 
@@ -18,6 +18,7 @@ def judge_test(test, runs):
         if standing.at not in known:
             known.clear()
             known[standing.at] = Causes(standing, runs.tree.copy)
+        known[standing.at].is_cut = driver.undone is not None
         checks.append(Check(expectation.line, expectation.text, judge(expectation, known[standing.at])))
 
     driver.drive(judge_one)
@@ -61,8 +62,10 @@ def likely(name, known):
 
 
 def skipped(driver):
-    acts = [it for it in driver.skipped if not isinstance(it, Rule)]
-    return [(acts[0].line, "from here on no act was done")] if acts else []
+    acts = [it for it in driver.skipped if not isinstance(it, (Rule, Expectation))]
+    left = next((it.line for it in driver.skipped if isinstance(it, Expectation)), None)
+    notes = [(acts[0].line, "from here on no act was done")] if acts else []
+    return notes + ([(left, "from here on nothing was judged")] if left else [])
 
 
 def silent_rules(driver):
