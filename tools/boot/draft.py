@@ -1,7 +1,7 @@
 """A first script of a tree, found wait by wait, and what was assumed for it."""
 from typing import NamedTuple
 
-from boot_trace.lines import Mark, Refused
+from boot_trace.lines import Failed, Mark, Refused
 from boot_trace.lives import STATES
 from boot_trace.sources import Sources
 from boot_trace.waits import WaitKind
@@ -10,7 +10,7 @@ from boot_trace.words import quoted
 from boot.causes import Causes, by
 from boot.driver import Driver
 from boot.language import Client, Test
-from boot.makers import Makers
+from boot.makers import Makers, Verdict
 from boot.policy import homes_of
 from boot.standing import COMPLETED, awaited
 
@@ -150,11 +150,12 @@ class Draft:
         """Adds the file that is waited for, if something plausibly makes it; else the rest of the wait's time."""
         path, verdict = quoted(wait.subject), self.makers.of_file(wait.subject, self.causes, wait)
         act = f"file {path} %"
-        if verdict.kind == "assumed":
-            came = self.tried(act)
-            if Mark.RELEASED in came:
-                return self.add("assumed", Step(act, f"{wait.place} waits for it", awaited(wait)))
-            verdict = verdict._replace(kind="missing", why=f"the model's tree refuses it: {', '.join(str(it.cause) for it in came if hasattr(it, 'cause'))}")
+        came = self.tried(act)
+        if Mark.RELEASED not in came:
+            causes = ", ".join(str(it.cause) for it in came if isinstance(it, Failed))
+            verdict = Verdict("missing", f"the model's tree refuses it: {causes}")
+        elif verdict.kind == "assumed":
+            return self.add("assumed", Step(act, f"{wait.place} waits for it", awaited(wait)))
         if verdict.kind != "doubtful":
             self.say(verdict.kind, f"{act}: {wait.place} waits for it; {verdict.why}")
         clock = self.now.entry.clock

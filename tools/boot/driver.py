@@ -2,9 +2,7 @@
 from math import isqrt
 from typing import NamedTuple
 
-from boot_trace.boot import Boot
 from boot_trace.lines import Failed as FailedLine, Mark
-from boot_trace.reader import parse_trace
 
 from boot.language import Expectation, Rule, Until
 from boot.standing import Standing
@@ -96,7 +94,7 @@ class Driver:
 
     def boot_of(self, *acts):
         """The boot that the script makes with these acts behind it."""
-        return Boot(parse_trace(self.runs.trace(self.script.with_acts(*acts))))
+        return self.runs.boot(self.script.with_acts(*acts))
 
     def look_ahead(self, entries, *acts):
         """Looks ahead by one run, and goes on by so many entries."""

@@ -6,6 +6,8 @@ import subprocess
 import tempfile
 from contextlib import contextmanager
 
+from boot_trace.boot import Boot
+from boot_trace.reader import NotATrace, parse_trace
 from product.texts import Stop
 
 from boot.tree import Tree
@@ -20,7 +22,7 @@ IN_MEMORY = "/dev/shm"
 def program_of(given):
     """The program that is given, else the one that INITSIM names, else what `./initsim` would run."""
     if given or os.environ.get("INITSIM"):
-        return os.path.abspath(given or os.environ["INITSIM"])
+        return given or os.environ["INITSIM"]
     launch = [os.path.join(TOP, "tools/launch"), "--build", "initsim"]
     ran = subprocess.run(launch, stdin=subprocess.DEVNULL, stdout=subprocess.PIPE, text=True)
     if ran.returncode:
@@ -54,6 +56,13 @@ class Runs:
         self.tree, self.root, self.program = tree, root, program
         self.script = os.path.join(room, "script")
         self.count = 0
+
+    def boot(self, text):
+        """The boot that a script makes."""
+        try:
+            return Boot(parse_trace(self.trace(text)))
+        except NotATrace as why:
+            raise Stop(REFUSED, f"{self.program} wrote no trace: line {why.line}: {why.why}") from None
 
     def trace(self, text):
         """The bytes of the trace of a script."""

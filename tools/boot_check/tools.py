@@ -163,7 +163,7 @@ def check_words(check):
         (["boot-test", root, "empty"], "empty:1: the test expects nothing; an `expect` is missing"),
         (["boot-test", root, "odd"], "odd:1: the character \\udcff may not stand in a test; in q form it is %FF"),
         (["boot-test", "nothing", "first.test"], "boot-test: initsim: nothing/system/etc/init/hw/init.rc: No such file or directory"),
-        (["boot-test", root, "first.test", "--program", "absent"], f"boot-test: {check.room}/absent can't be run: No such file or directory"),
+        (["boot-test", root, "first.test", "--program", "absent"], f"boot-test: absent can't be run: No such file or directory"),
         (["boot-test", root, "first.test", "--script", "absent/x"], "boot-test: absent/x: No such file or directory"),
         (["boot-test", root, "first.test", "--trace", "nothing"], "boot-test: nothing: it is a folder"),
         (["boot-report"], "boot-report: the following arguments are required: TRACE; usage: boot-report TRACE [--root ROOT] [--script SCRIPT]"),
