@@ -1,7 +1,5 @@
 """The run that bench/crash stops, its stores, and the run that opens what is left."""
 import os
-import subprocess
-import sys
 
 HERE = os.path.dirname(os.path.abspath(__file__))
 TOP = os.path.join(HERE, "../..")
@@ -55,20 +53,3 @@ def make_tree(folder):
 
 def script_of_sets():
     return "client u shell\nstep 1\n" + "".join(f"@u set {name} {value or '%'}\n" for name, value in SETS)
-
-
-def fail(line):
-    print(f"bench: {line}", file=sys.stderr)
-    sys.exit(2)
-
-
-def program_of():
-    given = os.environ.get("PROGRAM")
-    if not given:
-        ran = subprocess.run([os.path.join(TOP, "tools/launch"), "--build", "initsim"], stdout=subprocess.PIPE, text=True)
-        given = ran.stdout.strip()
-        if ran.returncode:
-            fail("the program wasn't built")
-    if not (os.path.isfile(given) and os.access(given, os.X_OK)):
-        fail(f"{given} is no program")
-    return os.path.abspath(given)

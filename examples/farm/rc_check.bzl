@@ -1,6 +1,6 @@
 """Checks a product's rc files as a Bazel action, which reads what it names and nothing else.
 
-Copy this file and check-product into a package, and the two executables that the launcher built (target/initsim, target/rc_lint)
+Copy this file and check-product into a package, and the two executables that the launcher names (tools/launch --build)
 or a rule that fetches them. Then, in a BUILD file:
 
     load(":rc_check.bzl", "rc_check")
