@@ -3,6 +3,7 @@ from math import isqrt
 from typing import NamedTuple
 
 from boot_trace.lines import Failed as FailedLine, Mark
+from boot_trace.words import text as text_of
 
 from boot.language import Expectation, Rule, Until
 from boot.standing import Standing
@@ -21,7 +22,7 @@ class Undone(Exception):
 
     def __init__(self, line, what, why, service=None):
         super().__init__(what)
-        # (the service that should run, if it is for want of one)
+        # (the service of which to say what became)
         self.line, self.what, self.why, self.service = line, what, why, service
 
 
@@ -74,6 +75,11 @@ class Script:
             source = of
             lines.append(act)
         return "".join(f"{it}\n" for it in lines)
+
+
+def awaited_service(condition):
+    """The service whose state a condition asks for."""
+    return text_of(condition.words[0]) if condition.kind in ("running", "stopped", "restarting") else None
 
 
 class Driver:
@@ -239,7 +245,7 @@ class Driver:
         if moved:
             self.act(f"tick {moved}")
             return moved
-        raise Undone(part.line, part.text, self.why_at_rest(part, passed, ticks), self.dead_service())
+        raise Undone(part.line, part.text, self.why_at_rest(part, passed, ticks), self.dead_service() or awaited_service(part.condition))
 
     def silent_time(self, most):
         """The time after which something happens by itself; 0 if nothing would within the most."""

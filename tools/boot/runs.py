@@ -6,6 +6,7 @@ import subprocess
 import tempfile
 from contextlib import contextmanager
 
+import programs
 from boot_trace.boot import Boot
 from boot_trace.reader import NotATrace, parse_trace
 from product.texts import Stop
@@ -13,7 +14,6 @@ from product.texts import Stop
 from boot.tree import Tree
 
 NO_ROOT, REFUSED = 2, 3
-TOP = os.path.dirname(os.path.dirname(os.path.dirname(os.path.realpath(__file__))))
 SECONDS = 120
 # A store is synced as it is written; in memory that costs nothing.
 IN_MEMORY = "/dev/shm"
@@ -23,11 +23,10 @@ def program_of(given):
     """The program that is given, else the one that INITSIM names, else what `./initsim` would run."""
     if given or os.environ.get("INITSIM"):
         return given or os.environ["INITSIM"]
-    launch = [os.path.join(TOP, "tools/launch"), "--build", "initsim"]
-    ran = subprocess.run(launch, stdin=subprocess.DEVNULL, stdout=subprocess.PIPE, text=True)
-    if ran.returncode:
-        raise Stop(ran.returncode, "the program wasn't built")
-    return ran.stdout.strip()
+    try:
+        return programs.path_of("initsim")
+    except programs.NotBuilt as why:
+        raise Stop(why.status, str(why)) from None
 
 
 def interrupt_on_signals():

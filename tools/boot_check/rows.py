@@ -119,13 +119,15 @@ ROWS = [
     # -- until
     ("until quiet", "until quiet\nexpect idle", []),
     ("until running", "@d set go 1\nuntil running late\nexpect running late", []),
-    ("until running, never", "until running late\nexpect idle", [f"t:8: failed: until running late: not reached; {IDLE}"]),
+    ("until running, never", "until running late\nexpect idle", [
+        f"t:8: failed: until running late: not reached; late never started: {R}:16 (start late) didn't run, since `on property:go=1` never held; {IDLE}"]),
     ("until prop", "@d set go 1\nuntil prop init.svc.late running\nexpect running late", []),
     ("until prop, another", "until prop done.x no\nexpect idle", [f"t:8: failed: until prop done.x no: not reached; {IDLE}"]),
     ("until blocked, idle", "until blocked\nexpect idle", [f"t:8: failed: until blocked: not reached; {IDLE}"]),
     ("until within", "exit a 3\nuntil running a within 60s\nexpect running a", ["t:9: note: until running a: 5000 ms passed, in 2 ticks"]),
     ("until within, too little", "exit a 3\nuntil running a within 4s\nexpect idle", [
-        "t:9: failed: until running a: not reached, and nothing more happens by itself in the 4000 ms that may pass; " + IDLE]),
+        "t:9: failed: until running a: not reached, and nothing more happens by itself in the 4000 ms that may pass; "
+        "a exited with the status 3 (trace line 68), and is restarting; " + IDLE]),
     ("until at most", "@d set loop 1\nuntil prop q 1 at most 3 steps\nexpect no wait open", [f"t:9: failed: until prop q 1: not reached after 3 steps; {LEFT.format(82)}"]),
     ("a note of what wasn't done", "until blocked\n@d set q 1\nexpect no prop q", [
         f"t:8: failed: until blocked: not reached; {IDLE}", "t:9: note: from here on no act was done"]),
