@@ -101,8 +101,7 @@ class Refusals:
     """Sets of clients that were refused, with what ROOT's policy says of them."""
 
     def __init__(self, compared):
-        self.all, self.tree, self.policy = compared, compared.tree, compared.policy
-        self.names = {}
+        self.all, self.policy = compared, compared.policy
 
     def compare(self):
         pids = {}
@@ -114,13 +113,13 @@ class Refusals:
 
     def look_at(self, message, service):
         name, refusal = message.name, lines.refusal_of(message.found["cause"])
-        label, kind, _ = self.policy.context(name)
+        label, kind = self.policy.label(name), self.policy.type_of(name)[0]
         asker = service or f"pid {message.found['pid']} of uid {message.found['uid']}"
         text = f"{asker} can't set {name}: {message.found['cause']}"
         if refusal == "Denied":
-            domains = self.allowed(name, int(message.found["uid"]))
+            domains = self.allowed(name, int(message.found["uid"]), service)
             if domains:
-                self.all.add(message.line, "refused", f"{text}; in ROOT {', '.join(domains)} may set it ({label}), and whose domain asked the log doesn't say")
+                self.all.add(message.line, "refused", f"{text}; in ROOT {', '.join(domains)} may set it ({label}), and the log doesn't say which domain asked")
                 return
         elif refusal == "InvalidType" and kind in ("string", "double", "size"):
             self.all.add(message.line, "refused", f"{text}; in ROOT it takes any value ({label})")
@@ -130,9 +129,11 @@ class Refusals:
             return
         self.all.known["refused sets that ROOT's policy refuses too"] += 1
 
-    def allowed(self, name, user):
-        """The domains that ROOT allows the set, of those that the user may have."""
+    def allowed(self, name, user, service):
+        """The domains that ROOT allows the set, of those that the asker may have."""
         domains = self.policy.setters("ctl.start" if name.startswith("ctl.") else name)
+        if service is not None:
+            return self.policy.of_service(domains, service)
         if user == SHELL_USER:
             return [it for it in domains if it in ("shell", "su")]
         if user % 100_000 >= FIRST_APP:

@@ -171,7 +171,7 @@ class Follower:
         domains = self.policy.setters(name)
         if not domains:
             return False
-        chosen = next((it for it in domains if it == asker), domains[0])
+        chosen = next((it for it in domains if asker and (it == asker or asker in self.policy.homes(it))), domains[0])
         # (no time passes first: a tick would end what was killed, perhaps too early)
         self.script.add_set(chosen, name, value, message.line, why)
         others = f"; {', '.join(it for it in domains if it != chosen)} may too" if len(domains) > 1 else ""

@@ -13,7 +13,7 @@ from device_log.comparing import compare
 from device_log.follow import Follower
 from device_log.known import known_before, root_with
 from device_log.loss import Losses
-from device_log.policy import Policy
+from device_log.policy import TypedPolicy
 from device_log.rc_tree import RcTree
 from device_log.reading import Unusable, judge, read_log
 from device_log.script import Script
@@ -63,7 +63,7 @@ class Session:
     def __init__(self, log, root, known, runs, not_modelled):
         self.log, self.known, self.runs = log, known, runs
         tree = RcTree(root)
-        policy, places = Policy(tree.sources.root), place_actions(log, tree)
+        policy, places = TypedPolicy(root, tree.services), place_actions(log, tree)
         self.script = Script(runs)
         notes = Follower(log, tree, policy, self.script, places.keys).follow()
         losses = Losses(log, tree, places, notes)
@@ -85,5 +85,5 @@ def session_of(root, log_path, program, not_modelled=None):
     if not os.path.isdir(root):
         raise Stop(FAILED, f"{root}: {'it is no folder' if os.path.lexists(root) else 'there is no such folder'}")
     known = known_before(log, RcTree(root))
-    with root_with(root, known) as complete, runs_of(complete, program) as runs:
+    with root_with(root, known) as complete, runs_of(complete, lambda: program) as runs:
         yield Session(log, complete, known, runs, not_modelled)
