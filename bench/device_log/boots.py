@@ -97,8 +97,9 @@ def differing_script():
     return f"{front}step 8\n@thermal set vendor.thermal.level 3\n@vold set vold.mount_all.done 1\nstep 8\n{END}"
 
 
-def clean_messages(version, noise=1):
-    return messages_of(os.path.join(WALNUT, "tree"), script_of_walnut(), version, ASKERS, noise)
+def clean_messages(version, noise=1, tree=None):
+    """Those of walnut's boot, or of the same boot of another tree."""
+    return messages_of(tree or os.path.join(WALNUT, "tree"), script_of_walnut(), version, ASKERS, noise)
 
 
 def differing_messages(device, version, noise=1):

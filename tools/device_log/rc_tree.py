@@ -65,7 +65,7 @@ class RcTree:
     """What ROOT's rc files say."""
 
     def __init__(self, root):
-        self.sources = Sources(root)
+        self.root, self.sources = root, Sources(root)
         self.files = self.sources.files
         self.services = self.sources.services
         self.sections = [it for file in self.files for it in self.sources.sections(file)]

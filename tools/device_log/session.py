@@ -60,9 +60,9 @@ def usable_log(path):
 class Session:
     """What came of following a log: the script, its runs, and the comparison."""
 
-    def __init__(self, log, root, known, runs, not_modelled):
+    def __init__(self, log, tree, known, runs, not_modelled):
         self.log, self.known, self.runs = log, known, runs
-        tree = RcTree(root)
+        root = tree.root
         policy, places = TypedPolicy(root, tree.services), place_actions(log, tree)
         self.script = Script(runs)
         notes = Follower(log, tree, policy, self.script, places.keys).follow()
@@ -84,6 +84,7 @@ def session_of(root, log_path, program, not_modelled=None):
     log = usable_log(log_path)
     if not os.path.isdir(root):
         raise Stop(FAILED, f"{root}: {'it is no folder' if os.path.lexists(root) else 'there is no such folder'}")
-    known = known_before(log, RcTree(root))
+    tree = RcTree(root)
+    known = known_before(log, tree)
     with root_with(root, known) as complete, runs_of(complete, lambda: program) as runs:
-        yield Session(log, complete, known, runs, not_modelled)
+        yield Session(log, RcTree(complete) if known else tree, known, runs, not_modelled)
