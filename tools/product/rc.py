@@ -24,6 +24,8 @@ class Scanner:
 
     def __init__(self, text):
         self.text, self.at, self.line = text, 0, 1
+        # (line feeds in quotes up to here)
+        self.quoted_feeds = 0
 
     def lines(self):
         """Each line that has words, with the number of the line on which the first one begins."""
@@ -71,6 +73,7 @@ class Scanner:
             return None
         piece = self.text[self.at : end]
         self.line += piece.count("\n")
+        self.quoted_feeds += piece.count("\n")
         self.at = end + 1
         return piece
 
