@@ -30,6 +30,19 @@ class Actions:
         self.find_in_log()
         self.find_in_model()
 
+    def note_lost(self):
+        """If a run of the model's alone starts what the log starts at its place, the line of the action is lost."""
+        indexes = {id(run): index for index, run in self.pairs.items()}
+        for place in self.alone_in_model:
+            before = [indexes[id(self.runs[it][3])] for it in self.paired_places if it < place]
+            after = [indexes[id(self.runs[it][3])] for it in self.paired_places if it > place]
+            first, last = max(before, default=-1), min(after, default=len(self.all.messages))
+            names = {it.name for it in self.starts_of(self.runs[place][3])}
+            for index in self.all.notes.unexplained:
+                message = self.all.messages[index] if first < index < last else None
+                if message is not None and message.name in names:
+                    self.all.losses.add(message.line, f"the line of the action that starts {message.name}")
+
     def find_order(self):
         """What runs on both sides, and at different places."""
         for index in list(self.alone_in_log):

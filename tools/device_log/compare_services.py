@@ -10,6 +10,8 @@ LOOP = 3
 # So many milliseconds after a restart is due, it is late.
 LATE = 1_000
 LONG_WAIT = 5_000
+# The signals that init itself sends: the line that says so may be lost.
+OWN_SIGNALS = ("9", "15")
 
 
 class Starts:
@@ -188,7 +190,7 @@ class Ends:
             name = next(it.name for it in reversed(reboot.outputs) if type(it) is form.Reap)
             found.add(name)
             line = max((it.line for it in self.all.messages if it.kind == "ended" and it.name == name), default=self.all.messages[-1].line)
-            self.all.add(line, "critical", f"{name} ends once too often in the model, which goes down; the device goes on")
+            self.all.add_absent(line, "critical", f"{name} ends once too often in the model, which goes down; the device goes on")
         return found
 
     def find_ends(self, name, ends):
@@ -201,7 +203,10 @@ class Ends:
             self.all.add(ends[LOOP - 1].line, "loop", f"{name} ended {len(ends)} times; here it {how(ends[LOOP - 1])}")
         else:
             for it in signals:
-                self.all.add(it.line, "crash", f"{name} {how(it)}, which init didn't send")
+                if not self.all.is_whole and it.found["status"] in OWN_SIGNALS:
+                    self.all.known["what isn't in the log, of which lines are lost"] += 1
+                else:
+                    self.all.add(it.line, "crash", f"{name} {how(it)}, which init didn't send")
 
     def is_oneshot(self, name):
         return name in self.tree.services and self.tree.services[name].has("oneshot")
