@@ -61,7 +61,7 @@ class Causes:
         return next((it for it in self.boot.waits if it.began.line < line and (it.ended is None or line < it.ended.line)), None)
 
     def why_open(self, wait):
-        """What should have ended the wait and didn't: a set that was refused, or a line that init comes to only behind it."""
+        """What should have ended the wait and didn't: a set that was refused, or a line that init comes to only after it."""
         sets = [it for it in self.boot.refused if (it.name, it.value) == (wait.subject, wait.value) and it.moment.line > wait.began.line]
         if sets:
             return f"; {sets[0].by} asked for it, and was refused: {sets[0].refusal}"

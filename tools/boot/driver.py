@@ -10,7 +10,7 @@ from boot.standing import Standing
 
 # Nexts that one run looks ahead: the first try, and the most.
 FIRST_LOOK, MOST_LOOK = 64, 20_000
-# Acts of rules in a row, behind one Next or other act.
+# Acts of rules in a row, after one Next or other act.
 MOST_RULE_ACTS = 100
 MOST_TICKS = 200
 # By these acts of clients nothing is done: they make no entry.
@@ -83,14 +83,14 @@ def awaited_service(condition):
 
 
 class Driver:
-    """The script so far, and where the boot stands behind it. What comes if it only goes on is known ahead."""
+    """The script so far, and where the boot stands after it. What comes if it only goes on is known ahead."""
 
     def __init__(self, test, runs):
         self.test, self.runs = test, runs
         self.script, self.counts = Script(test), Counts()
         self.rules, self.acted = [], {}
         self.faults, self.notes = [], []
-        # (what couldn't be done, and the parts behind it)
+        # (what couldn't be done, and the parts after it)
         self.undone, self.skipped, self.reached = None, [], []
         # (whether what is expected now rests on acts that weren't done)
         self.is_left = False
@@ -99,7 +99,7 @@ class Driver:
         self.look_ahead(1)
 
     def boot_of(self, *acts):
-        """The boot that the script makes with these acts behind it."""
+        """The boot that the script makes with these acts after it."""
         return self.runs.boot(self.script.with_acts(*acts))
 
     def look_ahead(self, entries, *acts):
@@ -127,7 +127,7 @@ class Driver:
     # -- the parts of a test
 
     def drive(self, judge):
-        """Does the parts of the test in their order. Behind what couldn't be done the next expectations are judged, up to a further act."""
+        """Does the parts of the test in their order. After what couldn't be done the next expectations are judged, up to a further act."""
         is_judged = False
         for part in self.test.parts:
             is_expectation = isinstance(part, Expectation)

@@ -112,7 +112,7 @@ def before(expectation, causes):
     if first is None or then is None:
         absent = right if then is None else left
         return f"{absent} never came{why_never(expectation.sides[then is None], causes)}; {causes.init()}"
-    return None if first < then else f"{left} came at trace line {first}, behind {right} at trace line {then}"
+    return None if first < then else f"{left} came at trace line {first}, after {right} at trace line {then}"
 
 
 def why_never(side, causes):

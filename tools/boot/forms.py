@@ -83,7 +83,7 @@ def check_plan(words):
 
 
 def check_ask(words):
-    """What a client asks: the words behind its name."""
+    """What a client asks: the words after its name."""
     asked = words[1] if len(words) > 1 else ""
     if asked == "set":
         want_count(words, 4, "@NAME set NAME VALUE")
@@ -95,7 +95,7 @@ def check_ask(words):
     elif asked in ("sync", "catch"):
         want_count(words, 2, f"@NAME {asked}")
     else:
-        raise Wrong("set, read, sync or catch is expected behind the client" + (f", not {asked}" if asked else ""))
+        raise Wrong("set, read, sync or catch is expected after the client" + (f", not {asked}" if asked else ""))
 
 
 ACTS = {"step": check_step, "tick": check_tick, "exit": check_exit, "file": check_file}

@@ -78,7 +78,7 @@ class Makers:
         return Verdict("doubtful", ", and no service has this socket")
 
     def circle(self, wait, causes):
-        """Whether only a line that init runs behind the wait would end it."""
+        """Whether only a line that init runs after the wait would end it."""
         lines = [it for it in causes.lines if wait and ends(it[1], wait) and it[0] not in causes.ran]
         if not lines:
             return None

@@ -7,7 +7,7 @@ from boot.language import MOST_STEPS, Act, Client, Condition, Event, Expectation
 MOST_BYTES = 16_777_216
 MOST_CLIENTS = 64
 FIRST_WORDS = (*DECLARATIONS, "client", *ACTS, "until", "when", "expect")
-# The conditions by their words, with what stands behind these.
+# The conditions by their words, with what stands after these.
 CONDITIONS = {
     ("idle",): (),
     ("blocked",): (),
@@ -22,7 +22,7 @@ CONDITIONS = {
 }
 # Those by which no rule can act, since they hold again and again.
 AT_REST = ("idle", "blocked", "quiet")
-# The other expectations: their words, what stands behind these, their kind, and whether `but` may follow.
+# The other expectations: their words, what stands after these, their kind, and whether `but` may follow.
 EXPECTATIONS = {
     ("no", "prop"): (("NAME",), "absent", False),
     ("never", "started"): (("NAME",), "never started", False),
@@ -101,7 +101,7 @@ class Reading:
     def close_block(self):
         if self.below and not self.below[2] and not any(line >= self.below[1] for line, _ in self.faults):
             kind, line, _ = self.below
-            self.faults.append((line, "an act is expected behind `then`, or indented below it" if kind == "when" else "what may be is expected below it, indented"))
+            self.faults.append((line, "an act is expected after `then`, or indented below it" if kind == "when" else "what may be is expected below it, indented"))
         self.below = None
 
     def close(self):
@@ -155,7 +155,7 @@ class Reading:
         if rest[:1] == ["then"] and len(rest) > 1:
             rule.acts.append(self.act_of(line, rest[1:]))
         elif rest:
-            raise Wrong(f"`then` with an act is expected behind the condition, not {' '.join(rest)}")
+            raise Wrong(f"`then` with an act is expected after the condition, not {' '.join(rest)}")
 
     def take_expectation(self, line, words):
         has_but = words[-1:] == ["but"]
@@ -176,7 +176,7 @@ def check_text(words):
 
 
 def matching(table, words):
-    """The entry of a table with whose key the words begin, and the words behind it."""
+    """The entry of a table with whose key the words begin, and the words after it."""
     for key, value in table.items():
         if tuple(words[: len(key)]) == key:
             return key, value, words[len(key) :]
@@ -184,7 +184,7 @@ def matching(table, words):
 
 
 def condition_of(words):
-    """The condition with which the words begin, and the words behind it."""
+    """The condition with which the words begin, and the words after it."""
     key, names, rest = matching(CONDITIONS, words)
     if key is None:
         known = ", ".join(" ".join(it) for it in CONDITIONS)
@@ -208,7 +208,7 @@ def until_of(line, words):
             raise Wrong("at most N steps is expected")
         steps, rest = number(rest[2], 1, MOST_SCRIPT_STEPS), rest[4:]
     if rest:
-        raise Wrong(f"within TIME, at most N steps, or nothing is expected behind the condition, not {' '.join(rest)}")
+        raise Wrong(f"within TIME, at most N steps, or nothing is expected after the condition, not {' '.join(rest)}")
     return Until(line, condition, within, steps)
 
 
@@ -227,7 +227,7 @@ def expectation_of(line, words):
         return Expectation(line, text, kind, words=tuple(q_form(it) for it in rest))
     condition, rest = expected_condition(words)
     if rest:
-        raise Wrong(f"nothing is expected behind {condition.text}, not {' '.join(rest)}")
+        raise Wrong(f"nothing is expected after {condition.text}, not {' '.join(rest)}")
     return Expectation(line, text, "holds", condition=condition)
 
 
@@ -238,7 +238,7 @@ def expected_condition(words):
         if matching(CONDITIONS, words)[0] is not None:
             raise
     forms = [" ".join(it) for it in (*EXPECTATIONS, ("started",), *CONDITIONS)]
-    raise Wrong(f"{', '.join(forms)}, or A before B is expected behind expect, not {' '.join(words) or 'nothing'}")
+    raise Wrong(f"{', '.join(forms)}, or A before B is expected after expect, not {' '.join(words) or 'nothing'}")
 
 
 def side_of(words):

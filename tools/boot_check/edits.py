@@ -17,7 +17,7 @@ class Edit(NamedTuple):
     path: str
     old: str  # what stands there; empty to add at the end
     new: str
-    named: str = ""  # what a failure must begin with, behind its place; nothing if the test must pass
+    named: str = ""  # what a failure must begin with, after its place; nothing if the test must pass
 
 
 BREAKING = [
@@ -36,7 +36,7 @@ BREAKING = [
     Edit("charger mode", PROPS, "", "ro.bootmode=charger\n", "late-init never comes when ro.bootmode is charger"),
     Edit("an event is renamed", "/system/etc/init/zz_mount_all.rc", "trigger nonencrypted", "trigger nonencripted",
          f"failed: installd never started: {INIT}:107 (class_start main) didn't run, since nothing triggers nonencrypted"),
-    Edit("a start comes later", INIT, "    start vold\n", "    start logd\n", "failed: spawn vold came at trace line {any}, behind event post-fs-data at trace line {any}"),
+    Edit("a start comes later", INIT, "    start vold\n", "    start logd\n", "failed: spawn vold came at trace line {any}, after event post-fs-data at trace line {any}"),
     Edit("a path is misspelled", INIT, "property_service 2", "propertyservice 2",
          f"failed: until idle: not reached; init is waiting at {INIT}:95 (file /dev/socket/propertyservice)"),
     Edit("a class isn't started", INIT, "    class_start early_hal\n", "    class_start hal\n", "failed: spawn keystore2 never came (keystore2 never started: no action starts it)"),

@@ -7,7 +7,7 @@ DELETED = Edit("a start is deleted", "/system/etc/init/odsign.rc", "    start od
 
 
 def blocks_of(check, page, head):
-    """The blocks of code behind a heading of a page, up to the next one."""
+    """The blocks of code after a heading of a page, up to the next one."""
     with open(os.path.join(check.top, page), encoding="utf-8") as file:
         section = file.read().split(f"\n{head}\n", 1)[1].split("\n## ", 1)[0]
     blocks = [[]]
