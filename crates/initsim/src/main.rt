@@ -1,34 +1,28 @@
 //! `initsim`: Android's first process over a modelled kernel. It checks a tree of rc files, runs or races a script over it, audits
 //! traces, and tells how much made-up services give to do.
 //!
-//! `top` has the call that does all that the program does, with its promise. `main` makes the real files, script,
-//! trace and output, and makes that call.
+//! `init_forms` has the call that does all that the program does, with its promise. `main` makes the real files, script, trace,
+//! store and output, makes that call, and says on standard error how it ended.
 #![tactic(auto)]
 
 mod arguments;
-mod auditing;
 mod help;
 mod noting;
-mod racing;
-mod soaking;
 mod standard;
 mod telling;
-mod top;
-mod verdict;
 
 use arguments::words_of;
+use explanations::{Named, cause_line, image_line};
 use help::{is_help, tell_help};
 use init_base::{Fault, Keeper, List, NoMemory, Source, StdFiles, StdSink, StdSource, Text};
-use init_race::OpenGate;
-use job_reader::Status;
+use init_forms::{OpenGate, Status, initsim};
 use noting::Noting;
-use second_line::{Named, TreeStore, cause_line, image_line, last_fault, store_below};
 use standard::hold_closed;
 use std::process::ExitCode;
 use std::sync::Wait;
 use std::thread::Threads;
 use telling::{tell, tell_misuse};
-use top::initsim;
+use tree_store::{TreeStore, last_fault, store_below};
 
 /// The objects of the machine that the words name.
 #[derive(Drop)]
