@@ -1,16 +1,19 @@
 //! Which limit is exceeded, and where.
 
 use crate::line::file_has;
-use crate::named::Named;
-use crate::reading::{is_too_large, load_refusal};
+use crate::named::{is_form, joined, root_of, script_of, trace_of};
 use crate::refusal::{ALLOW, CONTEXTS};
-use init_base::Text;
-use init_machine::Limit;
-use rc_import::LoadRefusal;
+use init_base::{Files, List, ReadRefusal, Text};
+use init_machine::{Limit, PropStore};
+use job_reader::read_build_files;
+use list_store::ListStore;
+use prop_rules::boot_view;
+use rc_import::{LoadRefusal, diagnose};
 use refusal_causes::ShownPath;
 use std::alloc::Global;
-use std::fs;
 use tree_store::TEXT;
+
+const MOST_FILE_BYTES: usize = 1_048_576;
 
 const SYSTEM_BUILD: &[u8] = b"/system/build.prop";
 
@@ -20,76 +23,97 @@ const VENDOR_BUILD: &[u8] = b"/vendor/build.prop";
 const FILE_BYTES: &str = "1048576 bytes";
 
 /// Which limit is exceeded, and where.
-pub fn too_large<R: fs::Files + AllocGlobal + Clone + Drop>(
-    named: &Named<'_, R>,
+pub fn too_large<F: Files>(
+    alloc: Global,
+    words: &List<Text>,
+    files: &mut F,
     limit: Limit,
     number: u64,
 ) -> Option<String> {
-    let alloc = named.alloc();
     match limit {
-        Limit::ScriptBytes => file_has(alloc, named.script()?, "16777216 bytes"),
-        Limit::ScriptLines => file_has(alloc, named.script()?, "100000 lines"),
-        Limit::Steps => file_has(alloc, named.script()?, "1000000 steps"),
-        Limit::StoreBytes => tree_file_has(named, TEXT, "33554432 bytes"),
-        Limit::FileBytes => long_file(named, number),
-        Limit::Files | Limit::Names | Limit::RcBytes => rc_files(named, limit, number),
-        Limit::TraceBytes => file_has(alloc, named.trace()?, "67108864 bytes"),
+        Limit::ScriptBytes => file_has(alloc, script_of(words)?, "16777216 bytes"),
+        Limit::ScriptLines => file_has(alloc, script_of(words)?, "100000 lines"),
+        Limit::Steps => file_has(alloc, script_of(words)?, "1000000 steps"),
+        Limit::StoreBytes => tree_file_has(alloc, root_of(words)?, TEXT, "33554432 bytes"),
+        Limit::FileBytes => long_file(alloc, words, files, number),
+        Limit::Files | Limit::Names | Limit::RcBytes => {
+            rc_files(alloc, root_of(words)?, files, limit, number)
+        }
+        Limit::TraceBytes => file_has(alloc, trace_of(words)?, "67108864 bytes"),
     }
 }
 
-fn tree_file_has<R: fs::Files + AllocGlobal + Clone + Drop>(
-    named: &Named<'_, R>,
-    path: &[u8],
-    what: &str,
-) -> Option<String> {
-    let path = named.below(path)?;
-    let line = file_has(named.alloc(), &path, what);
+fn tree_file_has(alloc: Global, root: &Text, path: &[u8], what: &str) -> Option<String> {
+    let path = joined(alloc, root, path).ok()?;
+    let line = file_has(alloc, &path, what);
     drop(path);
     line
 }
 
 /// The file of the tree that has too many bytes: the first in the order in which they are read.
-fn long_file<R: fs::Files + AllocGlobal + Clone + Drop>(
-    named: &Named<'_, R>,
+fn long_file<F: Files>(
+    alloc: Global,
+    words: &List<Text>,
+    files: &mut F,
     number: u64,
 ) -> Option<String> {
-    let reads_policy = !named.is_form(b"check");
-    if reads_policy && is_long(named, CONTEXTS) {
-        tree_file_has(named, CONTEXTS, FILE_BYTES)
-    } else if reads_policy && is_long(named, ALLOW) {
-        tree_file_has(named, ALLOW, FILE_BYTES)
-    } else if is_long(named, SYSTEM_BUILD) {
-        tree_file_has(named, SYSTEM_BUILD, FILE_BYTES)
-    } else if is_long(named, VENDOR_BUILD) {
-        tree_file_has(named, VENDOR_BUILD, FILE_BYTES)
+    let root = root_of(words)?;
+    let reads_policy = !is_form(words, b"check");
+    if reads_policy && is_long(alloc, files, CONTEXTS) {
+        tree_file_has(alloc, root, CONTEXTS, FILE_BYTES)
+    } else if reads_policy && is_long(alloc, files, ALLOW) {
+        tree_file_has(alloc, root, ALLOW, FILE_BYTES)
+    } else if is_long(alloc, files, SYSTEM_BUILD) {
+        tree_file_has(alloc, root, SYSTEM_BUILD, FILE_BYTES)
+    } else if is_long(alloc, files, VENDOR_BUILD) {
+        tree_file_has(alloc, root, VENDOR_BUILD, FILE_BYTES)
     } else {
-        rc_files(named, Limit::FileBytes, number)
+        rc_files(alloc, root, files, Limit::FileBytes, number)
     }
 }
 
-fn is_long<R: fs::Files + AllocGlobal + Clone + Drop>(named: &Named<'_, R>, path: &[u8]) -> bool {
-    match named.files() {
-        Some(files) => is_too_large(named.alloc(), files, path),
-        None => false,
-    }
+/// Whether a file has more bytes than it may.
+fn is_long<F: Files>(alloc: Global, files: &mut F, path: &[u8]) -> bool {
+    let read = files.read(alloc, path, MOST_FILE_BYTES);
+    matches!(read, Err(ReadRefusal::TooLarge))
 }
 
 /// What the rc files exceed, by loading them once more.
-fn rc_files<R: fs::Files + AllocGlobal + Clone + Drop>(
-    named: &Named<'_, R>,
+fn rc_files<F: Files>(
+    alloc: Global,
+    root: &Text,
+    files: &mut F,
     limit: Limit,
     number: u64,
 ) -> Option<String> {
-    let refusal = load_refusal(named.alloc(), named.files()?)?;
+    let view = boot_props(alloc, files)?;
+    let refusal = load_refusal(alloc, files, view)?;
     let line = match path_in(&refusal, number) {
-        Some(path) => rc_line(named, path, limit, number),
+        Some(path) => rc_line(alloc, root, path, limit, number),
         None => None,
     };
     drop(refusal);
     line
 }
 
-/// The path at which a limit is exceeded, where this number is found.
+/// The properties that the build files set, by which imports are expanded.
+fn boot_props<F: Files>(alloc: Global, files: &mut F) -> Option<ListStore> {
+    let props = read_build_files(alloc, files).ok()?;
+    let view = boot_view(alloc, &props.pairs).ok();
+    drop(props);
+    view
+}
+
+/// Why the rc files can't be loaded, if so.
+fn load_refusal<F: Files, S: PropStore + Drop>(
+    alloc: Global,
+    files: &mut F,
+    mut view: S,
+) -> Option<LoadRefusal> {
+    diagnose(alloc, files, &mut view).err()
+}
+
+/// The path at which a limit is exceeded, if this number is found there.
 fn path_in(refusal: &LoadRefusal, wanted: u64) -> Option<&[u8]> {
     match refusal {
         LoadRefusal::TooLarge { path, number, .. } | LoadRefusal::TooMany { path, number } => {
@@ -103,14 +127,9 @@ fn path_in(refusal: &LoadRefusal, wanted: u64) -> Option<&[u8]> {
     }
 }
 
-fn rc_line<R: fs::Files + AllocGlobal + Clone + Drop>(
-    named: &Named<'_, R>,
-    path: &[u8],
-    limit: Limit,
-    number: u64,
-) -> Option<String> {
-    let path = named.below(path)?;
-    let line = passed_line(named.alloc(), &path, limit, number);
+fn rc_line(alloc: Global, root: &Text, path: &[u8], limit: Limit, number: u64) -> Option<String> {
+    let path = joined(alloc, root, path).ok()?;
+    let line = passed_line(alloc, &path, limit, number);
     drop(path);
     line
 }

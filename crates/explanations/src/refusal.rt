@@ -4,16 +4,19 @@ ghost use Rattle.std.specs.Prelude.{◌≤◌, length};
 
 use crate::limits::too_large;
 use crate::line::{cause_of, file_line};
-use crate::named::Named;
+use crate::named::{
+    Named, file_or, is_form, joined, root_of, script_of, script_text, text_or, trace_of, with_path,
+};
 use crate::verdict::{bad_trace, bad_verdict};
-use init_base::Text;
+use init_base::{Files, Keeper, Source, Text};
 use job_reader::Status;
+use persist_disk::{Disk, LateKeeper, OpenRefusal};
 use refusal_causes::{ContextCause, allow_cause, context_cause, script_cause, store_cause};
 use std::alloc::Global;
-use std::{fmt, fs};
-use tree_store::IMAGE;
+use std::fmt;
+use tree_store::{IMAGE, TEXT};
 
-const MOST_SCRIPT_BYTES: usize = 16_777_216;
+const MOST_STORE_BYTES: usize = 33_554_432;
 
 const MOST_SLOT_BYTES: u64 = 33_554_432;
 
@@ -52,52 +55,71 @@ impl fmt::Display for BadSlot {
 }
 
 /// What is wrong with the image of the store, if it is no store.
-pub fn image_line<R: fs::Files + AllocGlobal + Clone + Drop>(
-    named: &Named<'_, R>,
+pub fn image_line<F, S, T, D: Disk, P: Keeper>(
+    alloc: Global,
+    named: &mut Named<'_, F, S, T, D, P>,
 ) -> Option<String> {
-    let (slot, len) = named.bad_slot()?;
-    let path = named.below(IMAGE)?;
-    let line = file_line(named.alloc(), &path, &BadSlot { slot, len });
+    let root = root_of(named.words)?;
+    let bad = bad_slot_of(&mut named.store)?;
+    let path = joined(alloc, root, IMAGE).ok()?;
+    let line = file_line(alloc, &path, &bad);
     drop(path);
     line
 }
 
-/// What is wrong if the status is a refusal of what was read, or if the verdict that was written isn't yes.
-pub fn cause_line<R: fs::Files + AllocGlobal + Clone + Drop>(
-    named: &Named<'_, R>,
-    status: Status,
-    wrote: &[u8],
-) -> Option<String> {
-    match status {
-        Status::Done if named.is_form(b"audit") => bad_verdict(named, wrote),
-        Status::BadTrace => bad_trace(named),
-        Status::BadScript { line } => bad_script(named, line),
-        Status::BadPolicy { allow: false, line } => bad_contexts(named, line),
-        Status::BadPolicy { allow: true, line } => bad_allow(named, line),
-        Status::BadStore { line, .. } => bad_store(named, line),
-        Status::TooLarge { limit, number } => too_large(named, limit, number),
+fn bad_slot_of<D: Disk, P: Keeper>(store: &mut LateKeeper<D, P>) -> Option<BadSlot> {
+    match store.look() {
+        Err(OpenRefusal::BadSlot { slot, len }) => Some(BadSlot { slot, len }),
         _ => None,
     }
 }
 
-fn bad_script<R: fs::Files + AllocGlobal + Clone + Drop>(
-    named: &Named<'_, R>,
-    line: u32,
+/// What is wrong if the status is a refusal of what was read, or if the verdict that was written isn't yes.
+pub fn cause_line<F: Files, S: Source, T: Source, D: Disk, P: Keeper>(
+    alloc: Global,
+    named: &mut Named<'_, F, S, T, D, P>,
+    status: Status,
+    wrote: &[u8],
 ) -> Option<String> {
-    let path = named.script()?;
-    let text = named.text_at(path, MOST_SCRIPT_BYTES)?;
-    let cause = script_cause(named.alloc(), text.bytes(), line);
-    drop(text);
-    cause_of(named.alloc(), path, line, cause)
+    let words = named.words;
+    match status {
+        Status::Done if is_form(words, b"audit") => bad_verdict(alloc, named, wrote),
+        Status::BadTrace => bad_trace(alloc, trace_of(words)?, &mut named.trace),
+        Status::BadScript { line } => {
+            bad_script(alloc, script_of(words)?, &mut named.script, line)
+        }
+        Status::BadPolicy { allow: false, line } => {
+            bad_contexts(alloc, root_of(words)?, &mut named.files, line)
+        }
+        Status::BadPolicy { allow: true, line } => {
+            bad_allow(alloc, root_of(words)?, &mut named.files, line)
+        }
+        Status::BadStore { line, .. } => {
+            bad_store(alloc, root_of(words)?, &mut named.store, line)
+        }
+        Status::TooLarge { limit, number } => {
+            too_large(alloc, words, &mut named.files, limit, number)
+        }
+        _ => None,
+    }
 }
 
-fn bad_contexts<R: fs::Files + AllocGlobal + Clone + Drop>(
-    named: &Named<'_, R>,
+fn bad_script<S: Source>(
+    alloc: Global,
+    path: &Text,
+    script: &mut Option<S>,
     line: u32,
 ) -> Option<String> {
-    let file = named.file_or(CONTEXTS, DEFAULT_CONTEXTS)?;
-    let cause = context_cause(named.alloc(), file.text.bytes(), line);
-    let said = contexts_line(named.alloc(), &file.path, line, cause);
+    let text = script_text(alloc, script)?;
+    let cause = script_cause(alloc, text.bytes(), line);
+    drop(text);
+    cause_of(alloc, path, line, cause)
+}
+
+fn bad_contexts<F: Files>(alloc: Global, root: &Text, files: &mut F, line: u32) -> Option<String> {
+    let file = file_or(alloc, root, files, CONTEXTS, DEFAULT_CONTEXTS)?;
+    let cause = context_cause(alloc, file.text.bytes(), line);
+    let said = contexts_line(alloc, &file.path, line, cause);
     drop(file);
     said
 }
@@ -115,38 +137,41 @@ fn contexts_line<E: Drop>(
     }
 }
 
-fn bad_allow<R: fs::Files + AllocGlobal + Clone + Drop>(
-    named: &Named<'_, R>,
-    line: u32,
-) -> Option<String> {
-    let contexts = named.text_or(CONTEXTS, DEFAULT_CONTEXTS)?;
-    let said = allow_line(named, contexts.bytes(), line);
+fn bad_allow<F: Files>(alloc: Global, root: &Text, files: &mut F, line: u32) -> Option<String> {
+    let contexts = text_or(alloc, files, CONTEXTS, DEFAULT_CONTEXTS)?;
+    let said = allow_line(alloc, root, files, contexts.bytes(), line);
     drop(contexts);
     said
 }
 
 /// The cause of a bad line of the allow text, beside these contexts.
-fn allow_line<R: fs::Files + AllocGlobal + Clone + Drop>(
-    named: &Named<'_, R>,
+fn allow_line<F: Files>(
+    alloc: Global,
+    root: &Text,
+    files: &mut F,
     contexts: &[u8],
     line: u32,
 ) -> Option<String>
     requires { length contexts.now ≤ 1048576 }
 {
-    let file = named.file_or(ALLOW, b"")?;
-    let cause = allow_cause(named.alloc(), contexts, file.text.bytes(), line);
-    let said = cause_of(named.alloc(), &file.path, line, cause);
+    let file = file_or(alloc, root, files, ALLOW, b"")?;
+    let cause = allow_cause(alloc, contexts, file.text.bytes(), line);
+    let said = cause_of(alloc, &file.path, line, cause);
     drop(file);
     said
 }
 
-fn bad_store<R: fs::Files + AllocGlobal + Clone + Drop>(
-    named: &Named<'_, R>,
+fn bad_store<D: Disk, P: Keeper>(
+    alloc: Global,
+    root: &Text,
+    store: &mut LateKeeper<D, P>,
     line: u32,
 ) -> Option<String> {
-    let file = named.stored()?;
-    let cause = store_cause(named.alloc(), file.text.bytes(), line);
-    let said = cause_of(named.alloc(), &file.path, line, cause);
+    let text = store.load(alloc, MOST_STORE_BYTES).ok()?;
+    let path = if store.store().is_open() { IMAGE } else { TEXT };
+    let file = with_path(text, joined(alloc, root, path))?;
+    let cause = store_cause(alloc, file.text.bytes(), line);
+    let said = cause_of(alloc, &file.path, line, cause);
     drop(file);
     said
 }

@@ -2,27 +2,23 @@
 
 use crate::entry::bad_entry;
 use crate::line::place_line;
-use crate::named::Named;
-use init_base::{List, NoMemory, SteadySink, Text, both};
+use crate::named::{Named, script_text, trace_of, trace_text};
+use init_base::{Files, Keeper, List, NoMemory, Source, SteadySink, Text, both};
 use init_machine::{ClientPart, Diagnostic, Report};
 use init_trace::{print, print_diagnostics};
-use script_lang::Client;
+use job_reader::diagnose;
+use persist_disk::Disk;
+use script_lang::{Client, Script, read};
 use std::alloc::Global;
-use std::fs;
 use trace_audit::Why;
 use trace_causes::{LineFault, Place, TextFault, client_line, entry_line, fault_in, line_at};
 
-const MOST_TRACE_BYTES: usize = 67_108_864;
-
 /// What is wrong with a trace that is no report's text.
-pub fn bad_trace<R: fs::Files + AllocGlobal + Clone + Drop>(
-    named: &Named<'_, R>,
-) -> Option<String> {
-    let path = named.trace()?;
-    let text = named.text_at(path, MOST_TRACE_BYTES)?;
-    let fault = fault_in(named.alloc(), text.bytes());
+pub fn bad_trace<T: Source>(alloc: Global, path: &Text, trace: &mut Option<T>) -> Option<String> {
+    let text = trace_text(alloc, trace)?;
+    let fault = fault_in(alloc, text.bytes());
     drop(text);
-    fault_line(named.alloc(), path, fault.ok()??)
+    fault_line(alloc, path, fault.ok()??)
 }
 
 fn fault_line(alloc: Global, path: &Text, fault: TextFault) -> Option<String> {
@@ -37,14 +33,15 @@ fn fault_line(alloc: Global, path: &Text, fault: TextFault) -> Option<String> {
 }
 
 /// What a trace has, and what it should have, if a verdict of this text isn't yes.
-pub fn bad_verdict<R: fs::Files + AllocGlobal + Clone + Drop>(
-    named: &Named<'_, R>,
+pub fn bad_verdict<F: Files, S: Source, T: Source, D: Disk, P: Keeper>(
+    alloc: Global,
+    named: &mut Named<'_, F, S, T, D, P>,
     verdict: &[u8],
 ) -> Option<String> {
     let (why, number) = verdict_in(verdict)?;
-    let path = named.trace()?;
-    let text = named.text_at(path, MOST_TRACE_BYTES)?;
-    let line = verdict_line(named, path, text.bytes(), why, number);
+    let path = trace_of(named.words)?;
+    let text = trace_text(alloc, &mut named.trace)?;
+    let line = verdict_line(alloc, named, path, text.bytes(), why, number);
     drop(text);
     line
 }
@@ -71,22 +68,36 @@ fn why_of(name: &str) -> Option<Why> {
     }
 }
 
-fn verdict_line<R: fs::Files + AllocGlobal + Clone + Drop>(
-    named: &Named<'_, R>,
+fn verdict_line<F: Files, S: Source, T, D: Disk, P: Keeper>(
+    alloc: Global,
+    named: &mut Named<'_, F, S, T, D, P>,
     path: &Text,
     text: &[u8],
     why: Why,
     number: u64,
 ) -> Option<String> {
-    let alloc = named.alloc();
     match why {
-        Why::Diagnostics => bad_diagnostic(named, path, number),
-        Why::Clients => bad_client(named, path, client_line(text, number)?, number),
+        Why::Diagnostics => bad_diagnostic(alloc, &mut named.files, path, number),
+        Why::Clients => {
+            let line = client_line(text, number)?;
+            bad_client(alloc, &mut named.script, path, line, number)
+        }
         Why::Merge => {
             let line = entry_line(text, number)?;
             said_at(alloc, path, line, "no actor of the script has this next")
         }
-        Why::Legal => bad_entry(alloc, named.job()?, path, text, number),
+        Why::Legal => {
+            let script = script_text(alloc, &mut named.script)?;
+            bad_entry(
+                alloc,
+                &mut named.files,
+                script,
+                &mut named.store,
+                path,
+                text,
+                number,
+            )
+        }
         Why::Readings => {
             let line = client_line(text, number)?;
             said_at(alloc, path, line, "this client can't have read this")
@@ -99,14 +110,15 @@ fn said_at(alloc: Global, path: &Text, line: u64, said: &str) -> Option<String> 
 }
 
 /// The diagnostic that should be in a place.
-fn bad_diagnostic<R: fs::Files + AllocGlobal + Clone + Drop>(
-    named: &Named<'_, R>,
+fn bad_diagnostic<F: Files>(
+    alloc: Global,
+    files: &mut F,
     path: &Text,
     number: u64,
 ) -> Option<String> {
-    let job = named.job()?;
-    let line = diagnostic_due(named.alloc(), &job.setup.diagnostics, path, number);
-    drop(job);
+    let diagnostics = diagnose(alloc, files).ok()?;
+    let line = diagnostic_due(alloc, &diagnostics, path, number);
+    drop(diagnostics);
     line
 }
 
@@ -135,33 +147,49 @@ fn diagnostic_in(alloc: Global, page: &[u8], path: &Text, number: u64) -> Option
 }
 
 /// The client that should be in a place.
-fn bad_client<R: fs::Files + AllocGlobal + Clone + Drop>(
-    named: &Named<'_, R>,
+fn bad_client<S: Source>(
+    alloc: Global,
+    script: &mut Option<S>,
     path: &Text,
     line: u64,
     number: u64,
 ) -> Option<String> {
-    let alloc = named.alloc();
-    let job = named.job()?;
-    let report = report_of(alloc, job.script.clients.items());
-    drop(job);
-    client_due(alloc, report?, path, line, number)
+    let text = script_text(alloc, script)?;
+    let script = read(alloc, text.bytes()).ok();
+    drop(text);
+    client_due(alloc, script?, path, line, number)
 }
 
-/// A report of a script's clients alone, with no readings.
-fn report_of(alloc: Global, clients: &[Client]) -> Option<Report> {
+/// The client of a script that should be in a place.
+fn client_due(
+    alloc: Global,
+    script: Script,
+    path: &Text,
+    line: u64,
+    number: u64,
+) -> Option<String> {
+    let page = heads_of(alloc, script.clients.items());
+    drop(script);
+    let page = page?;
+    let wanted = line_at(page.taken(), number.saturating_add(1));
+    let said = place_line(alloc, path, &Place { line, wanted }, "");
+    drop(page);
+    said
+}
+
+/// The text of a report of a script's clients alone, with no readings.
+fn heads_of(alloc: Global, clients: &[Client]) -> Option<SteadySink> {
     let mut report = Report {
         diagnostics: List::new(alloc),
         history: List::new(alloc),
         clients: List::new(alloc),
     };
-    match add_clients(alloc, &mut report.clients, clients) {
-        Ok(()) => Some(report),
-        Err(NoMemory) => {
-            drop(report);
-            None
-        }
-    }
+    let page = match add_clients(alloc, &mut report.clients, clients) {
+        Ok(()) => page_of(alloc, &report),
+        Err(NoMemory) => None,
+    };
+    drop(report);
+    page
 }
 
 fn add_clients(
@@ -184,24 +212,13 @@ fn part_of(alloc: Global, client: &Client) -> Result<ClientPart, NoMemory> {
     })
 }
 
-/// The head of a report's client that should be in a place.
-fn client_due(
-    alloc: Global,
-    report: Report,
-    path: &Text,
-    line: u64,
-    number: u64,
-) -> Option<String> {
+fn page_of(alloc: Global, report: &Report) -> Option<SteadySink> {
     let mut page = SteadySink::new(alloc);
-    let printed = print(alloc, &report, &mut page);
-    drop(report);
-    let due = match printed {
-        Ok(()) => {
-            let wanted = line_at(page.taken(), number.saturating_add(1));
-            place_line(alloc, path, &Place { line, wanted }, "")
+    match print(alloc, report, &mut page) {
+        Ok(()) => Some(page),
+        Err(_) => {
+            drop(page);
+            None
         }
-        Err(_) => None,
-    };
-    drop(page);
-    due
+    }
 }

@@ -18,6 +18,7 @@ use init_base::{Fault, Keeper, List, NoMemory, Source, StdFiles, StdSink, StdSou
 use init_forms::{OpenGate, Status, initsim};
 use noting::Noting;
 use standard::hold_closed;
+use std::fs;
 use std::process::ExitCode;
 use std::sync::Wait;
 use std::thread::Threads;
@@ -124,14 +125,65 @@ fn tell_end(
 ) {
     let fault = fault_behind(status, outside, &out.sink);
     let _ = tell(rt, status, fault);
-    let named = Named { rt, words };
-    if fault.is_none() && outside.keeper.faults() > 0 {
-        tell_line(rt, image_line(&named));
+    let is_image_bad = fault.is_none() && outside.keeper.faults() > 0;
+    if is_image_bad || has_cause(status, out.first()) {
+        tell_cause(rt, status, words, out.first(), is_image_bad);
     }
-    tell_line(rt, cause_line(&named, status, out.first()));
     if status == Status::Usage {
         let _ = tell_usage(rt, words);
     }
+}
+
+/// Whether there may be more to say: after a refusal of what was read, and after a verdict that isn't yes.
+fn has_cause(status: Status, wrote: &[u8]) -> bool {
+    match status {
+        Status::Done => wrote.starts_with(b"no "),
+        Status::Usage | Status::ReadFault | Status::WriteFault | Status::NoMemory => false,
+        _ => true,
+    }
+}
+
+/// Prints what is wrong in what the words name. It is read once more.
+fn tell_cause(
+    rt: &HostRuntime,
+    status: Status,
+    words: &List<Text>,
+    wrote: &[u8],
+    is_image_bad: bool,
+) {
+    let Ok(outside) = outside_of(rt, words) else {
+        return;
+    };
+    let mut named = Named {
+        words,
+        files: outside.files,
+        script: only_if(is_plain_file(rt, words, 2), outside.script),
+        trace: only_if(is_plain_file(rt, words, 3), outside.trace),
+        store: outside.keeper,
+    };
+    if is_image_bad {
+        tell_line(rt, image_line(rt.alloc(), &mut named));
+    }
+    tell_line(rt, cause_line(rt.alloc(), &mut named, status, wrote));
+}
+
+/// Whether a word is the path of a plain file.
+fn is_plain_file(rt: &HostRuntime, words: &List<Text>, at: usize) -> bool {
+    let Some(word) = words.at(at) else {
+        return false;
+    };
+    let Ok(path) = std::str::from_utf8(word.bytes()) else {
+        return false;
+    };
+    match fs::metadata(rt, path) {
+        Ok(found) => found.is_file(),
+        Err(_) => false,
+    }
+}
+
+/// A value, where it is wanted. Else it ends here.
+fn only_if<T: Drop>(is_wanted: bool, value: T) -> Option<T> {
+    if is_wanted { Some(value) } else { None }
 }
 
 /// Prints a second line, where there is one.

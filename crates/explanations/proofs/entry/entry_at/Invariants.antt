@@ -1,4 +1,4 @@
-use Rattle.explanations.proofs.entry.page_among.Given as goal
+use Rattle.explanations.proofs.entry.entry_at.Given as goal
 
 -- the machine declares as many clients as before
 abbrev pub invariant-loop : goal.invariant-loop
