@@ -18,7 +18,7 @@ use trace_causes::{entry_line, first_difference, lines_from};
 use trace_reader::{Piece, Pieces};
 
 /// The machine with its list of outputs.
-type Machine = Core<ListStore, List<Output>>;
+pub type Machine = Core<ListStore, List<Output>>;
 
 /// A machine that knows so many clients, and takes the inputs of a trace. It is lent by this bound and ends by it, so that no other proof
 /// has to do with its parts.
@@ -76,23 +76,23 @@ impl Entries for Pieces<'_> {
     }
 }
 
-/// The line that should be in the entry with a number, of a run of this script over these files and this store.
-pub fn bad_entry<F: Files, P: Keeper>(
+/// The line that should be in the entry with a number, of a machine that knows so many clients.
+pub fn bad_entry(
     alloc: Global,
-    files: &mut F,
-    script: Text,
-    keeper: &mut P,
+    machine: Option<(Machine, usize)>,
     path: &Text,
     text: &[u8],
     number: u64,
-) -> Option<String> {
-    let (machine, clients) = machine_of(alloc, files, script, keeper)?;
+) -> Option<String>
+    requires { IfSome machine (λ opened. length opened.0.config.domains ≡ opened.1) }
+{
+    let (machine, clients) = machine?;
     line_due(alloc, machine, clients, path, text, number)
 }
 
 /// The machine in its first state, and how many clients it knows. Its store comes before all else, so that nothing larger ends for want
 /// of memory.
-fn machine_of<F: Files, P: Keeper>(
+pub fn machine_of<F: Files, P: Keeper>(
     alloc: Global,
     files: &mut F,
     script: Text,

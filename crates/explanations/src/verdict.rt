@@ -1,6 +1,6 @@
 //! After a bad trace, and after a verdict that isn't yes: the place in the trace, and what should be there.
 
-use crate::entry::bad_entry;
+use crate::entry::{bad_entry, machine_of};
 use crate::line::place_line;
 use crate::named::{Named, script_text, trace_of, trace_text};
 use init_base::{Files, Keeper, List, NoMemory, Source, SteadySink, Text, both};
@@ -88,15 +88,8 @@ fn verdict_line<F: Files, S: Source, T, D: Disk, P: Keeper>(
         }
         Why::Legal => {
             let script = script_text(alloc, &mut named.script)?;
-            bad_entry(
-                alloc,
-                &mut named.files,
-                script,
-                &mut named.store,
-                path,
-                text,
-                number,
-            )
+            let machine = machine_of(alloc, &mut named.files, script, &mut named.store);
+            bad_entry(alloc, machine, path, text, number)
         }
         Why::Readings => {
             let line = client_line(text, number)?;
