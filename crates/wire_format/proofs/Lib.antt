@@ -6,3 +6,4 @@ pub mod Fronts
 pub mod Tails
 pub mod Feedings
 pub mod Joining
+pub mod Spellings

@@ -15,6 +15,6 @@ mod word;
 
 pub use encoding::encode;
 pub use feeder::Feeder;
-pub use laws::{each_stream_has_one_reading, pieces_join};
+pub use laws::{each_stream_has_one_reading, lengths_give_places, messages_are_spelled, pieces_join, spellings_are_read};
 pub use message::{Message, Rest};
 pub use refusal::FeedRefusal;
