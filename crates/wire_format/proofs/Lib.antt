@@ -7,3 +7,5 @@ pub mod Tails
 pub mod Feedings
 pub mod Joining
 pub mod Spellings
+pub mod Encodings
+pub mod Readings

@@ -29,7 +29,7 @@ word_read before word more at number starts is =
     let len : length word ≡ 4 = is.len in
     ap (λ l. from_le_bytes w32 l) (part_read before word more at (at + 4) starts (omega arith)) ∙ is.is
 
-abbrev message_of : Bool → List ℕ → List ℕ → Message
+abbrev pub message_of : Bool → List ℕ → List ℕ → Message
 message_of second name value = record { second = second; name = name; value = value }
 
 pub same_message : (message other : Message) → message.second ≡ other.second → message.name ≡ other.name → message.value ≡ other.value → message ≡ other
