@@ -1,9 +1,7 @@
 -- What `encode` gives is a spelling, and the only one of form two.
-use Rattle.std.proofs.Common.{◌≡◌, ℕ, zero, suc, ◌+◌, ◌-◌, ◌<◌, ◌≤◌, ◌^◌, Bool, true, false, cond, ◌==◌, nat_le, nat_lt, not, ◌&&◌, if◌then◌else◌, List, [], ◌∷◌, ◌++◌, length, take, replicate, get_or, Option, Some, None, inl, inr, refl, ap, sym, subst, ◌∙◌, arith, length-append, one-add}
-use Rattle.std.specs.Bool.{MatchBool}
-use Rattle.std.specs.Int.{w32, to_le_bytes}
+use Rattle.std.proofs.Common.{◌≡◌, ℕ, zero, suc, ◌+◌, ◌-◌, ◌<◌, ◌≤◌, ◌^◌, Bool, true, false, cond, ◌==◌, nat_le, nat_lt, not, List, [], ◌∷◌, ◌++◌, length, take, replicate, get_or, Some, None, inl, inr, refl, ap, sym, subst, ◌∙◌, arith, length-append, one-add}
 use Rattle.std.specs.List.{before_first, list_any}
-use Rattle.std.proofs.lemmas.Bool.{and_from, and_parts, cases_Bool, cases_lt, cond-true, le-leb, leb-true, ltb-true, not-true, or_parts, MatchBool-at_true}
+use Rattle.std.proofs.lemmas.Bool.{and_from, and_parts, cases_lt, cond-true, le-leb, leb-true, ltb-true, not-true, or_parts, MatchBool-at_true}
 use Rattle.std.proofs.lemmas.List.{append_assoc, get_or-append-add, get_or_append_left, get_or_past, length-replicate, replicate_more, take_at}
 use Rattle.std.proofs.lemmas.Nat.{from_le_bytes-to_le_bytes_4, le_bytes_4}
 use Rattle.wire_format.specs.Format.{behind_length, encoded, field_text, first, fits_field, fits_form, is_zero, message_bytes, padded, second, word_bytes}

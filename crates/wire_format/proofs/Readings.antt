@@ -1,11 +1,10 @@
 -- What is read is spelled.
-use Rattle.std.proofs.Common.{◌≡◌, ℕ, ◌+◌, ◌-◌, ◌<◌, ◌≤◌, Bool, true, false, nat_lt, ◌==◌, List, [], ◌∷◌, ◌++◌, length, take, drop, slice_range, min, refl, ap, sym, subst, ◌∙◌, arith, length-append, sum_by}
+use Rattle.std.proofs.Common.{◌≡◌, ℕ, ◌+◌, ◌-◌, ◌≤◌, nat_lt, ◌==◌, List, [], ◌∷◌, ◌++◌, length, drop, slice_range, refl, ap, sym, subst, ◌∙◌, arith, length-append, sum_by}
 use Rattle.std.specs.Bool.{⊤}
-use Rattle.std.specs.Int.{w32, from_le_bytes}
 use Rattle.std.proofs.lemmas.Bool.{cond_both, eqb-true, ltb-false}
 use Rattle.std.proofs.lemmas.List.{append_assoc, drop-drop, length-drop, length-take-le, take-append-drop}
 use Rattle.std.proofs.lemmas.List.Sums.{sum_by-cons}
-use Rattle.wire_format.specs.Format.{field_text, first, second, word_from}
+use Rattle.wire_format.specs.Format.{first, second, word_from}
 use Rattle.wire_format.specs.Spelling.{message_len, IsWord, Spells, SpellsAll, SpellsFirst, SpellsSecond}
 use Rattle.wire_format.specs.Wire.{first_message, first_shape, front_by, front_of, second_message, second_shape, shape_by, shape_of, value_shape, whole, BeginsWith, IsThere}
 use Rattle.wire_format.specs.declared.message.Message.{Message}

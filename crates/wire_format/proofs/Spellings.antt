@@ -1,15 +1,13 @@
 -- What is spelled is read.
-use Rattle.std.proofs.Common.{◌≡◌, ℕ, ◌+◌, ◌-◌, ◌<◌, ◌≤◌, Bool, true, false, cond, nat_lt, ◌==◌, List, [], ◌∷◌, ◌++◌, length, take, drop, slice_range, if◌then◌else◌, refl, ap, sym, ◌∙◌, arith, length-append}
+use Rattle.std.proofs.Common.{◌≡◌, ℕ, ◌+◌, ◌-◌, ◌≤◌, Bool, true, false, List, [], ◌∷◌, ◌++◌, length, take, drop, slice_range, if◌then◌else◌, refl, ap, sym, ◌∙◌, arith, length-append}
 use Rattle.std.specs.Bool.{MatchBool}
 use Rattle.std.specs.Int.{w32, from_le_bytes}
-use Rattle.std.proofs.lemmas.Bool.{le-ltb}
 use Rattle.std.proofs.lemmas.Bool.Decides.{nat_tests}
 use Rattle.std.proofs.lemmas.List.{append_assoc, drop_at, take_at}
 use Rattle.wire_format.specs.Format.{field_text, first, second, word_from}
 use Rattle.wire_format.specs.Spelling.{message_len, IsWord, Spells, SpellsAll, SpellsFirst, SpellsSecond}
 use Rattle.wire_format.specs.Wire.{first_message, front_by, front_of, second_message, shape_by, shape_of, whole, BeginsWith}
 use Rattle.wire_format.specs.declared.message.Message.{Message}
-use Rattle.wire_format.specs.declared.shape.Shape.{Shape}
 use Rattle.wire_format.specs.declared.shape.Shape.TheVariants as shape
 
 -- ---- parts of joined bytes
