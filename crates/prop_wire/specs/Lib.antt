@@ -1,0 +1,3 @@
+pub mod Refusals
+pub mod Reply
+pub mod impl_laws
