@@ -1,3 +1,5 @@
+pub mod Limit
 pub mod Refusals
 pub mod Reply
 pub mod impl_laws
+pub mod internal

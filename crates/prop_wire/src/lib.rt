@@ -3,8 +3,11 @@
 //! `specs/Serving.antt`.
 #![tactic(auto)]
 
+mod piece;
 mod refusal;
 mod reply;
+mod stream;
 
 pub use refusal::WireRefusal;
 pub use reply::{LastReply, Reply};
+pub use stream::MAX_STREAM;
