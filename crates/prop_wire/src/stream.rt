@@ -3,10 +3,10 @@
 ghost use Rattle.std.specs.Prelude.{◌≡◌, ◌+◌, ◌≤◌, ◌++◌, [], length, Ok, Err, true, false, IfOk, if◌then◌else◌, ◌==◌};
 ghost use Rattle.init_base.specs.Faults.{Counted};
 ghost use Rattle.wire_format.specs.Feeding.{tail};
-ghost use Rattle.wire_format.specs.declared.message.Message.{Message as Sent};
+ghost use Rattle.wire_format.specs.Spelling.{message_len};
 ghost use Rattle.prop_wire.specs.Limit.{max_stream};
 ghost use Rattle.prop_wire.specs.Refusals.{is_read_fault};
-ghost use Rattle.prop_wire.specs.internal.Streams.{DrawsPiece, IsTail, ReadsPiece, message_len, tail_of, total_len};
+ghost use Rattle.prop_wire.specs.internal.Streams.{DrawsPiece, IsTail, ReadsPiece, tail_of, total_len};
 
 use crate::piece::{MAX_PIECE, Piece};
 use crate::refusal::WireRefusal;

@@ -2,6 +2,7 @@
 use Rattle.std.specs.Prelude.{◌≡◌, ℕ, ◌+◌, ◌<◌, ◌≤◌, ⊤, Bool, true, false, List, [], length, sum_by, Option, Some, None, Result, Ok, Err, if◌then◌else◌}
 use Rattle.std.specs.Io.KnownBytes.{Consumes, IsAtEnd, Keeps}
 use Rattle.wire_format.specs.Feeding.{LeavesTail, Feeding, over, tail}
+use Rattle.wire_format.specs.Spelling.{message_len}
 use Rattle.wire_format.specs.Wire.{Wire}
 use Rattle.wire_format.specs.declared.message.Message.{Message}
 use Rattle.wire_format.specs.declared.message.Rest.{Rest}
@@ -14,9 +15,7 @@ use Rattle.prop_wire.specs.declared.reply.Reply.TheVariants as reply
 use Rattle.prop_wire.specs.declared.stream.Bad.{Bad}
 use Rattle.prop_wire.specs.declared.stream.Bad.TheVariants as bad
 
-abbrev pub message_len : Message → ℕ
-message_len message = if message.second then 12 + length message.name + length message.value else 128
-
+-- the bytes of whole messages
 abbrev pub total_len : List Message → ℕ
 total_len messages = sum_by message_len messages
 
