@@ -1,9 +1,10 @@
 -- What a set is replied (bionic's protocol of the property socket).
-use Rattle.std.specs.Prelude.{ℕ, List, [], ◌∷◌, Option, Some, None, option_and_then}
+use Rattle.std.specs.Prelude.{ℕ, List, [], Option, Some, None}
 use Rattle.init_machine.specs.declared.output.Output.{Output}
 use Rattle.init_machine.specs.declared.output.Output.TheVariants as output
 use Rattle.init_machine.specs.declared.output.SetRefusal.{SetRefusal}
 use Rattle.init_machine.specs.declared.output.SetRefusal.TheVariants as why
+use Rattle.wire_format.specs.Format.{word_bytes}
 use Rattle.prop_wire.specs.declared.reply.Reply.{Reply}
 use Rattle.prop_wire.specs.declared.reply.Reply.TheVariants as reply
 
@@ -17,6 +18,11 @@ word_of reply.PermissionDenied = 0x18
 word_of reply.InvalidCommand = 0x1b
 word_of reply.HandleControlMessage = 0x20
 word_of reply.SetFailed = 0x24
+
+-- the bytes of a reply
+abbrev pub reply_bytes : Option Reply → List ℕ
+reply_bytes None = []
+reply_bytes (Some one) = word_bytes (word_of one)
 
 -- the reply to a set that is refused; the machine refuses none by the last two
 abbrev pub refusal_reply : SetRefusal → Option Reply

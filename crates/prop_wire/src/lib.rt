@@ -6,6 +6,7 @@
 mod piece;
 mod refusal;
 mod reply;
+mod replying;
 mod stream;
 
 pub use refusal::WireRefusal;

@@ -1,6 +1,7 @@
 -- How far a stream of messages is read.
 use Rattle.std.specs.Prelude.{◌≡◌, ℕ, ◌+◌, ◌<◌, ◌≤◌, ⊤, Bool, true, false, List, [], length, sum_by, Option, Some, None, Result, Ok, Err, if◌then◌else◌}
-use Rattle.std.specs.Io.KnownBytes.{Consumes, IsAtEnd, Keeps}
+use Rattle.std.specs.Io.KnownBytes.{append_known, Consumes, IsAtEnd, Keeps}
+use Rattle.init_trace.specs.Written.{TakesFront}
 use Rattle.wire_format.specs.Feeding.{LeavesTail, Feeding, over, tail}
 use Rattle.wire_format.specs.Spelling.{message_len}
 use Rattle.wire_format.specs.Wire.{Wire}
@@ -8,6 +9,7 @@ use Rattle.wire_format.specs.declared.message.Message.{Message}
 use Rattle.wire_format.specs.declared.message.Rest.{Rest}
 use Rattle.wire_format.specs.declared.message.Rest.TheVariants as rest
 use Rattle.prop_wire.specs.Limit.{max_stream}
+use Rattle.prop_wire.specs.Reply.{reply_bytes}
 use Rattle.prop_wire.specs.declared.refusal.WireRefusal.{WireRefusal}
 use Rattle.prop_wire.specs.declared.refusal.WireRefusal.TheVariants as refusal
 use Rattle.prop_wire.specs.declared.reply.Reply.{Reply}
@@ -56,3 +58,17 @@ refusal_at (bad.Length len) at = refusal.BadLength at len
 abbrev pub ReadsPiece : List ℕ → List Message → Option Bad → Feeding → Type 0
 ReadsPiece bytes messages None after = (left : List ℕ) × LeavesTail bytes messages left × (after ≡ tail left)
 ReadsPiece bytes messages (Some found) after = Wire bytes messages (rest_of found)
+
+-- ---- something bad
+
+-- the sink took the reply to what is bad, and the stream is refused for it; or a write was refused
+abbrev pub EndsWith : Bad → ℕ → Option (List ℕ) → Option (List ℕ) → WireRefusal → Type 0
+EndsWith found at old new refusal.WriteFault = TakesFront old new (reply_bytes (Some (reply_to found)))
+EndsWith found at old new refusal.NoMemory = TakesFront old new (reply_bytes (Some (reply_to found)))
+EndsWith found at old new why = (why ≡ refusal_at found at) × (new ≡ append_known old (reply_bytes (Some (reply_to found))))
+
+abbrev pub Refuses : {T : Type 0} → Option Bad → ℕ → Option (List ℕ) → Option (List ℕ) → Result T WireRefusal → Type 0
+Refuses None at old new (Ok value) = new ≡ old
+Refuses None at old new (Err why) = ⊥
+Refuses (Some found) at old new (Ok value) = ⊥
+Refuses (Some found) at old new (Err why) = EndsWith found at old new why
