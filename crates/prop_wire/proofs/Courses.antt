@@ -13,8 +13,10 @@ use Rattle.init_trace.proofs.Adding.{takes_nothing, taken_then}
 use Rattle.property_area.specs.Seats.{Seated}
 use Rattle.property_service.specs.Service.{ServiceView}
 use Rattle.wire_format.specs.declared.message.Message.{Message}
+use Rattle.wire_format.specs.declared.message.Rest.{Rest}
+use Rattle.wire_format.specs.declared.message.Rest.TheVariants as rest
 use Rattle.prop_wire.specs.Desk.{SetsMessage}
-use Rattle.prop_wire.specs.Replies.{message_replies, reply_for, set_of}
+use Rattle.prop_wire.specs.Replies.{message_replies, reply_for, rest_reply, set_of}
 use Rattle.prop_wire.specs.Reply.{reply_bytes}
 use Rattle.prop_wire.specs.Serving.{AddsSets, Answers, IsPart, Place, TakesBytes}
 use Rattle.prop_wire.specs.declared.reply.Reply.{Reply}
@@ -51,7 +53,7 @@ replies_at a who messages = message_replies a.desk.opening (inputs_of a.desk.his
 
 -- ---- answers
 
-pub answers_none : (who : ℕ) (messages : List Message) (last : List ℕ) (a : Place) → Answers false who messages last a a
+pub answers_none : (who : ℕ) (messages : List Message) (last : Rest) (a : Place) → Answers false who messages last a a
 answers_none who messages last a = record {
   sets = λ ready. record {
     set = [];
@@ -61,11 +63,11 @@ answers_none who messages last a = record {
     inputs = refl;
     opening = refl;
   };
-  replies = record { written = []; part = (replies_at a who messages ++ last, refl); taken = (takes_nothing a.taken []).taken };
+  replies = record { written = []; part = (replies_at a who messages ++ rest_reply last, refl); taken = (takes_nothing a.taken []).taken };
 }
 
 -- no message is answered by nothing
-pub answers_nothing : (who : ℕ) (a : Place) → Answers true who [] [] a a
+pub answers_nothing : (who : ℕ) (a : Place) → Answers true who [] rest.End a a
 answers_nothing who a = record {
   sets = λ ready. record {
     set = [];
@@ -124,19 +126,19 @@ bytes_then whole first more all a b c is h k =
       taken = taken_then a b c h.written k.written h.taken k.taken;
     }
 
-pub answers_then : (whole : Bool) (who : ℕ) (first more : List Message) (last : List ℕ) (a b c : Place) → Answers true who first [] a b → b.desk.spent ≡ false
+pub answers_then : (whole : Bool) (who : ℕ) (first more : List Message) (last : Rest) (a b c : Place) → Answers true who first rest.End a b → b.desk.spent ≡ false
     → Answers whole who more last b c → Answers whole who (first ++ more) last a c
 answers_then whole who first more last a b c h ready k =
     let sets = h.sets ready in
     let all = replies_behind who first more a b (adds_all who first a.desk b.desk sets) in
-    let joined : replies_at a who first ++ (replies_at b who more ++ last) ≡ replies_at a who (first ++ more) ++ last =
-    sym (append_assoc (replies_at a who first) (replies_at b who more) last) ∙ ap (λ l. l ++ last) (sym all) in record {
+    let joined : replies_at a who first ++ (replies_at b who more ++ rest_reply last) ≡ replies_at a who (first ++ more) ++ rest_reply last =
+    sym (append_assoc (replies_at a who first) (replies_at b who more) last) ∙ ap (λ l. l ++ rest_reply last) (sym all) in record {
       sets = λ now. sets_then whole who first more a.desk b.desk c.desk sets (k.sets now);
-      replies = bytes_then whole (replies_at a who first) (replies_at b who more ++ last) (replies_at a who (first ++ more) ++ last) a.taken b.taken c.taken joined h.replies k.replies;
+      replies = bytes_then whole (replies_at a who first) (replies_at b who more ++ rest_reply last) (replies_at a who (first ++ more) ++ rest_reply last) a.taken b.taken c.taken joined h.replies k.replies;
     }
 
 -- an answer that was cut off is one to more messages that was
-pub answers_more : (who : ℕ) (first more : List Message) (last : List ℕ) (a b : Place) → Answers false who first [] a b → Answers false who (first ++ more) last a b
+pub answers_more : (who : ℕ) (first more : List Message) (last : Rest) (a b : Place) → Answers false who first rest.End a b → Answers false who (first ++ more) last a b
 answers_more who first more last a b h = record {
   sets = λ ready. let sets = h.sets ready in record {
     set = sets.set;
@@ -149,16 +151,16 @@ answers_more who first more last a b h = record {
   replies =
       (let behind = message_replies a.desk.opening (inputs_of a.desk.history ++ map (set_of who) first) who more in
       let all = replies_then a.desk.opening (inputs_of a.desk.history) who first more in
-      let joined : (replies_at a who first ++ []) ++ (behind ++ last) ≡ replies_at a who (first ++ more) ++ last =
-      ap (λ l. l ++ (behind ++ last)) (append-nil (replies_at a who first)) ∙ sym (append_assoc (replies_at a who first) behind last) ∙ ap (λ l. l ++ last) (sym all) in record {
+      let joined : (replies_at a who first ++ []) ++ (behind ++ rest_reply last) ≡ replies_at a who (first ++ more) ++ rest_reply last =
+      ap (λ l. l ++ (behind ++ rest_reply last)) (append-nil (replies_at a who first)) ∙ sym (append_assoc (replies_at a who first) behind last) ∙ ap (λ l. l ++ rest_reply last) (sym all) in record {
         written = h.replies.written;
-        part = subst (λ (l : List ℕ). IsPart false h.replies.written l) joined (part_of_more h.replies.written (replies_at a who first ++ []) (behind ++ last) h.replies.part);
+        part = subst (λ (l : List ℕ). IsPart false h.replies.written l) joined (part_of_more h.replies.written (replies_at a who first ++ []) (behind ++ rest_reply last) h.replies.part);
         taken = h.replies.taken;
       });
 }
 
 -- an answer that is whole is a prefix of itself
-pub answers_part : (who : ℕ) (messages : List Message) (last : List ℕ) (a b : Place) → Answers true who messages last a b → Answers false who messages last a b
+pub answers_part : (who : ℕ) (messages : List Message) (last : Rest) (a b : Place) → Answers true who messages last a b → Answers false who messages last a b
 answers_part who messages last a b h = record {
   sets = λ ready. let sets = h.sets ready in record {
     set = sets.set;
@@ -170,7 +172,7 @@ answers_part who messages last a b h = record {
   };
   replies = record {
     written = h.replies.written;
-    part = part_of_whole h.replies.written (replies_at a who messages ++ last) h.replies.part;
+    part = part_of_whole h.replies.written (replies_at a who messages ++ rest_reply last) h.replies.part;
     taken = h.replies.taken;
   };
 }

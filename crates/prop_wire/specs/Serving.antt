@@ -11,7 +11,7 @@ use Rattle.wire_format.specs.declared.message.Rest.{Rest}
 use Rattle.wire_format.specs.declared.message.Rest.TheVariants as rest
 use Rattle.prop_wire.specs.Desk.{IsSameClient}
 use Rattle.prop_wire.specs.Limit.{max_stream}
-use Rattle.prop_wire.specs.Replies.{message_replies, rest_reply, set_of}
+use Rattle.prop_wire.specs.Replies.{Replies, set_of}
 use Rattle.prop_wire.specs.declared.refusal.WireRefusal.{WireRefusal}
 use Rattle.prop_wire.specs.declared.refusal.WireRefusal.TheVariants as refusal
 
@@ -55,11 +55,11 @@ pub record Place : Type 0 where
 abbrev pub place_of : ServiceView → Option (List ℕ) → Place
 place_of desk taken = record { desk = desk; taken = taken }
 
--- The client's messages were set, and the replies and then this were written; or else prefixes of both. Of a desk that is spent now
--- nothing is said.
-pub record Answers (whole : Bool) (who : ℕ) (messages : List Message) (last : List ℕ) (old new : Place) : Type 0 where
+-- The client's messages were set, and the replies to them and to this rest were written; or else a prefix of each. Of the sets of a desk
+-- that is spent now nothing is said.
+pub record Answers (whole : Bool) (who : ℕ) (messages : List Message) (last : Rest) (old new : Place) : Type 0 where
   pub sets : new.desk.spent ≡ false → AddsSets whole who messages old.desk new.desk
-  pub replies : TakesBytes whole (message_replies old.desk.opening (inputs_of old.desk.history) who messages ++ last) old.taken new.taken
+  pub replies : TakesBytes whole (Replies old.desk.opening (inputs_of old.desk.history) who messages last) old.taken new.taken
 
 -- the answer tells how the stream ends: its messages, the rest, and the place at which the rest begins
 abbrev pub TellsEnd : List Message → Rest → ℕ → Result ℕ WireRefusal → Type 0
@@ -82,7 +82,7 @@ pub record Serves (who : ℕ) (before : ℕ) (bytes : List ℕ) (old new : Place
   pub place : ℕ
   pub place_is : place + length wire.left ≡ before + length bytes
   pub end : TellsEnd messages last place result
-  pub answers : Answers (is_whole result) who messages (rest_reply last) old new
+  pub answers : Answers (is_whole result) who messages last old new
 
 -- the answer tells whether more bytes were held than are served, unless the stream ends by a bad message before
 abbrev pub TellsLimit : List ℕ → Result ℕ WireRefusal → Type 0

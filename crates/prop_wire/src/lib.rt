@@ -3,12 +3,17 @@
 //! `specs/Serving.antt`.
 #![tactic(auto)]
 
+mod answering;
+mod desk;
 mod piece;
 mod refusal;
 mod reply;
 mod replying;
+mod serving;
 mod stream;
 
+pub use desk::WireDesk;
 pub use refusal::WireRefusal;
 pub use reply::{LastReply, Reply};
+pub use serving::serve;
 pub use stream::MAX_STREAM;

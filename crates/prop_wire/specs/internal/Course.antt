@@ -8,6 +8,7 @@ use Rattle.property_area.specs.Seats.{Seated}
 use Rattle.property_service.specs.Service.{DeclaredIn, ServiceView}
 use Rattle.wire_format.specs.Feeding.{LeavesTail, tail}
 use Rattle.wire_format.specs.declared.message.Message.{Message}
+use Rattle.wire_format.specs.declared.message.Rest.TheVariants as rest
 use Rattle.prop_wire.specs.Desk.{IsSameClient, SetsMessage}
 use Rattle.prop_wire.specs.Limit.{max_stream}
 use Rattle.prop_wire.specs.Serving.{Answers, Place, Serves}
@@ -60,7 +61,7 @@ pub record GoesBehind (who : ℕ) (old new : Stream) (a b : Place) : Type 0 wher
   pub whole : new.whole + length left ≡ new.read
   pub count : new.messages ≡ old.messages + length messages
   pub few : new.messages ≤ new.whole
-  pub answers : Answers true who messages [] a b
+  pub answers : Answers true who messages rest.End a b
 
 -- a piece of a stream was answered, or ended it
 abbrev pub AnswersPiece : {T : Type 0} → ℕ → Stream → Stream → Place → Place → Result T WireRefusal → Type 0
