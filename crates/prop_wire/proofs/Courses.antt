@@ -1,5 +1,5 @@
 -- Messages that are answered one after another.
-use Rattle.std.proofs.Common.{◌≡◌, ℕ, Bool, true, false, is_ok, List, [], ◌∷◌, ◌++◌, map, Option, Some, None, Result, Ok, Err, refl, sym, ap, subst, ◌∙◌, append-nil, append_assoc}
+use Rattle.std.proofs.Common.{◌≡◌, ℕ, Bool, true, false, cond, is_ok, List, [], ◌∷◌, ◌++◌, map, Option, Some, None, Result, Ok, Err, refl, sym, ap, subst, ◌∙◌, append-nil, append_assoc}
 use Rattle.std.specs.Io.KnownBytes.{append_known}
 use Rattle.std.proofs.lemmas.List.{map-append}
 use Rattle.init_base.specs.declared.outside.refusal.IoRefusal.{IoRefusal}
@@ -12,13 +12,16 @@ use Rattle.init_trace.specs.Written.{TakesFront, Writes}
 use Rattle.init_trace.proofs.Adding.{takes_nothing, taken_then}
 use Rattle.property_area.specs.Seats.{Seated}
 use Rattle.property_service.specs.Service.{ServiceView}
+use Rattle.property_service.specs.Settings.{set_entry}
+use Rattle.wire_format.specs.Wire.{is_open}
 use Rattle.wire_format.specs.declared.message.Message.{Message}
 use Rattle.wire_format.specs.declared.message.Rest.{Rest}
 use Rattle.wire_format.specs.declared.message.Rest.TheVariants as rest
 use Rattle.prop_wire.specs.Desk.{SetsMessage}
 use Rattle.prop_wire.specs.Replies.{message_replies, reply_for, rest_reply, set_of}
 use Rattle.prop_wire.specs.Reply.{reply_bytes}
-use Rattle.prop_wire.specs.Serving.{AddsSets, Answers, IsPart, Place, TakesBytes}
+use Rattle.prop_wire.specs.Serving.{place_of, AddsSets, Answers, IsPart, Place, TakesBytes}
+use Rattle.prop_wire.specs.internal.Course.{who_in, SetsFor}
 use Rattle.prop_wire.specs.declared.reply.Reply.{Reply}
 
 -- ---- parts
@@ -30,6 +33,11 @@ part_behind false first part more is = (is.0, append_assoc first part is.0 ∙ a
 -- a part of a list is a part of a longer one
 pub part_of_more : {X : Type 0} (part all more : List X) → IsPart false part all → IsPart false part (all ++ more)
 part_of_more part all more is = (is.0 ++ more, sym (append_assoc part is.0 more) ∙ ap (λ l. l ++ more) is.1)
+
+-- all of a list is a part of it
+pub all_part : {X : Type 0} (whole : Bool) (all : List X) → IsPart whole all all
+all_part true all = refl
+all_part false all = ([], append-nil all)
 
 pub part_of_whole : {X : Type 0} (part all : List X) → IsPart true part all → IsPart false part all
 part_of_whole part all is = ([], append-nil part ∙ is)
@@ -137,12 +145,13 @@ answers_then whole who first more last a b c h ready k =
       replies = bytes_then whole (replies_at a who first) (replies_at b who more ++ rest_reply last) (replies_at a who (first ++ more) ++ rest_reply last) a.taken b.taken c.taken joined h.replies k.replies;
     }
 
--- an answer that was cut off is one to more messages that was
-pub answers_more : (who : ℕ) (first more : List Message) (last : Rest) (a b : Place) → Answers false who first rest.End a b → Answers false who (first ++ more) last a b
-answers_more who first more last a b h = record {
+-- an answer that was cut off is one to more messages, and to any rest
+pub answers_more : (who : ℕ) (first more all : List Message) (last : Rest) (a b : Place) → first ++ more ≡ all → Answers false who first rest.End a b
+    → Answers false who all last a b
+answers_more who first more all last a b is h = record {
   sets = λ ready. let sets = h.sets ready in record {
     set = sets.set;
-    part = part_of_more sets.set first more sets.part;
+    part = subst (λ (ms : List Message). IsPart false sets.set ms) is (part_of_more sets.set first more sets.part);
     added = sets.added;
     history = sets.history;
     inputs = sets.inputs;
@@ -150,11 +159,15 @@ answers_more who first more last a b h = record {
   };
   replies =
       (let behind = message_replies a.desk.opening (inputs_of a.desk.history ++ map (set_of who) first) who more in
-      let all = replies_then a.desk.opening (inputs_of a.desk.history) who first more in
-      let joined : (replies_at a who first ++ []) ++ (behind ++ rest_reply last) ≡ replies_at a who (first ++ more) ++ rest_reply last =
-      ap (λ l. l ++ (behind ++ rest_reply last)) (append-nil (replies_at a who first)) ∙ sym (append_assoc (replies_at a who first) behind last) ∙ ap (λ l. l ++ rest_reply last) (sym all) in record {
+      let each : replies_at a who all ≡ replies_at a who first ++ behind =
+      ap (λ (ms : List Message). replies_at a who ms) (sym is) ∙ replies_then a.desk.opening (inputs_of a.desk.history) who first more in
+      let joined : (replies_at a who first ++ []) ++ (behind ++ rest_reply last) ≡ replies_at a who all ++ rest_reply last =
+      ap (λ l. l ++ (behind ++ rest_reply last)) (append-nil (replies_at a who first)) ∙ sym (append_assoc (replies_at a who first) behind (rest_reply last))
+      ∙ ap (λ l. l ++ rest_reply last) (sym each) in record {
         written = h.replies.written;
-        part = subst (λ (l : List ℕ). IsPart false h.replies.written l) joined (part_of_more h.replies.written (replies_at a who first ++ []) (behind ++ rest_reply last) h.replies.part);
+        part =
+            subst (λ (l : List ℕ). IsPart false h.replies.written l) joined
+            (part_of_more h.replies.written (replies_at a who first ++ []) (behind ++ rest_reply last) h.replies.part);
         taken = h.replies.taken;
       });
 }
@@ -177,19 +190,56 @@ answers_part who messages last a b h = record {
   };
 }
 
+-- the rest that may become a message has no reply
+pub answers_open : (whole : Bool) (who : ℕ) (messages : List Message) (last : Rest) (a b : Place) → is_open last ≡ true → Answers whole who messages last a b
+    → Answers whole who messages rest.End a b
+answers_open whole who messages rest.End a b may h = h
+answers_open whole who messages (rest.Torn have) a b may h = h
+answers_open whole who messages (rest.BadCommand word) a b may h = cc
+answers_open whole who messages (rest.BadLength len) a b may h = cc
+
+pub answers_end : (whole : Bool) (who : ℕ) (messages : List Message) (last : Rest) (a b : Place) → is_open last ≡ true → Answers whole who messages rest.End a b
+    → Answers whole who messages last a b
+answers_end whole who messages rest.End a b may h = h
+answers_end whole who messages (rest.Torn have) a b may h = h
+answers_end whole who messages (rest.BadCommand word) a b may h = cc
+answers_end whole who messages (rest.BadLength len) a b may h = cc
+
+-- a desk that couldn't set a message has set none
+pub answers_failed : (who : ℕ) (messages : List Message) (last : Rest) (old new : ServiceView) (taken : Option (List ℕ)) → (new.spent ≡ false → new ≡ old)
+    → Answers false who messages last (place_of old taken) (place_of new taken)
+answers_failed who messages last old new taken same = record {
+  sets = λ ready. subst (λ (s : ServiceView). AddsSets false who messages old s) (sym (same ready)) ((answers_none who messages last (place_of old taken)).sets (subst (λ (s : ServiceView). s.spent ≡ false) (same ready) ready));
+  replies = (answers_none who messages last (place_of old taken)).replies;
+}
+
 -- ---- one message
 
 pub bytes_written : {T : Type 0} (r : Result T IoRefusal) (old new : Option (List ℕ)) (bytes : List ℕ) → Writes old new r bytes → TakesBytes (is_ok r) bytes old new
 bytes_written (Ok value) old new bytes is = record { written = bytes; part = refl; taken = is }
 bytes_written (Err why) old new bytes is = record { written = is.front; part = (is.rest, is.whole); taken = is.taken }
 
-sets_one : (old new : ServiceView) (reader : Seated) (back : Option Seated) (message : Message) (reply : Option Reply) → SetsMessage old new reader back message reply
-    → AddsSets true reader.view.who (message ∷ []) old new
-sets_one old new reader back message reply h = record {
+sets_one : (whole : Bool) (old new : ServiceView) (reader : Seated) (back : Option Seated) (message : Message) (reply : Option Reply)
+    → SetsMessage old new reader back message reply → AddsSets whole reader.view.who (message ∷ []) old new
+sets_one whole old new reader back message reply h = record {
   set = message ∷ [];
-  part = refl;
-  added = _;
+  part = all_part whole (message ∷ []);
+  added = set_entry old reader message.name message.value ∷ [];
   history = h.history;
   inputs = refl;
   opening = h.opening;
 }
+
+-- a message was set, and its reply written, or a prefix of it
+pub answers_one : {T : Type 0} (r : Result T IoRefusal) (old new : ServiceView) (reader back : Option Seated) (message : Message) (reply word : Option Reply) (before now : Option (List ℕ))
+    → SetsFor old new reader back message reply → word ≡ cond message.second reply None → Writes before now r (reply_bytes word)
+    → Answers (is_ok r) (who_in reader) (message ∷ []) rest.End (place_of old before) (place_of new now)
+answers_one r old new None back message reply word before now h is writes = absurd h
+answers_one r old new (Some reader) back message reply word before now h is writes =
+    let outputs = (set_entry old reader message.name message.value).outputs in
+    let reply_is : word ≡ reply_for message outputs = is ∙ ap (λ (one : Option Reply). cond message.second one None) h.replied in
+    let bytes : reply_bytes word ≡ reply_bytes (reply_for message outputs) ++ [] ++ [] =
+    ap reply_bytes reply_is ∙ sym (append-nil (reply_bytes (reply_for message outputs))) ∙ sym (append-nil (reply_bytes (reply_for message outputs) ++ [])) in record {
+      sets = λ ready. sets_one (is_ok r) old new reader back message reply h;
+      replies = subst (λ (l : List ℕ). TakesBytes (is_ok r) l before now) bytes (bytes_written r before now (reply_bytes word) writes);
+    }

@@ -10,7 +10,7 @@ use Rattle.wire_format.proofs.Fronts.{added, front_stays}
 use Rattle.wire_format.proofs.Joining.{some_reading}
 use Rattle.wire_format.proofs.Streams.{begins_join, begins_stays}
 
-unfinished_is_open : (bytes : List ℕ) → is_open (unfinished bytes) ≡ true
+pub unfinished_is_open : (bytes : List ℕ) → is_open (unfinished bytes) ≡ true
 unfinished_is_open [] = refl
 unfinished_is_open (byte ∷ bytes) = refl
 
