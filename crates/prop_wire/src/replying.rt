@@ -1,9 +1,9 @@
 //! Writing the words of replies.
 
-ghost use Rattle.std.specs.Prelude.{◌≡◌, false};
+ghost use Rattle.std.specs.Prelude.{◌≡◌};
 ghost use Rattle.init_base.specs.Faults.{Counted, write_failed};
 ghost use Rattle.init_trace.specs.Written.{Writes};
-ghost use Rattle.prop_wire.specs.Refusals.{is_read_fault, is_write_fault};
+ghost use Rattle.prop_wire.specs.Refusals.{is_write_fault};
 ghost use Rattle.prop_wire.specs.Reply.{reply_bytes};
 ghost use Rattle.prop_wire.specs.internal.Streams.{Refuses};
 
@@ -38,7 +38,6 @@ pub(crate) fn refuse<K: Sink>(
 ) -> Result<(), WireRefusal>
     ensures refuses { Refuses bad at (K.taken to.old) (K.taken to.new) result }
     ensures cause { Counted (is_write_fault result) (K.fault_count to.old) (K.fault_count to.new) }
-    ensures reads { is_read_fault result ≡ false }
 {
     match bad {
         None => Ok(()),

@@ -118,7 +118,6 @@ fn answer_piece<D: WireDesk, K: Sink>(
         (place_of (D.view desk.old) (K.taken to.old)) (place_of (D.view desk.new) (K.taken to.new)) result }
     ensures remains { RemainsServing result reader.old reader.new (D.view desk.new).spent }
     ensures cause { Counted (is_write_fault result) (K.fault_count to.old) (K.fault_count to.new) }
-    ensures reads { is_read_fault result ≡ false }
 {
     let batch = stream.feed()?;
     answer_all(alloc, desk, reader, batch.messages.items(), to)?;

@@ -63,10 +63,21 @@ pub record GoesBehind (who : ℕ) (old new : Stream) (a b : Place) : Type 0 wher
   pub few : new.messages ≤ new.whole
   pub answers : Answers true who messages rest.End a b
 
+-- a refusal for which a piece may end a stream
+abbrev pub ComesOfPiece : WireRefusal → Type 0
+ComesOfPiece refusal.Spent = ⊥
+ComesOfPiece (refusal.BadCommand at word) = ⊤
+ComesOfPiece (refusal.BadLength at len) = ⊤
+ComesOfPiece (refusal.TooLong taken) = ⊥
+ComesOfPiece (refusal.Torn at) = ⊥
+ComesOfPiece refusal.ReadFault = ⊥
+ComesOfPiece refusal.WriteFault = ⊤
+ComesOfPiece refusal.NoMemory = ⊤
+
 -- a piece of a stream was answered, or ended it
 abbrev pub AnswersPiece : {T : Type 0} → ℕ → Stream → Stream → Place → Place → Result T WireRefusal → Type 0
 AnswersPiece who old new a b (Ok value) = GoesBehind who old new a b
-AnswersPiece who old new a b (Err why) = Serves who old.whole (tail_of old.feeder ++ old.piece) a b (Err why)
+AnswersPiece who old new a b (Err why) = ComesOfPiece why × Serves who old.whole (tail_of old.feeder ++ old.piece) a b (Err why)
 
 -- ---- all pieces
 
