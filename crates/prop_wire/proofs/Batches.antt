@@ -18,7 +18,8 @@ use Rattle.prop_wire.specs.Refusals.{refusal_of}
 use Rattle.prop_wire.specs.Replies.{rest_reply}
 use Rattle.prop_wire.specs.Serving.{is_whole, place_of, AddsSets, Answers, IsPart, Place, Serves, TakesBytes, TellsEnd}
 use Rattle.prop_wire.specs.internal.Course.{AnswersPiece, ComesOfPiece, GoesBehind}
-use Rattle.prop_wire.specs.internal.Streams.{refusal_at, rest_of, tail_of, total_len, EndsWith, ReadsPiece, Refuses}
+use Rattle.prop_wire.specs.Reply.{reply_bytes}
+use Rattle.prop_wire.specs.internal.Streams.{refusal_at, reply_to, rest_of, tail_of, total_len, EndsWith, ReadsPiece, Refuses}
 use Rattle.prop_wire.specs.declared.refusal.WireRefusal.{WireRefusal}
 use Rattle.prop_wire.specs.declared.refusal.WireRefusal.TheVariants as refusal
 use Rattle.prop_wire.specs.declared.stream.Bad.{Bad}
@@ -104,5 +105,83 @@ refused_by (bad.Length len) at who before bytes messages a b now place wire h ta
   (answers_rest true who messages (rest.BadLength len) a b now h (record { written = _; part = refl; taken = taken })),
 )
 
-reply_is_rest : (found : Bad) (before now : Option (List ℕ)) → TakesFront before now (rest_reply (rest_of found)) → TakesBytes false (rest_reply (rest_of found)) before now
-reply_is_rest found before now h = front_taken before now (rest_reply (rest_of found)) h
+-- ---- the piece as a whole
+
+-- the stream before a piece, and once its messages were counted
+pub record Counted (s t : Stream) (messages : List Message) (after : Feeding) : Type 0 where
+  pub feeder : t.feeder ≡ after
+  pub read : t.read ≡ s.read
+  pub messages_is : t.messages ≡ s.messages + length messages
+  pub whole : t.whole ≡ s.whole + total_len messages
+
+goes_behind : (who : ℕ) (s t : Stream) (messages : List Message) (after : Feeding) (a b c : Place) → s.messages ≤ s.whole
+    → s.whole + length (tail_of s.feeder) + length s.piece ≡ s.read → Counted s t messages after → ReadsPiece (tail_of s.feeder ++ s.piece) messages None after
+    → Answers true who messages rest.End a b → c ≡ b → GoesBehind who s t a c
+goes_behind who s t messages after a b c few read k h answers same =
+    let left = h.0 in
+    let leaves = h.1 in
+    let len : length (tail_of s.feeder ++ s.piece) ≡ total_len messages + length left = stream_len (tail_of s.feeder ++ s.piece) messages left leaves.begins in
+    let each = count_len messages in
+    let t_read = k.read in
+    let t_whole = k.whole in
+    let t_count = k.messages_is in record {
+      messages = messages;
+      left = left;
+      leaves = leaves;
+      feeder = k.feeder ∙ h.2;
+      read = k.read;
+      whole = omega (arith, length-append (tail_of s.feeder) s.piece);
+      count = k.messages_is;
+      few = omega arith;
+      answers = subst (λ (p : Place). Answers true who messages rest.End a p) (sym same) answers;
+    }
+
+stopped_by : (who : ℕ) (s t : Stream) (messages : List Message) (found : Bad) (a b : Place) (now : Option (List ℕ)) (why : WireRefusal) → t.whole ≡ s.whole + total_len messages
+    → Wire (tail_of s.feeder ++ s.piece) messages (rest_of found) → Answers true who messages rest.End a b → why ≡ refusal_at found t.whole
+    → now ≡ append_known b.taken (rest_reply (rest_of found))
+    → ComesOfPiece why × Serves who s.whole (tail_of s.feeder ++ s.piece) a (place_of b.desk now) (Err why)
+stopped_by who s t messages found a b now why place wire answers is taken =
+    subst (λ (y : WireRefusal). ComesOfPiece y × Serves who s.whole (tail_of s.feeder ++ s.piece) a (place_of b.desk now) (Err y)) (sym is)
+    (refused_by found t.whole who s.whole (tail_of s.feeder ++ s.piece) messages a b now place wire answers taken)
+
+rest_is : (found : Bad) → reply_bytes (Some (reply_to found)) ≡ rest_reply (rest_of found)
+rest_is (bad.Command word) = refl
+rest_is (bad.Length len) = refl
+
+ends_with : (who : ℕ) (s t : Stream) (messages : List Message) (found : Bad) (a b : Place) (now : Option (List ℕ)) (why : WireRefusal) → t.whole ≡ s.whole + total_len messages
+    → Wire (tail_of s.feeder ++ s.piece) messages (rest_of found) → Answers true who messages rest.End a b → EndsWith found t.whole b.taken now why
+    → ComesOfPiece why × Serves who s.whole (tail_of s.feeder ++ s.piece) a (place_of b.desk now) (Err why)
+ends_with who s t messages found a b now refusal.WriteFault place wire answers ends = (
+  tt,
+  serves_at who s.whole (tail_of s.feeder ++ s.piece) messages (rest_of found) a (place_of b.desk now) (Err refusal.WriteFault) wire tt
+  (answers_rest false who messages (rest_of found) a b now answers (front_taken b.taken now (rest_reply (rest_of found)) (subst (λ (l : List ℕ). TakesFront b.taken now l) (rest_is found) ends))),
+)
+ends_with who s t messages found a b now refusal.NoMemory place wire answers ends = (
+  tt,
+  serves_at who s.whole (tail_of s.feeder ++ s.piece) messages (rest_of found) a (place_of b.desk now) (Err refusal.NoMemory) wire tt
+  (answers_rest false who messages (rest_of found) a b now answers (front_taken b.taken now (rest_reply (rest_of found)) (subst (λ (l : List ℕ). TakesFront b.taken now l) (rest_is found) ends))),
+)
+ends_with who s t messages found a b now refusal.Spent place wire answers ends =
+    stopped_by who s t messages found a b now refusal.Spent place wire answers ends.0 (ends.1 ∙ ap (λ l. append_known b.taken l) (rest_is found))
+ends_with who s t messages found a b now (refusal.BadCommand at word) place wire answers ends =
+    stopped_by who s t messages found a b now (refusal.BadCommand at word) place wire answers ends.0 (ends.1 ∙ ap (λ l. append_known b.taken l) (rest_is found))
+ends_with who s t messages found a b now (refusal.BadLength at len) place wire answers ends =
+    stopped_by who s t messages found a b now (refusal.BadLength at len) place wire answers ends.0 (ends.1 ∙ ap (λ l. append_known b.taken l) (rest_is found))
+ends_with who s t messages found a b now (refusal.TooLong taken) place wire answers ends =
+    stopped_by who s t messages found a b now (refusal.TooLong taken) place wire answers ends.0 (ends.1 ∙ ap (λ l. append_known b.taken l) (rest_is found))
+ends_with who s t messages found a b now (refusal.Torn at) place wire answers ends =
+    stopped_by who s t messages found a b now (refusal.Torn at) place wire answers ends.0 (ends.1 ∙ ap (λ l. append_known b.taken l) (rest_is found))
+ends_with who s t messages found a b now refusal.ReadFault place wire answers ends =
+    stopped_by who s t messages found a b now refusal.ReadFault place wire answers ends.0 (ends.1 ∙ ap (λ l. append_known b.taken l) (rest_is found))
+
+-- what is bad, if anything, was answered behind the messages
+pub piece_answered : {T : Type 0} (r : Result T WireRefusal) (found : Option Bad) (who : ℕ) (s t : Stream) (messages : List Message) (after : Feeding) (a b : Place) (now : Option (List ℕ))
+    → s.messages ≤ s.whole → s.whole + length (tail_of s.feeder) + length s.piece ≡ s.read → Counted s t messages after
+    → ReadsPiece (tail_of s.feeder ++ s.piece) messages found after → Answers true who messages rest.End a b → Refuses found t.whole b.taken now r
+    → AnswersPiece who s t a (place_of b.desk now) r
+piece_answered (Ok value) None who s t messages after a b now few read k h answers refused =
+    goes_behind who s t messages after a b (place_of b.desk now) few read k h answers (ap (λ (y : Option (List ℕ)). place_of b.desk y) refused)
+piece_answered (Err why) None who s t messages after a b now few read k h answers refused = absurd refused
+piece_answered (Ok value) (Some found) who s t messages after a b now few read k h answers refused = absurd refused
+piece_answered (Err why) (Some found) who s t messages after a b now few read k h answers refused =
+    ends_with who s t messages found a b now why k.whole h answers refused

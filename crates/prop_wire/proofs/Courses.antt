@@ -125,7 +125,7 @@ sets_then whole who first more old mid new h k = record {
   opening = k.opening ∙ h.opening;
 }
 
-bytes_then : (whole : Bool) (first more all : List ℕ) (a b c : Option (List ℕ)) → first ++ more ≡ all → TakesBytes true (first ++ []) a b → TakesBytes whole more b c
+pub bytes_then : (whole : Bool) (first more all : List ℕ) (a b c : Option (List ℕ)) → first ++ more ≡ all → TakesBytes true (first ++ []) a b → TakesBytes whole more b c
     → TakesBytes whole all a c
 bytes_then whole first more all a b c is h k =
     let first_is : h.written ≡ first = h.part ∙ append-nil first in record {

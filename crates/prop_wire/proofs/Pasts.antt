@@ -1,5 +1,7 @@
 -- What was read and answered of a stream before its next piece.
-use Rattle.std.proofs.Common.{◌≡◌, ℕ, ◌+◌, ◌<◌, ◌≤◌, true, false, eqb, cond, List, [], ◌∷◌, ◌++◌, length, Option, Some, None, Result, Ok, Err, refl, sym, ap, subst, ◌∙◌, inl, inr, arith, append-nil, append_assoc, length-append}
+use Rattle.std.proofs.Common.{◌≡◌, ◌≢◌, ℕ, ◌+◌, ◌<◌, ◌≤◌, Bool, true, false, eqb, eqb-true, eqb-false, cond, List, [], ◌∷◌, ◌++◌, length, Option, Some, None, Result, Ok, Err, refl, sym, ap, subst, ◌∙◌, inl, inr, arith, append-nil, append_assoc, length-append}
+use Rattle.std.proofs.lemmas.Bool.{cases_Bool}
+use Rattle.std.proofs.lemmas.List.{nil_from_length}
 use Rattle.std.specs.Io.KnownBytes.{Consumes, IsAtEnd, Keeps}
 use Rattle.wire_format.specs.Feeding.{tail, LeavesTail}
 use Rattle.wire_format.specs.Wire.{front_of, is_open, no_message, unfinished, BeginsWith}
@@ -181,3 +183,57 @@ past_unread who old mid new s piece a b (refusal.BadLength at len) h draws = abs
 past_unread who old mid new s piece a b (refusal.Torn at) h draws = absurd draws
 past_unread who old mid new s piece a b refusal.WriteFault h draws = absurd draws
 past_unread who old mid new s piece a b refusal.NoMemory h draws = absurd draws
+
+-- the source is at its end
+pub record HasEnded (mid new : Option (List ℕ)) (s t : Stream) : Type 0 where
+  pub consumed : Consumes mid new []
+  pub at_end : IsAtEnd new
+  pub read : t.read ≡ s.read
+  pub messages : t.messages ≡ s.messages
+  pub whole : t.whole ≡ s.whole
+
+torn_of : (had : List ℕ) → 0 < length had → unfinished had ≡ rest.Torn (length had)
+torn_of [] some = absurd (omega arith)
+torn_of (byte ∷ had) some = refl
+
+pub past_ended : (who : ℕ) (old mid new : Option (List ℕ)) (s t : Stream) (a b : Place) (r : Result ℕ WireRefusal) → Past who old mid s a b → HasEnded mid new s t
+    → r ≡ cond (eqb t.whole t.read) (Ok t.messages) (Err (refusal.Torn t.whole)) → ServesSource old new who a b r
+past_ended who old mid new s t a b r h e is =
+    let s_read = h.read in
+    let s_within = h.within in
+    let s_whole = h.whole in
+    let s_count = h.count in
+    let t_read = e.read in
+    let t_whole = e.whole in
+    let t_count = e.messages in
+    let len : length h.given ≡ total_len h.done + length h.had = stream_len h.given h.done h.had h.leaves.begins in
+    let consumed : Consumes old new (h.given ++ []) = consumes_then old mid new h.given [] h.consumed e.consumed in
+    elim (cases_Bool (eqb t.whole t.read)) [
+      | inl all ↦
+          (let same : t.whole ≡ t.read = eqb-true t.whole t.read all in
+          let none : h.had ≡ [] = nil_from_length h.had (omega arith) in
+          let r_is : r ≡ Ok t.messages = is ∙ ap (λ (w : Bool). cond w (Ok t.messages) (Err (refusal.Torn t.whole))) all in
+          subst (λ (x : Result ℕ WireRefusal). ServesSource old new who a b x) (sym r_is) (record {
+            given = h.given;
+            more = [];
+            consumed = consumed;
+            within = omega arith;
+            all = (refl, e.at_end);
+            serves = serves_at who 0 h.given h.done (unfinished h.had) a b (Ok t.messages) (wire_of h.given h.done h.had h.leaves) (ap unfinished none, e.messages ∙ h.count)
+                (answers_end true who h.done (unfinished h.had) a b (unfinished_is_open h.had) h.answers);
+          }))
+      | inr torn ↦
+          (let differ : t.whole ≢ t.read = eqb-false t.whole t.read torn in
+          let some : 0 < length h.had = omega arith in
+          let r_is : r ≡ Err (refusal.Torn t.whole) = is ∙ ap (λ (w : Bool). cond w (Ok t.messages) (Err (refusal.Torn t.whole))) torn in
+          let place : t.whole ≡ 0 + total_len h.done = omega arith in
+          subst (λ (x : Result ℕ WireRefusal). ServesSource old new who a b x) (sym r_is) (record {
+            given = h.given;
+            more = [];
+            consumed = consumed;
+            within = omega arith;
+            all = (refl, e.at_end);
+            serves = serves_at who 0 h.given h.done (unfinished h.had) a b (Err (refusal.Torn t.whole)) (wire_of h.given h.done h.had h.leaves) (length h.had, torn_of h.had some, place)
+                (answers_end true who h.done (unfinished h.had) a b (unfinished_is_open h.had) h.answers);
+          }))
+    ]
