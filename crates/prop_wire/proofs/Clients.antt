@@ -65,9 +65,9 @@ remains_all (Ok value) reader back spent h ready = (h, ready)
 remains_all (Err io.Failed) reader back spent h ready = (h, ready)
 remains_all (Err io.NoMemory) reader back spent h ready = tt
 
-pub remains_behind : {T U : Type 0} (why : IoRefusal) (a b c : Option Seated) (spent : Bool) → IsBack a b → Remains {T = T} (Err why) b c spent → Remains {T = U} (Err why) a c spent
-remains_behind io.Failed a b c spent h k = (back_then a b c h k.0, k.1)
-remains_behind io.NoMemory a b c spent h k = tt
+pub remains_behind : (T U : Type 0) (why : IoRefusal) (a b c : Option Seated) (spent : Bool) → IsBack a b → Remains {T = T} (Err why) b c spent → Remains {T = U} (Err why) a c spent
+remains_behind T U io.Failed a b c spent h k = (back_then a b c h k.0, k.1)
+remains_behind T U io.NoMemory a b c spent h k = tt
 
 pub serving_all : {T : Type 0} (r : Result T WireRefusal) (reader back : Option Seated) (spent : Bool) → IsBack reader back → spent ≡ false → RemainsServing r reader back spent
 serving_all (Ok value) reader back spent h ready = (h, ready)
@@ -80,17 +80,17 @@ serving_all (Err refusal.ReadFault) reader back spent h ready = (h, ready)
 serving_all (Err refusal.WriteFault) reader back spent h ready = (h, ready)
 serving_all (Err refusal.NoMemory) reader back spent h ready = tt
 
-pub serving_of : {T U : Type 0} (why : IoRefusal) (a b : Option Seated) (spent : Bool) → Remains {T = T} (Err why) a b spent → RemainsServing {T = U} (Err (refusal_of why)) a b spent
-serving_of io.Failed a b spent h = h
-serving_of io.NoMemory a b spent h = tt
+pub serving_of : (T U : Type 0) (why : IoRefusal) (a b : Option Seated) (spent : Bool) → Remains {T = T} (Err why) a b spent → RemainsServing {T = U} (Err (refusal_of why)) a b spent
+serving_of T U io.Failed a b spent h = h
+serving_of T U io.NoMemory a b spent h = tt
 
-pub serving_behind : {T U : Type 0} (why : WireRefusal) (a b c : Option Seated) (spent : Bool) → IsBack a b → RemainsServing {T = T} (Err why) b c spent
+pub serving_behind : (T U : Type 0) (why : WireRefusal) (a b c : Option Seated) (spent : Bool) → IsBack a b → RemainsServing {T = T} (Err why) b c spent
     → RemainsServing {T = U} (Err why) a c spent
-serving_behind refusal.Spent a b c spent h k = tt
-serving_behind (refusal.BadCommand at word) a b c spent h k = (back_then a b c h k.0, k.1)
-serving_behind (refusal.BadLength at len) a b c spent h k = (back_then a b c h k.0, k.1)
-serving_behind (refusal.TooLong taken) a b c spent h k = (back_then a b c h k.0, k.1)
-serving_behind (refusal.Torn at) a b c spent h k = (back_then a b c h k.0, k.1)
-serving_behind refusal.ReadFault a b c spent h k = (back_then a b c h k.0, k.1)
-serving_behind refusal.WriteFault a b c spent h k = (back_then a b c h k.0, k.1)
-serving_behind refusal.NoMemory a b c spent h k = tt
+serving_behind T U refusal.Spent a b c spent h k = tt
+serving_behind T U (refusal.BadCommand at word) a b c spent h k = (back_then a b c h k.0, k.1)
+serving_behind T U (refusal.BadLength at len) a b c spent h k = (back_then a b c h k.0, k.1)
+serving_behind T U (refusal.TooLong taken) a b c spent h k = (back_then a b c h k.0, k.1)
+serving_behind T U (refusal.Torn at) a b c spent h k = (back_then a b c h k.0, k.1)
+serving_behind T U refusal.ReadFault a b c spent h k = (back_then a b c h k.0, k.1)
+serving_behind T U refusal.WriteFault a b c spent h k = (back_then a b c h k.0, k.1)
+serving_behind T U refusal.NoMemory a b c spent h k = tt

@@ -9,7 +9,7 @@ use Rattle.init_machine.specs.Step.{step}
 use Rattle.init_machine.specs.declared.input.Input.{Input}
 use Rattle.init_machine.specs.declared.report.Entry.{Entry}
 use Rattle.init_trace.specs.Written.{TakesFront, Writes}
-use Rattle.init_trace.proofs.Adding.{takes_nothing, taken_then}
+use Rattle.init_trace.proofs.Adding.{taken_then}
 use Rattle.property_area.specs.Seats.{Seated}
 use Rattle.property_service.specs.Service.{ServiceView}
 use Rattle.property_service.specs.Settings.{set_entry}
@@ -42,6 +42,11 @@ all_part false all = ([], append-nil all)
 pub part_of_whole : {X : Type 0} (part all : List X) → IsPart true part all → IsPart false part all
 part_of_whole part all is = ([], append-nil part ∙ is)
 
+-- nothing more was taken
+kept_nil : (known : Option (List ℕ)) → known ≡ append_known known []
+kept_nil None = refl
+kept_nil (Some xs) = ap Some (sym (append-nil xs))
+
 -- ---- replies
 
 -- the replies to messages behind others
@@ -71,7 +76,7 @@ answers_none who messages last a = record {
     inputs = refl;
     opening = refl;
   };
-  replies = record { written = []; part = (replies_at a who messages ++ rest_reply last, refl); taken = (takes_nothing a.taken []).taken };
+  replies = record { written = []; part = (replies_at a who messages ++ rest_reply last, refl); taken = kept_nil a.taken };
 }
 
 -- no message is answered by nothing
@@ -85,7 +90,7 @@ answers_nothing who a = record {
     inputs = refl;
     opening = refl;
   };
-  replies = record { written = []; part = refl; taken = (takes_nothing a.taken []).taken };
+  replies = record { written = []; part = refl; taken = kept_nil a.taken };
 }
 
 -- what all of the sets are
@@ -140,7 +145,7 @@ answers_then whole who first more last a b c h ready k =
     let sets = h.sets ready in
     let all = replies_behind who first more a b (adds_all who first a.desk b.desk sets) in
     let joined : replies_at a who first ++ (replies_at b who more ++ rest_reply last) ≡ replies_at a who (first ++ more) ++ rest_reply last =
-    sym (append_assoc (replies_at a who first) (replies_at b who more) last) ∙ ap (λ l. l ++ rest_reply last) (sym all) in record {
+    sym (append_assoc (replies_at a who first) (replies_at b who more) (rest_reply last)) ∙ ap (λ l. l ++ rest_reply last) (sym all) in record {
       sets = λ now. sets_then whole who first more a.desk b.desk c.desk sets (k.sets now);
       replies = bytes_then whole (replies_at a who first) (replies_at b who more ++ rest_reply last) (replies_at a who (first ++ more) ++ rest_reply last) a.taken b.taken c.taken joined h.replies k.replies;
     }
@@ -194,14 +199,14 @@ answers_part who messages last a b h = record {
 pub answers_open : (whole : Bool) (who : ℕ) (messages : List Message) (last : Rest) (a b : Place) → is_open last ≡ true → Answers whole who messages last a b
     → Answers whole who messages rest.End a b
 answers_open whole who messages rest.End a b may h = h
-answers_open whole who messages (rest.Torn have) a b may h = h
+answers_open whole who messages (rest.Torn have) a b may h = record { sets = h.sets; replies = h.replies }
 answers_open whole who messages (rest.BadCommand word) a b may h = cc
 answers_open whole who messages (rest.BadLength len) a b may h = cc
 
 pub answers_end : (whole : Bool) (who : ℕ) (messages : List Message) (last : Rest) (a b : Place) → is_open last ≡ true → Answers whole who messages rest.End a b
     → Answers whole who messages last a b
 answers_end whole who messages rest.End a b may h = h
-answers_end whole who messages (rest.Torn have) a b may h = h
+answers_end whole who messages (rest.Torn have) a b may h = record { sets = h.sets; replies = h.replies }
 answers_end whole who messages (rest.BadCommand word) a b may h = cc
 answers_end whole who messages (rest.BadLength len) a b may h = cc
 

@@ -21,7 +21,7 @@ use Rattle.prop_wire.specs.internal.Streams.{total_len}
 use Rattle.prop_wire.specs.declared.refusal.WireRefusal.{WireRefusal}
 use Rattle.prop_wire.specs.declared.refusal.WireRefusal.TheVariants as refusal
 use Rattle.prop_wire.proofs.Courses.{answers_more, answers_none, answers_open, answers_then}
-use Rattle.prop_wire.proofs.Readings.{reads_on, wire_of, wire_stays, unfinished_is_open, ReadsOn}
+use Rattle.prop_wire.proofs.Readings.{reads_on, stays_len, wire_stays}
 
 -- ---- one end
 
@@ -86,7 +86,7 @@ bad_more who bytes more a b why h bad =
       last = h.last;
       wire = wire;
       place = h.place;
-      place_is = (let at = h.place_is in omega (arith, length-append bytes more, length-append h.wire.left more));
+      place_is = (let at = h.place_is in omega (arith, length-append bytes more, stays_len bytes more h.messages h.last bad h.wire));
       end = h.end;
       answers = h.answers;
     }

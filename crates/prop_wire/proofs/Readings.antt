@@ -1,5 +1,5 @@
 -- What bytes that are added change of messages and a rest.
-use Rattle.std.proofs.Common.{◌≡◌, ℕ, ◌+◌, Bool, true, false, nat_lt, ◌==◌, List, [], ◌∷◌, ◌++◌, length, refl, ap, sym, ◌∙◌}
+use Rattle.std.proofs.Common.{◌≡◌, ℕ, ◌+◌, Bool, true, false, nat_lt, ◌==◌, List, [], ◌∷◌, ◌++◌, length, refl, ap, sym, ◌∙◌, length-append}
 use Rattle.std.proofs.lemmas.Bool.{both_ways, cond_both}
 use Rattle.wire_format.specs.Feeding.{LeavesTail}
 use Rattle.wire_format.specs.Format.{first, second, word_from}
@@ -48,6 +48,11 @@ wire_stays bytes more messages last bad wire = record {
   begins = begins_stays bytes messages wire.left more wire.begins;
   rests = bad_stays wire.left more last bad wire.rests;
 }
+
+pub stays_len : (bytes more : List ℕ) (messages : List Message) (last : Rest) (bad : is_open last ≡ false) (wire : Wire bytes messages last)
+    → length (wire_stays bytes more messages last bad wire).left ≡ length wire.left + length more
+unfolding wire_stays
+stays_len bytes more messages last bad wire = length-append wire.left more
 
 -- messages stay, and others may follow them
 pub record ReadsOn (bytes : List ℕ) (messages : List Message) : Type 0 where

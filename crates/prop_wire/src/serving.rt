@@ -1,6 +1,6 @@
 //! `serve`: a stream of a client's messages is set at a desk and answered.
 
-ghost use Rattle.std.specs.Prelude.{◌≡◌, ◌+◌, ◌≤◌, ◌↔◌, ◌×◌, ℕ, List as Items, [], Some, Err, length, true, false};
+ghost use Rattle.std.specs.Prelude.{◌≡◌, ◌+◌, ◌≤◌, ◌↔◌, ℕ, List as Items, [], Some, Err, length, true, false};
 ghost use Rattle.init_base.specs.Faults.{Counted};
 ghost use Rattle.property_service.specs.Service.{DeclaredIn};
 ghost use Rattle.wire_format.specs.Feeding.{tail};
