@@ -1,6 +1,8 @@
 //! The desks at which the messages of clients are set.
 
-ghost use Rattle.std.specs.Prelude.{◌≡◌, IfOk, OnErr, false};
+ghost use Rattle.std.specs.Prelude.{◌≡◌, IfOk, OnErr, false, is_ok};
+ghost use Rattle.property_service.specs.Back.{has_entry, line_of};
+ghost use Rattle.prop_wire.specs.Reply.{output_reply};
 
 use crate::reply::{LastReply, Reply, refusal_reply};
 use init_base::NoMemory;
@@ -59,7 +61,10 @@ impl<'a, N: AreaName> WireDesk for Service<'a, N> {
 }
 
 /// The reply to a set that was answered so. There is none if the machine didn't judge the set.
-fn reply_to(answer: &Result<Accepted, SetRefusal>) -> Result<Option<Reply>, NoMemory> {
+fn reply_to(answer: &Result<Accepted, SetRefusal>) -> Result<Option<Reply>, NoMemory>
+    ensures reply { IfOk result (λ reply. reply ≡ output_reply (line_of answer.now)) }
+    ensures judged { is_ok result ≡ has_entry answer.now }
+{
     match answer {
         Ok(_) => Ok(Some(Reply::Success)),
         Err(refusal) => match refusal_reply(refusal) {
