@@ -185,3 +185,17 @@ piece_answered (Err why) None who s t messages after a b now few read k h answer
 piece_answered (Ok value) (Some found) who s t messages after a b now few read k h answers refused = absurd refused
 piece_answered (Err why) (Some found) who s t messages after a b now few read k h answers refused =
     ends_with who s t messages found a b now why k.whole h answers refused
+
+-- what `feed` and `count_in` leave
+pub counted_in : (s f t : Stream) (seen messages : List Message) → f ≡ record s { feeder = f.feeder }
+    → t ≡ record f { messages = f.messages + length seen; whole = f.whole + total_len seen } → seen ≡ messages → Counted s t messages f.feeder
+counted_in s f t seen messages fed counted same = record {
+  feeder = ap (λ (x : Stream). x.feeder) counted;
+  read = ap (λ (x : Stream). x.read) counted ∙ ap (λ (x : Stream). x.read) fed;
+  messages_is =
+      ap (λ (x : Stream). x.messages) counted ∙ ap (λ (x : Stream). x.messages + length seen) fed
+      ∙ ap (λ (ms : List Message). s.messages + length ms) same;
+  whole =
+      ap (λ (x : Stream). x.whole) counted ∙ ap (λ (x : Stream). x.whole + total_len seen) fed
+      ∙ ap (λ (ms : List Message). s.whole + total_len ms) same;
+}

@@ -1,7 +1,7 @@
 -- Messages that are answered one after another.
-use Rattle.std.proofs.Common.{◌≡◌, ℕ, Bool, true, false, cond, is_ok, List, [], ◌∷◌, ◌++◌, map, Option, Some, None, Result, Ok, Err, refl, sym, ap, subst, ◌∙◌, append-nil, append_assoc}
+use Rattle.std.proofs.Common.{◌≡◌, ℕ, ◌+◌, ◌<◌, get_or, take, drop, length, Bool, true, false, cond, is_ok, List, [], ◌∷◌, ◌++◌, map, Option, Some, None, Result, Ok, Err, refl, sym, ap, subst, ◌∙◌, append-nil, append_assoc}
 use Rattle.std.specs.Io.KnownBytes.{append_known}
-use Rattle.std.proofs.lemmas.List.{map-append}
+use Rattle.std.proofs.lemmas.List.{map-append, take_more, take-append-drop}
 use Rattle.init_base.specs.declared.outside.refusal.IoRefusal.{IoRefusal}
 use Rattle.init_machine.specs.History.{after, inputs_of}
 use Rattle.init_machine.specs.State.{Opening}
@@ -248,3 +248,20 @@ answers_one r old new (Some reader) back message reply word before now h is writ
       sets = λ ready. sets_one (is_ok r) old new reader back message reply h;
       replies = subst (λ (l : List ℕ). TakesBytes (is_ok r) l before now) bytes (bytes_written r before now (reply_bytes word) writes);
     }
+
+-- ---- one message behind others
+
+taken_next : (messages : List Message) (i : ℕ) (message : Message) → i < length messages → message ≡ get_or messages i message
+    → take (i + 1) messages ≡ take i messages ++ message ∷ []
+taken_next messages i message within is = take_more messages i message within ∙ ap (λ (m : Message). take i messages ++ m ∷ []) (sym is)
+
+pub answers_next : (whole : Bool) (who now : ℕ) (messages : List Message) (i : ℕ) (message : Message) (a b c : Place) → i < length messages
+    → message ≡ get_or messages i message → now ≡ who → Answers true who (take i messages) rest.End a b → b.desk.spent ≡ false
+    → Answers whole now (message ∷ []) rest.End b c → Answers whole who (take (i + 1) messages) rest.End a c
+answers_next whole who now messages i message a b c within is same h ready k =
+    let one : Answers whole who (message ∷ []) rest.End b c = subst (λ n. Answers whole n (message ∷ []) rest.End b c) same k in
+    subst (λ (ms : List Message). Answers whole who ms rest.End a c) (sym (taken_next messages i message within is))
+    (answers_then whole who (take i messages) (message ∷ []) rest.End a b c h ready one)
+
+pub answers_cut : (who : ℕ) (messages : List Message) (i : ℕ) (a b : Place) → Answers false who (take i messages) rest.End a b → Answers false who messages rest.End a b
+answers_cut who messages i a b h = answers_more who (take i messages) (drop i messages) messages rest.End a b (take-append-drop i messages) h

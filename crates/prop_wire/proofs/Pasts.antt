@@ -17,7 +17,7 @@ use Rattle.prop_wire.specs.declared.refusal.WireRefusal.{WireRefusal}
 use Rattle.prop_wire.specs.declared.refusal.WireRefusal.TheVariants as refusal
 use Rattle.prop_wire.specs.declared.stream.Stream.{Stream}
 use Rattle.prop_wire.proofs.Courses.{answers_end, answers_nothing, answers_part, answers_then}
-use Rattle.prop_wire.proofs.Ends.{serves_at, serves_behind}
+use Rattle.prop_wire.proofs.Ends.{serves_at, serves_behind, serves_none}
 use Rattle.prop_wire.proofs.Readings.{unfinished_is_open, wire_of}
 
 pub record Past (who : ℕ) (old new : Option (List ℕ)) (stream : Stream) (a b : Place) : Type 0 where
@@ -237,3 +237,44 @@ past_ended who old mid new s t a b r h e is =
                 (answers_end true who h.done (unfinished h.had) a b (unfinished_is_open h.had) h.answers);
           }))
     ]
+
+-- ---- what `read_on` leaves
+
+pub has_read : (mid new : Option (List ℕ)) (s t : Stream) (more : Bool) → more ≡ true → DrawsPiece mid new s.read t.piece (Ok more)
+    → ((r : Result Bool WireRefusal) → r ≡ Ok more → r ≡ Ok true → t.read ≡ s.read + length t.piece) → t ≡ record s { piece = t.piece; read = t.read } → HasRead mid new s t
+has_read mid new s t more is draws read rest =
+    let drawn : DrawsPiece mid new s.read t.piece (Ok true) = subst (λ (b : Bool). DrawsPiece mid new s.read t.piece (Ok b)) is draws in
+    let answer : Result Bool WireRefusal = Ok more in
+    let ok : answer ≡ Ok true = ap (λ (b : Bool). let r : Result Bool WireRefusal = Ok b in r) is in record {
+      consumed = drawn.0;
+      some = drawn.1;
+      within = drawn.2;
+      read = read answer refl ok;
+      feeder = ap (λ (x : Stream). x.feeder) rest;
+      messages = ap (λ (x : Stream). x.messages) rest;
+      whole = ap (λ (x : Stream). x.whole) rest;
+    }
+
+pub has_ended : (mid new : Option (List ℕ)) (s t : Stream) (more : Bool) → more ≡ false → DrawsPiece mid new s.read t.piece (Ok more)
+    → ((r : Result Bool WireRefusal) → r ≡ Ok more → r ≡ Ok false → t.read ≡ s.read) → t ≡ record s { piece = t.piece; read = t.read } → HasEnded mid new s t
+has_ended mid new s t more is draws read rest =
+    let drawn : DrawsPiece mid new s.read t.piece (Ok false) = subst (λ (b : Bool). DrawsPiece mid new s.read t.piece (Ok b)) is draws in
+    let answer : Result Bool WireRefusal = Ok more in
+    let ok : answer ≡ Ok false = ap (λ (b : Bool). let r : Result Bool WireRefusal = Ok b in r) is in record {
+      consumed = drawn.0;
+      at_end = drawn.1;
+      read = read answer refl ok;
+      messages = ap (λ (x : Stream). x.messages) rest;
+      whole = ap (λ (x : Stream). x.whole) rest;
+    }
+
+-- nothing was read
+pub source_none : (who : ℕ) (source : Option (List ℕ)) (a : Place) → ServesSource source source who a a (Err refusal.NoMemory)
+source_none who source a = record {
+  given = [];
+  more = [];
+  consumed = consumes_nothing source;
+  within = omega arith;
+  all = tt;
+  serves = serves_none who 0 [] a refusal.NoMemory (λ _ _ _. tt) refl;
+}
