@@ -164,10 +164,7 @@ held_serves old new held who a b (Err (refusal.BadLength at len)) is h =
     let front = front_held h.given h.more k.rest held k.held_is h.within in
     let bad : is_open h.serves.last ≡ false = ap is_open h.serves.end.0 in
     subst (λ (l : List ℕ). Serves who 0 l a b (Err (refusal.BadLength at len))) front.1 (bad_more who h.given front.0 a b (refusal.BadLength at len) h.serves bad)
-held_serves old new held who a b (Err refusal.Spent) is h =
-    let k = held_of old new held h.given h.more is h.consumed in
-    let front = front_held h.given h.more k.rest held k.held_is h.within in
-    subst (λ (l : List ℕ). Serves who 0 l a b (Err refusal.Spent)) front.1 (fault_more who h.given front.0 a b refusal.Spent (λ _ _ _. tt) refl h.serves)
+held_serves old new held who a b (Err refusal.Spent) is h = absurd h.all
 held_serves old new held who a b (Err refusal.ReadFault) is h =
     let k = held_of old new held h.given h.more is h.consumed in
     let front = front_held h.given h.more k.rest held k.held_is h.within in
@@ -180,6 +177,9 @@ held_serves old new held who a b (Err refusal.NoMemory) is h =
     let k = held_of old new held h.given h.more is h.consumed in
     let front = front_held h.given h.more k.rest held k.held_is h.within in
     subst (λ (l : List ℕ). Serves who 0 l a b (Err refusal.NoMemory)) front.1 (fault_more who h.given front.0 a b refusal.NoMemory (λ _ _ _. tt) refl h.serves)
+
+pub never_spent : (old new : Option (List ℕ)) (who : ℕ) (a b : Place) (r : Result ℕ WireRefusal) → ServesSource old new who a b r → r ≡ Err refusal.Spent → ⊥
+never_spent old new who a b r h is = let at : ServesSource old new who a b (Err refusal.Spent) = subst (λ (x : Result ℕ WireRefusal). ServesSource old new who a b x) is h in at.all
 
 pub held_tells : (old new : Option (List ℕ)) (held : List ℕ) (who : ℕ) (a b : Place) (r : Result ℕ WireRefusal) → old ≡ Some held → ServesSource old new who a b r
     → TellsLimit held r

@@ -86,6 +86,7 @@ abbrev pub DrawsAll : Option (List ℕ) → List ℕ → List ℕ → Result ℕ
 DrawsAll new given more (Ok count) = (more ≡ []) × IsAtEnd new
 DrawsAll new given more (Err (refusal.Torn at)) = (more ≡ []) × IsAtEnd new
 DrawsAll new given more (Err (refusal.TooLong taken)) = (0 < length more) × (length given ≡ max_stream)
+DrawsAll new given more (Err refusal.Spent) = ⊥
 DrawsAll new given more _ = ⊤
 
 -- these bytes of the source were served

@@ -25,8 +25,8 @@ returns-in_err-answer_all-clause-answers g c =
     let who = who_in c.args.reader.now in
     let a = place_of (g.D.WireDesk.view c.args.desk.now) (g.K.Sink.taken c.args.to.now) in
     let b = place_of (g.D.WireDesk.view c.answer_all.new.desk) (g.K.Sink.taken c.answer_all.new.to) in
-    rw (p.1, p.2) (cut_comes c.in_err-answer_all.field-0,
-    piece_cut who s.whole (tail_of s.feeder ++ s.piece) c.in_ok-batch.batch.messages c.in_ok-batch.batch.bad c.feed.new.self.feeder a b c.in_err-answer_all.field-0
+    rw (p.1, p.2) (cut_comes c.in_err-answer_all.field-0.0,
+    piece_cut who s.whole (tail_of s.feeder ++ s.piece) c.in_ok-batch.batch.messages c.in_ok-batch.batch.bad c.feed.new.self.feeder a b c.in_err-answer_all.field-0.0
     c.in_ok-batch.ensures.reads (subst (λ (ms : List Message). Answers false who ms rest.End a b) c.items.ensures c.in_err-answer_all.ensures.answers))
 
 pub count_in-requires-clause-fits : goal.count_in-requires-clause-fits

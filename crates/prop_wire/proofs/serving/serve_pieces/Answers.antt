@@ -23,7 +23,7 @@ returns-in_err-read_on-clause-serves g c =
     let a = place_of (g.D.WireDesk.view c.args.desk.now) (g.K.Sink.taken c.args.to.now) in
     let b = place_of (g.D.WireDesk.view c.loop-desk.desk) (g.K.Sink.taken c.loop-desk.to) in
     rw (p.1, p.2) (past_unread (who_in c.args.reader.now) (left c.args.from.now) (left c.loop-desk.from) (left c.read_on.new.from) c.loop-desk.stream c.read_on.new.self.piece a b
-    c.in_err-read_on.field-0 c.loop-desk.invariant.past c.in_err-read_on.ensures.draws)
+    c.in_err-read_on.field-0.0 c.loop-desk.invariant.past c.in_err-read_on.ensures.draws)
 
 pub loop-desk-preserved : goal.loop-desk-preserved
 loop-desk-preserved g c =
@@ -52,7 +52,7 @@ returns-in_err-answer_piece-clause-serves g c =
     let who = who_in c.args.reader.now in
     let s = c.loop-desk.stream in
     let t = c.read_on.new.self in
-    let e = c.in_err-answer_piece.field-0 in
+    let e = c.in_err-answer_piece.field-0.0 in
     let a = place_of (g.D.WireDesk.view c.args.desk.now) (g.K.Sink.taken c.args.to.now) in
     let b = place_of (g.D.WireDesk.view c.loop-desk.desk) (g.K.Sink.taken c.loop-desk.to) in
     let d = place_of (g.D.WireDesk.view c.answer_piece.new.desk) (g.K.Sink.taken c.answer_piece.new.to) in
@@ -63,4 +63,12 @@ returns-in_err-answer_piece-clause-serves g c =
     (subst (λ n. Serves n t.whole (tail_of t.feeder ++ t.piece) b d (Err e)) (who_back c.args.reader.now c.loop-desk.reader c.loop-desk.invariant.back) answers.1))
 
 pub returns-clause-serves : goal.returns-clause-serves
-returns-clause-serves g c = ?
+returns-clause-serves g c =
+    let left = g.S.Source.left in
+    let s = c.loop-desk.stream in
+    let t = c.read_on.new.self in
+    let a = place_of (g.D.WireDesk.view c.args.desk.now) (g.K.Sink.taken c.args.to.now) in
+    let b = place_of (g.D.WireDesk.view c.loop-desk.desk) (g.K.Sink.taken c.loop-desk.to) in
+    let ended = has_ended (left c.loop-desk.from) (left c.read_on.new.from) s t c.in_ok-read_on.field-0 c.if-branch.false c.in_ok-read_on.ensures.draws
+    (λ r is ok. c.in_ok-read_on.ensures.end (sym is ∙ ok)) c.in_ok-read_on.ensures.rest in
+    past_ended (who_in c.args.reader.now) (left c.args.from.now) (left c.loop-desk.from) (left c.read_on.new.from) s t a b c.end.result c.loop-desk.invariant.past ended c.end.ensures
