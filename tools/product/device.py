@@ -90,7 +90,7 @@ class Device:
             return len(parts) == 1 and self.rest != self.out
         top = parts[: 2 if parts[:1] == ["apex"] else 1]
         place = self.place_of(top)
-        return len(parts) > len(top) and stat.S_ISDIR(mode_at(place) or 0) and bool(names_in(place))
+        return stat.S_ISDIR(mode_at(place) or 0) and bool(names_in(place))
 
     def surely_lacks(self, path):
         """Whether nothing is at the path on a device either."""
