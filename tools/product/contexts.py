@@ -31,24 +31,32 @@ def control_name(name):
     return CONTROLS.get(name)
 
 
+class Left(Exception):
+    """Why a line is left, and whether a device refuses it too."""
+
+    def __init__(self, why, trips=True):
+        super().__init__(why)
+        self.trips = trips
+
+
 def context_of(line):
-    """The context of a line of AOSP's, in our words; else why there is none."""
+    """The context of a line of AOSP's, in our words."""
     name, *rest = line.split()
     label = rest[0].split(":")[2] if rest and rest[0].count(":") >= 3 else None
     kind, types = (rest[1] if len(rest) > 1 else "prefix"), rest[2:]
     if label is None:
-        return None, "NAME and a context u:object_r:LABEL:s0 are expected"
+        raise Left("NAME and a context u:object_r:LABEL:s0 are expected")
     if kind not in ("exact", "prefix"):
-        return None, f'exact or prefix is expected, "{kind}" is given'
+        raise Left(f'exact or prefix is expected, "{kind}" is given')
     if not is_type(types):
-        return None, f'"{" ".join(types)}" is no type'
+        raise Left(f'"{" ".join(types)}" is no type')
     mapped = control_name(name)
     if mapped is None:
-        return None, f"{name}: this machine asks who may set ctl.start, ctl.stop and ctl.restart, whatever the service"
+        raise Left(f"{name}: this machine asks who may set ctl.start, ctl.stop and ctl.restart, whatever the service", trips=False)
     kind = "exact" if mapped != name else kind
     if mapped == "*":
-        return Context(("*",), ["*", label, *(["prefix"] if types else []), *types]), None
-    return Context((mapped, kind), [mapped, label, kind, *types]), None
+        return Context(("*",), ["*", label, *(["prefix"] if types else []), *types])
+    return Context((mapped, kind), [mapped, label, kind, *types])
 
 
 class Contexts:
@@ -68,13 +76,15 @@ class Contexts:
 
     def add(self, line, place):
         """Adds the context of a line, and answers whether it has one."""
-        context, why = context_of(line)
-        if context is None:
-            self.report.left(f"{place}: {why}")
+        try:
+            context = context_of(line)
+        except Left as left:
+            self.report.left(f"{place}: {left}", left.trips)
             return False
         if context.key in self.lines:
             what = " ".join(context.key)
-            self.report.left(f"{self.places[context.key]}: {what} stands in {place} too, and the last one is taken; init refuses two")
+            why = f"{what} stands in {place} too, and the last one is taken; init refuses two"
+            self.report.left(f"{self.places[context.key]}: {why}", trips=True)
             del self.lines[context.key]
         label = context.words[1]
         if label in self.aliases:
@@ -95,7 +105,7 @@ def take_contexts(device, aliases, report):
         count = contexts.add_file(path, text_of(content))
         report.took(f"{path}: {counted(count, 'line', 'lines')}")
     if absent == list(CONTEXTS):
-        report.lacks("property_contexts: OUT has none, so each property has the context default_prop and the type string")
+        report.lacks("property_contexts: OUT has none, so each property has the context default_prop and the type string", trips=True)
         return None
     if absent:
         report.lacks(f"{', '.join(absent)}; a product needn't have them all")

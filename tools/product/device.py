@@ -56,6 +56,12 @@ class Device:
 
     def follow(self, path):
         """Where in OUT the path leads, links followed as on the device; None where nothing is there."""
+        parts, is_there = self.resolve(path)
+        return self.place_of(parts) if is_there else None
+
+    def resolve(self, path):
+        """The parts of the path on the device to which the path leads, links followed, and whether something is there. If nothing is, they
+        are those with which the search ended."""
         todo, at, links = parts_of(path)[::-1], [], 0
         while todo:
             part = todo.pop()
@@ -65,17 +71,31 @@ class Device:
             place = self.place_of([*at, part])
             mode = mode_at(place)
             if mode is None:
-                return None
+                return [*at, part, *todo[::-1]], False
             if not stat.S_ISLNK(mode):
                 at.append(part)
                 continue
             links += 1
             if links > MOST_LINKS:
-                return None
+                return [*at, part, *todo[::-1]], False
             target = os.readlink(place)
             at = [] if target.startswith("/") else at
             todo += parts_of(target)[::-1]
-        return self.place_of(at)
+        return at, True
+
+    def has_part(self, parts):
+        """Whether OUT has the partition, the APEX or the root folder of a path without links, so that what OUT lacks there, a device lacks
+        too."""
+        if parts[:1] and parts[0] not in PARTITIONS:
+            return len(parts) == 1 and self.rest != self.out
+        top = parts[: 2 if parts[:1] == ["apex"] else 1]
+        place = self.place_of(top)
+        return stat.S_ISDIR(mode_at(place) or 0) and bool(names_in(place))
+
+    def surely_lacks(self, path):
+        """Whether nothing is at the path on a device either."""
+        parts, is_there = self.resolve(path)
+        return path.startswith("/") and not is_there and self.has_part(parts)
 
     def is_folder(self, path):
         place = self.follow(path)
@@ -91,11 +111,15 @@ class Device:
         if not self.is_folder(path):
             return None
         place = self.follow(path)
-        try:
-            names = sorted(os.listdir(place), key=os.fsencode)
-        except OSError as why:
-            raise Stop(UNREADABLE, f"{place}: {why.strerror}") from None
-        return [(it, mode_at(os.path.join(place, it)) or 0) for it in names]
+        return [(it, mode_at(os.path.join(place, it)) or 0) for it in names_in(place)]
+
+
+def names_in(place):
+    """The names in a folder, in byte order."""
+    try:
+        return sorted(os.listdir(place), key=os.fsencode)
+    except OSError as why:
+        raise Stop(UNREADABLE, f"{place}: {why.strerror}") from None
 
 
 def read_plain(place, status):

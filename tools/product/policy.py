@@ -68,7 +68,8 @@ def find_rules(device, given, report):
         return text_of(read_plain(given, BAD_GIVEN)), given
     path = next((it for it in POLICIES if device.follow(it)), None)
     if path is None:
-        report.lacks("property_allow: OUT has no policy, as CIL or compiled. No client may set anything; give the rules by --sesearch FILE")
+        why = "OUT has no policy, as CIL or compiled. No client may set anything; give the rules by --sesearch FILE"
+        report.lacks(f"property_allow: {why}", trips=True)
         return None, None
     if shutil.which("sesearch") is None:
         report.lacks(

@@ -23,7 +23,7 @@ def pair_of(line, place, report):
     if equals and not name.startswith("ctl.") and name not in NOT_IN_FILES:
         return Pair(name, value, place)
     what = f"{name} may not stand in a build file" if equals else "the line has no ="
-    report.left(f"{place}: {what}, and says nothing")
+    report.left(f"{place}: {what}, and says nothing", trips=bool(equals))
     # (this machine would take the names that only init itself knows)
     return Pair(None, f"# {line}" if name in NOT_IN_FILES else line, place)
 
@@ -68,7 +68,7 @@ def imported_pairs(device, words, given, report, place, depth):
     if path and path.startswith("/") and depth < MOST_IMPORTS:
         found = pairs_in(device, path, given, report, only, depth + 1)
     if found is None:
-        report.lacks(f"{path or wanted}, which {place} imports")
+        report.lacks(f"{path or wanted}, which {place} imports", trips=device.surely_lacks(path or wanted))
     return found or []
 
 
@@ -99,7 +99,7 @@ def load_props(device, wanted, given, report):
                 continue
             report.took(f"{path}: {counted(len(named([(path, pairs)])), 'property', 'properties')}")
             if len(paths) > 1 and is_too_new(it, pairs):
-                report.lacks(f"/{it}/etc/build.prop: init stops where so new a partition has its properties in {path}")
+                report.lacks(f"/{it}/etc/build.prop: init stops where so new a partition has its properties in {path}", trips=True)
             loaded.append((path, pairs))
     return loaded
 
@@ -131,7 +131,7 @@ def tell_refused(pairs, report):
             why = f"its value has {size} bytes, and {most_value_bytes(pair.name)} is the most"
         else:
             continue
-        report.lacks(f"{pair.name}, of {pair.place}, since a boot refuses to set it: {why}")
+        report.lacks(f"{pair.name}, of {pair.place}, since a boot refuses to set it: {why}", trips=pair.place.startswith("/"))
 
 
 class Props(NamedTuple):
@@ -145,7 +145,7 @@ def take_props(device, given, report):
     system = load_props(device, [*default_props(device), *SYSTEM_PROPS], given, report)
     vendor = load_props(device, VENDOR_PROPS, given, report)
     if not any(path == "/system/build.prop" for path, _ in system):
-        report.lacks("/system/build.prop")
+        report.lacks("/system/build.prop", trips=True)
     tell_early(system + vendor, given, report)
     vendor.append(("what the bootloader gives (--prop, --getprop)", [Pair(name, value, "the bootloader's") for name, value in sorted(given.items())]))
     vendor.append(("what init makes of these", derived({it.name: it.value for it in named(system + vendor)})))

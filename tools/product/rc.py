@@ -8,6 +8,7 @@ from product.apex import APEX_RC, apex_files, tell_packed
 from product.derived import BOOT_PROPS
 from product.device import normal, read_plain
 from product.mounts import MOUNTED_RC, is_early, mounted
+from product.services import HEADERS, Services
 from product.texts import BAD_GIVEN, NO_PRODUCT, Stop, bytes_of, counted, expand, is_utf8, text_of
 
 ROOT_RC = "/system/etc/init/hw/init.rc"
@@ -99,6 +100,9 @@ class RcFiles:
         self.files, self.scanned, self.told, self.absent = {}, set(), set(), set()
         # (each mount_all that isn't early, with its place and the words of its header)
         self.mounts = []
+        self.services = Services()
+        # (the user's own files, of which a device has none)
+        self.own = set()
 
     def take_all(self, added, data):
         """Takes all, with rc files of the user's own, and what mount_all does where /data is so encrypted."""
@@ -150,6 +154,7 @@ class RcFiles:
         if path in self.files:
             raise Stop(BAD_GIVEN, f"{given}: there is a {path} already")
         self.files[path] = read_plain(given, BAD_GIVEN)
+        self.own.add(path)
         self.report.took(f"{given}, as {path}")
         self.take_imports(path)
 
@@ -200,7 +205,9 @@ class RcFiles:
         taken, header = [], []
         for number, words in Scanner(text_of(self.files[path])).lines():
             place = f"{path}:{number}"
-            if words[0] in ("on", "service", "import"):
+            if not self.is_own(place):
+                self.services.add(words, place)
+            if words[0] in HEADERS:
                 header = words
             if words[0] == "import" and len(words) == 2:
                 taken += self.take_import(words[1], place)
@@ -226,7 +233,8 @@ class RcFiles:
         else:
             self.absent.add(path)
             stands = wanted == OFTEN_ABSENT
-            self.report.lacks(f"{path}, imported at {place}" + ("; an empty file stands for it, as AOSP's root file imports it for any product" if stands else ""))
+            hint = "; an empty file stands for it, as AOSP's root file imports it for any product" if stands else ""
+            self.report.lacks(f"{path}, imported at {place}{hint}", trips=not stands and not self.is_own(place) and self.device.surely_lacks(path))
             if stands:
                 self.files[path] = EMPTY
             return []
@@ -235,9 +243,12 @@ class RcFiles:
             self.report.took(f"{what}, imported at {place}")
         return taken
 
+    def is_own(self, place):
+        return place.rpartition(":")[0] in self.own
+
     def tell_failure(self, wanted, name, place):
         if not name:
-            self.report.left(f"{place}: {wanted} can't be expanded")
+            self.report.left(f"{place}: {wanted} can't be expanded", trips=not self.is_own(place))
             return
         source = next((it for it, to in BOOT_PROPS.items() if to == name), name)
         fits = self.values_for(wanted, "${" + name + "}")

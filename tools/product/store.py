@@ -2,7 +2,7 @@
 import re
 
 from product.device import read_plain
-from product.texts import BAD_GIVEN, MOST_VALUE_BYTES, Stop, bytes_of, counted, is_legal_name, is_utf8, line_fault, text_of
+from product.texts import BAD_GIVEN, MOST_VALUE_BYTES, Stop, bytes_of, counted, is_legal_name, is_utf8, line_fault, quoted, text_of
 
 
 # The types that the store spells; string, double and size are any.
@@ -30,12 +30,6 @@ def passes(kind, value):
     if not value or kind not in FORMS:
         return True
     return re.fullmatch(FORMS[kind], value) is not None and (kind not in RANGES or int(value) in RANGES[kind])
-
-
-def quoted(value):
-    """The q form of a value."""
-    spelled = [chr(it) if 0x21 <= it <= 0x7E and it != 0x25 else f"%{it:02X}" for it in bytes_of(value)]
-    return "".join(spelled) or "%"
 
 
 def store_text(pairs, types):
@@ -88,7 +82,7 @@ def take_store(path, found, contexts, report):
         if not name.startswith("persist."):
             continue
         if why:
-            report.left(f"{path}: {name}: {why}")
+            report.left(f"{path}: {name}: {why}", trips=True)
         else:
             pairs[name] = value
     report.took(f"{path}: {counted(len(pairs), 'persistent property', 'persistent properties')}")

@@ -2,7 +2,7 @@
 import os
 import re
 
-USAGE, NO_OUT, NO_PRODUCT, UNREADABLE, ROOT_THERE, UNWRITABLE, BAD_GIVEN = range(1, 8)
+USAGE, NO_OUT, NO_PRODUCT, UNREADABLE, ROOT_THERE, UNWRITABLE, BAD_GIVEN, TRIPS = range(1, 9)
 
 MOST_NAME_BYTES = 255
 MOST_VALUE_BYTES = 91
@@ -18,19 +18,25 @@ class Stop(Exception):
 
 
 class Report:
-    """What was taken, left and found lacking, a line each."""
+    """What was taken, left and found lacking, a line each; and those of these lines over which a device would trip, since its init refuses
+    what they name, or fails at it."""
 
     def __init__(self):
-        self.lines = []
+        self.lines, self.trips = [], []
 
     def took(self, what):
         self.lines.append(f"took: {what}")
 
-    def left(self, what):
-        self.lines.append(f"left: {what}")
+    def left(self, what, trips=False):
+        self.add(f"left: {what}", trips)
 
-    def lacks(self, what):
-        self.lines.append(f"lacks: {what}")
+    def lacks(self, what, trips=False):
+        self.add(f"lacks: {what}", trips)
+
+    def add(self, line, trips):
+        self.lines.append(line)
+        if trips:
+            self.trips.append(line)
 
     def assumed(self, what):
         self.lines.append(f"assumed: {what}")
@@ -49,6 +55,12 @@ def printable(text):
     """The text in one line, with control characters, and bytes that aren't UTF-8, written as \\x0a."""
     shown = bytes_of(text).decode("utf-8", "backslashreplace")
     return "".join(it if it.isprintable() else it.encode("unicode_escape").decode() for it in shown)
+
+
+def quoted(text):
+    """The q form of a text."""
+    spelled = [chr(it) if 0x21 <= it <= 0x7E and it != 0x25 else f"%{it:02X}" for it in bytes_of(text)]
+    return "".join(spelled) or "%"
 
 
 def is_legal_name(name):
