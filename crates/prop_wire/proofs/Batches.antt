@@ -1,22 +1,22 @@
 -- A piece of a stream that is answered.
-use Rattle.std.proofs.Common.{◌≡◌, ℕ, ◌+◌, ◌<◌, ◌≤◌, Bool, true, false, cond, List, [], ◌∷◌, ◌++◌, length, Option, Some, None, Result, Ok, Err, refl, sym, ap, subst, ◌∙◌, arith, append-nil, length-append}
+use Rattle.std.proofs.Common.{◌≡◌, ℕ, ◌+◌, ◌≤◌, Bool, true, false, List, [], ◌∷◌, ◌++◌, length, Option, Some, None, Result, Ok, Err, refl, sym, ap, subst, ◌∙◌, arith, append-nil, length-append}
 use Rattle.std.proofs.lemmas.Bool.{cond_both}
 use Rattle.std.proofs.lemmas.List.Sums.{sum_by-cons}
 use Rattle.std.specs.Io.KnownBytes.{append_known}
 use Rattle.init_base.specs.declared.outside.refusal.IoRefusal.{IoRefusal}
 use Rattle.init_base.specs.declared.outside.refusal.IoRefusal.TheVariants as io
 use Rattle.init_trace.specs.Written.{TakesFront}
-use Rattle.property_service.specs.Service.{ServiceView}
-use Rattle.wire_format.specs.Feeding.{tail, Feeding, LeavesTail}
+use Rattle.wire_format.specs.Feeding.{Feeding}
 use Rattle.wire_format.specs.Spelling.{message_len}
 use Rattle.wire_format.specs.Wire.{unfinished, Wire}
 use Rattle.wire_format.specs.declared.message.Message.{Message}
 use Rattle.wire_format.specs.declared.message.Rest.{Rest}
 use Rattle.wire_format.specs.declared.message.Rest.TheVariants as rest
 use Rattle.wire_format.proofs.Readings.{stream_len}
+use Rattle.prop_wire.specs.Limit.{max_stream}
 use Rattle.prop_wire.specs.Refusals.{refusal_of}
 use Rattle.prop_wire.specs.Replies.{rest_reply}
-use Rattle.prop_wire.specs.Serving.{is_whole, place_of, AddsSets, Answers, IsPart, Place, Serves, TakesBytes, TellsEnd}
+use Rattle.prop_wire.specs.Serving.{place_of, Answers, IsPart, Place, Serves, TakesBytes}
 use Rattle.prop_wire.specs.internal.Course.{AnswersPiece, ComesOfPiece, GoesBehind}
 use Rattle.prop_wire.specs.Reply.{reply_bytes}
 use Rattle.prop_wire.specs.internal.Streams.{refusal_at, reply_to, rest_of, tail_of, total_len, EndsWith, ReadsPiece, Refuses}
@@ -26,7 +26,7 @@ use Rattle.prop_wire.specs.declared.stream.Bad.{Bad}
 use Rattle.prop_wire.specs.declared.stream.Bad.TheVariants as bad
 use Rattle.prop_wire.specs.declared.stream.Stream.{Stream}
 use Rattle.prop_wire.proofs.Courses.{answers_end, answers_more, bytes_then, part_of_whole, replies_at}
-use Rattle.prop_wire.proofs.Ends.{serves_at, serves_none}
+use Rattle.prop_wire.proofs.Ends.{serves_at}
 use Rattle.prop_wire.proofs.Readings.{unfinished_is_open, wire_of}
 
 -- ---- lengths
@@ -97,12 +97,12 @@ refused_by : (found : Bad) (at who before : ℕ) (bytes : List ℕ) (messages : 
 refused_by (bad.Command word) at who before bytes messages a b now place wire h taken = (
   tt,
   serves_at who before bytes messages (rest.BadCommand word) a (place_of b.desk now) (Err (refusal.BadCommand at word)) wire (refl, place)
-  (answers_rest true who messages (rest.BadCommand word) a b now h (record { written = _; part = refl; taken = taken })),
+      (answers_rest true who messages (rest.BadCommand word) a b now h (record { written = _; part = refl; taken = taken })),
 )
 refused_by (bad.Length len) at who before bytes messages a b now place wire h taken = (
   tt,
   serves_at who before bytes messages (rest.BadLength len) a (place_of b.desk now) (Err (refusal.BadLength at len)) wire (refl, place)
-  (answers_rest true who messages (rest.BadLength len) a b now h (record { written = _; part = refl; taken = taken })),
+      (answers_rest true who messages (rest.BadLength len) a b now h (record { written = _; part = refl; taken = taken })),
 )
 
 -- ---- the piece as a whole
@@ -154,12 +154,12 @@ ends_with : (who : ℕ) (s t : Stream) (messages : List Message) (found : Bad) (
 ends_with who s t messages found a b now refusal.WriteFault place wire answers ends = (
   tt,
   serves_at who s.whole (tail_of s.feeder ++ s.piece) messages (rest_of found) a (place_of b.desk now) (Err refusal.WriteFault) wire tt
-  (answers_rest false who messages (rest_of found) a b now answers (front_taken b.taken now (rest_reply (rest_of found)) (subst (λ (l : List ℕ). TakesFront b.taken now l) (rest_is found) ends))),
+      (answers_rest false who messages (rest_of found) a b now answers (front_taken b.taken now (rest_reply (rest_of found)) (subst (λ (l : List ℕ). TakesFront b.taken now l) (rest_is found) ends))),
 )
 ends_with who s t messages found a b now refusal.NoMemory place wire answers ends = (
   tt,
   serves_at who s.whole (tail_of s.feeder ++ s.piece) messages (rest_of found) a (place_of b.desk now) (Err refusal.NoMemory) wire tt
-  (answers_rest false who messages (rest_of found) a b now answers (front_taken b.taken now (rest_reply (rest_of found)) (subst (λ (l : List ℕ). TakesFront b.taken now l) (rest_is found) ends))),
+      (answers_rest false who messages (rest_of found) a b now answers (front_taken b.taken now (rest_reply (rest_of found)) (subst (λ (l : List ℕ). TakesFront b.taken now l) (rest_is found) ends))),
 )
 ends_with who s t messages found a b now refusal.Spent place wire answers ends =
     stopped_by who s t messages found a b now refusal.Spent place wire answers ends.0 (ends.1 ∙ ap (λ l. append_known b.taken l) (rest_is found))
@@ -199,3 +199,12 @@ counted_in s f t seen messages fed counted same = record {
       ap (λ (x : Stream). x.whole) counted ∙ ap (λ (x : Stream). x.whole + total_len seen) fed
       ∙ ap (λ (ms : List Message). s.whole + total_len ms) same;
 }
+
+-- the messages of a piece are within the limit
+pub room_in : (s f : Stream) (seen messages : List Message) (found : Option Bad) (after : Feeding) → s.whole + length (tail_of s.feeder) + length s.piece ≡ s.read → s.read ≤ max_stream
+    → f ≡ record s { feeder = f.feeder } → seen ≡ messages → ReadsPiece (tail_of s.feeder ++ s.piece) messages found after → f.whole + total_len seen ≤ max_stream
+room_in s f seen messages found after read within fed same reads =
+    let fits = piece_fits (tail_of s.feeder ++ s.piece) messages found after reads in
+    let whole : f.whole ≡ s.whole = ap (λ (x : Stream). x.whole) fed in
+    let total : total_len seen ≡ total_len messages = ap (λ (ms : List Message). total_len ms) same in
+    omega (arith, length-append (tail_of s.feeder) s.piece)

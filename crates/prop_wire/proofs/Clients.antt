@@ -1,5 +1,5 @@
 -- The client's reader, which is away while its message is set.
-use Rattle.std.proofs.Common.{◌≡◌, ℕ, Bool, false, Option, Some, None, IfOk, Result, Ok, Err, refl, sym, ap, subst, ◌∙◌}
+use Rattle.std.proofs.Common.{◌≡◌, Bool, false, Option, Some, None, IfOk, Result, Ok, Err, refl, sym, subst, ◌∙◌}
 use Rattle.atomic_table.specs.Seated.{TableId}
 use Rattle.init_base.specs.declared.outside.refusal.IoRefusal.{IoRefusal}
 use Rattle.init_base.specs.declared.outside.refusal.IoRefusal.TheVariants as io

@@ -8,7 +8,7 @@ use Rattle.init_machine.specs.State.{Opening}
 use Rattle.init_machine.specs.Step.{step}
 use Rattle.init_machine.specs.declared.input.Input.{Input}
 use Rattle.init_machine.specs.declared.report.Entry.{Entry}
-use Rattle.init_trace.specs.Written.{TakesFront, Writes}
+use Rattle.init_trace.specs.Written.{Writes}
 use Rattle.init_trace.proofs.Adding.{taken_then}
 use Rattle.property_area.specs.Seats.{Seated}
 use Rattle.property_service.specs.Service.{ServiceView}

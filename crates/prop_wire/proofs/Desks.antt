@@ -1,5 +1,5 @@
 -- A message that a desk sets.
-use Rattle.std.proofs.Common.{◌≡◌, ℕ, ◌⊎◌, Bool, true, false, is_ok, is_some, List, [], ◌∷◌, ◌++◌, Option, Some, None, IsSomeAnd, IfOk, OnOk, OnErr, Result, Ok, Err, option_and_then, refl, sym, ap, subst, ◌∙◌, inl, inr, ⊎_elim}
+use Rattle.std.proofs.Common.{◌≡◌, ℕ, ◌⊎◌, true, false, is_ok, is_some, List, [], ◌∷◌, ◌++◌, Option, Some, None, IsSomeAnd, IfOk, OnOk, OnErr, Result, Ok, Err, option_and_then, refl, sym, ap, subst, ◌∙◌, inl, inr, ⊎_elim}
 use Rattle.std.proofs.lemmas.Bool.{both_ways}
 use Rattle.std.proofs.lemmas.Result.{IfOk-at_ok}
 use Rattle.init_machine.specs.declared.input.Input.{Input}

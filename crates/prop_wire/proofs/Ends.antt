@@ -1,13 +1,10 @@
 -- How a stream that is served ends.
-use Rattle.std.proofs.Common.{◌≡◌, ℕ, ◌+◌, ◌-◌, ◌<◌, ◌≤◌, ◌⊎◌, Bool, true, false, IsTrue, List, [], ◌∷◌, ◌++◌, length, take, Option, Some, None, Result, Ok, Err, refl, sym, ap, subst, ◌∙◌, inl, inr, arith, append-nil, append_assoc, length-append}
+use Rattle.std.proofs.Common.{◌≡◌, ℕ, ◌+◌, ◌-◌, ◌≤◌, Bool, true, false, List, [], ◌++◌, length, take, Option, Some, None, Result, Ok, Err, refl, sym, ap, subst, ◌∙◌, inl, inr, arith, append-nil, append_assoc, length-append}
 use Rattle.std.proofs.Math.Seq.{take-append_seam, take-append-add}
-use Rattle.std.proofs.lemmas.Bool.{both_ways, cases_Bool}
-use Rattle.std.proofs.lemmas.List.{nil_from_length, take_all}
-use Rattle.std.specs.Io.KnownBytes.{append_known, Consumes, IsAtEnd}
-use Rattle.init_trace.specs.Written.{TakesFront}
-use Rattle.init_trace.proofs.Adding.{taken_then}
-use Rattle.wire_format.specs.Feeding.{tail, Feeding, LeavesTail}
-use Rattle.wire_format.specs.Wire.{is_open, unfinished, BeginsWith, Wire}
+use Rattle.std.proofs.lemmas.Bool.{cases_Bool}
+use Rattle.std.proofs.lemmas.List.{take_all}
+use Rattle.std.specs.Io.KnownBytes.{Consumes, IsAtEnd}
+use Rattle.wire_format.specs.Wire.{is_open, BeginsWith, Wire}
 use Rattle.wire_format.specs.declared.message.Message.{Message}
 use Rattle.wire_format.specs.declared.message.Rest.{Rest}
 use Rattle.wire_format.specs.declared.message.Rest.TheVariants as rest
@@ -15,8 +12,8 @@ use Rattle.wire_format.proofs.Joining.{some_reading}
 use Rattle.wire_format.proofs.Readings.{stream_len}
 use Rattle.wire_format.proofs.Streams.{begins_join, begins_stays}
 use Rattle.prop_wire.specs.Limit.{max_stream, stream_of}
-use Rattle.prop_wire.specs.Serving.{is_whole, place_of, Answers, IsPart, Place, Serves, TakesBytes, TellsEnd, TellsLimit}
-use Rattle.prop_wire.specs.internal.Course.{DrawsAll, ServesSource}
+use Rattle.prop_wire.specs.Serving.{is_whole, Answers, Place, Serves, TellsEnd, TellsLimit}
+use Rattle.prop_wire.specs.internal.Course.{ServesSource}
 use Rattle.prop_wire.specs.internal.Streams.{total_len}
 use Rattle.prop_wire.specs.declared.refusal.WireRefusal.{WireRefusal}
 use Rattle.prop_wire.specs.declared.refusal.WireRefusal.TheVariants as refusal
@@ -112,8 +109,8 @@ front_held given more rest held is within =
     let room : max_stream ≡ length given + (max_stream - length given) = omega arith in (
       take (max_stream - length given) (more ++ rest),
       sym (ap (λ (l : List ℕ). take max_stream l) (is ∙ append_assoc given more rest)
-      ∙ ap (λ n. take n (given ++ (more ++ rest))) room
-      ∙ take-append-add given (more ++ rest) (max_stream - length given)),
+          ∙ ap (λ n. take n (given ++ (more ++ rest))) room
+          ∙ take-append-add given (more ++ rest) (max_stream - length given)),
     )
 
 whole_held : (given more rest held : List ℕ) → held ≡ (given ++ more) ++ rest → length given ≤ max_stream → more ≡ [] → rest ≡ [] → held ≡ given

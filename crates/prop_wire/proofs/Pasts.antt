@@ -4,7 +4,7 @@ use Rattle.std.proofs.lemmas.Bool.{cases_Bool, eqb-false}
 use Rattle.std.proofs.lemmas.List.{nil_from_length}
 use Rattle.std.specs.Io.KnownBytes.{Consumes, IsAtEnd, Keeps}
 use Rattle.wire_format.specs.Feeding.{tail, LeavesTail}
-use Rattle.wire_format.specs.Wire.{front_of, is_open, no_message, unfinished, BeginsWith}
+use Rattle.wire_format.specs.Wire.{front_of, unfinished, BeginsWith}
 use Rattle.wire_format.specs.declared.message.Message.{Message}
 use Rattle.wire_format.specs.declared.message.Rest.TheVariants as rest
 use Rattle.wire_format.proofs.Readings.{stream_len}

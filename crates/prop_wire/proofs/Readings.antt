@@ -1,9 +1,9 @@
 -- What bytes that are added change of messages and a rest.
-use Rattle.std.proofs.Common.{◌≡◌, ℕ, ◌+◌, Bool, true, false, nat_lt, ◌==◌, List, [], ◌∷◌, ◌++◌, length, refl, ap, sym, ◌∙◌, length-append}
+use Rattle.std.proofs.Common.{◌≡◌, ℕ, ◌+◌, true, false, nat_lt, ◌==◌, List, [], ◌∷◌, ◌++◌, length, refl, ap, sym, ◌∙◌, length-append}
 use Rattle.std.proofs.lemmas.Bool.{both_ways, cond_both}
 use Rattle.wire_format.specs.Feeding.{LeavesTail}
 use Rattle.wire_format.specs.Format.{first, second, word_from}
-use Rattle.wire_format.specs.Wire.{front_by, front_of, is_open, no_message, shape_by, shape_of, unfinished, waits, BeginsWith, Wire}
+use Rattle.wire_format.specs.Wire.{front_by, front_of, is_open, no_message, shape_by, unfinished, waits, BeginsWith, Wire}
 use Rattle.wire_format.specs.declared.message.Message.{Message}
 use Rattle.wire_format.specs.declared.message.Rest.{Rest}
 use Rattle.wire_format.proofs.Fronts.{added, front_stays}

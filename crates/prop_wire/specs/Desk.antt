@@ -1,5 +1,5 @@
--- What a desk at which the messages of clients are set does.
-use Rattle.std.specs.Prelude.{◌≡◌, ℕ, ◌++◌, false, [], ◌∷◌, Option, IsSomeAnd}
+-- What a desk does with a client's message.
+use Rattle.std.specs.Prelude.{◌≡◌, ◌++◌, false, [], ◌∷◌, Option, IsSomeAnd}
 use Rattle.property_area.specs.Seats.{Seated}
 use Rattle.property_service.specs.Service.{ServiceView}
 use Rattle.property_service.specs.Settings.{set_entry}
@@ -13,8 +13,7 @@ pub record IsSameClient (reader back : Seated) : Type 0 where
   pub who : back.view.who ≡ reader.view.who
   pub opening : back.view.opening ≡ reader.view.opening
 
--- The entry of the message's set by the reader's client stands behind the history, and the reply is the one that this entry has. The
--- reader comes back.
+-- The history gains the entry of the message's set by the reader's client, and the reply is that of this entry. The reader comes back.
 pub record SetsMessage (old new : ServiceView) (reader : Seated) (back : Option Seated) (message : Message) (reply : Option Reply) : Type 0 where
   pub history : new.history ≡ old.history ++ set_entry old reader message.name message.value ∷ []
   pub opening : new.opening ≡ old.opening

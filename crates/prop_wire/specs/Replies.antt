@@ -1,4 +1,4 @@
--- What the messages of a client are replied.
+-- The replies to the messages of a client.
 use Rattle.std.specs.Prelude.{ℕ, List, [], ◌∷◌, ◌++◌, Option, Some, None, option_and_then, if◌then◌else◌}
 use Rattle.init_machine.specs.History.{after}
 use Rattle.init_machine.specs.State.{Opening}
@@ -26,7 +26,7 @@ reply_in outputs = option_and_then output_reply (last_of outputs)
 abbrev pub reply_for : Message → List Output → Option Reply
 reply_for message outputs = if message.second then reply_in outputs else None
 
--- what is written for messages of a client that are set after these inputs, one after another
+-- what is written for messages of a client, which are set one after another after these inputs
 abbrev pub message_replies : Opening → List Input → ℕ → List Message → List ℕ
 message_replies o inputs who [] = []
 message_replies o inputs who (message ∷ more) =

@@ -1,4 +1,4 @@
--- What a set is replied (bionic's protocol of the property socket).
+-- The replies to sets (bionic's protocol of the property socket).
 use Rattle.std.specs.Prelude.{ℕ, List, [], Option, Some, None}
 use Rattle.init_machine.specs.declared.output.Output.{Output}
 use Rattle.init_machine.specs.declared.output.Output.TheVariants as output
@@ -24,7 +24,7 @@ abbrev pub reply_bytes : Option Reply → List ℕ
 reply_bytes None = []
 reply_bytes (Some one) = word_bytes (word_of one)
 
--- the reply to a set that is refused; the machine refuses none by the last two
+-- the reply to a set that is refused; the machine itself refuses no set with the last two
 abbrev pub refusal_reply : SetRefusal → Option Reply
 refusal_reply (why.ReadOnly number) = Some reply.ReadOnlyProperty
 refusal_reply why.InvalidName = Some reply.InvalidName
@@ -40,7 +40,7 @@ refusal_reply (why.NumberSpent last) = Some reply.SetFailed
 refusal_reply why.Spent = None
 refusal_reply why.NoMemory = None
 
--- the reply that an output is, if it answers a set
+-- the reply that an output stands for, if it answers a set
 abbrev pub output_reply : Output → Option Reply
 output_reply (output.Accepted number) = Some reply.Success
 output_reply (output.Control number) = Some reply.Success

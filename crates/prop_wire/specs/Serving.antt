@@ -1,5 +1,5 @@
--- What a call leaves that serves a stream of messages.
-use Rattle.std.specs.Prelude.{◌≡◌, ℕ, ◌+◌, ◌<◌, ◌≤◌, ⊤, Bool, true, false, IsTrue, IsSomeAnd, List, ◌++◌, length, take, map, Option, Result, Ok, Err}
+-- What serving a stream of messages leaves.
+use Rattle.std.specs.Prelude.{◌≡◌, ℕ, ◌+◌, ◌<◌, ◌≤◌, ⊤, Bool, true, false, IsTrue, IsSomeAnd, List, ◌++◌, length, map, Option, Result, Ok, Err}
 use Rattle.std.specs.Io.KnownBytes.{append_known}
 use Rattle.init_machine.specs.History.{inputs_of}
 use Rattle.init_machine.specs.declared.report.Entry.{Entry}
@@ -15,7 +15,7 @@ use Rattle.prop_wire.specs.Replies.{Replies, set_of}
 use Rattle.prop_wire.specs.declared.refusal.WireRefusal.{WireRefusal}
 use Rattle.prop_wire.specs.declared.refusal.WireRefusal.TheVariants as refusal
 
--- whether the call served all that it serves of a stream: no fault ended it, and memory didn't run out
+-- whether serving went on to its end: no fault stopped it, and memory didn't run out
 abbrev pub is_whole : Result ℕ WireRefusal → Bool
 is_whole (Ok count) = true
 is_whole (Err refusal.Spent) = false
@@ -32,7 +32,7 @@ abbrev pub IsPart : {X : Type 0} → Bool → List X → List X → Type 0
 IsPart true part all = part ≡ all
 IsPart {X} false part all = (left : List X) × (part ++ left ≡ all)
 
--- The entries that were added are the client's sets of these messages, or else of a prefix of them, once and in order.
+-- The history gained the client's sets of these messages, or else of a prefix of them, each once and in order.
 pub record AddsSets (whole : Bool) (who : ℕ) (messages : List Message) (old new : ServiceView) : Type 0 where
   pub set : List Message
   pub part : IsPart whole set messages
@@ -41,13 +41,13 @@ pub record AddsSets (whole : Bool) (who : ℕ) (messages : List Message) (old ne
   pub inputs : inputs_of added ≡ map (set_of who) set
   pub opening : new.opening ≡ old.opening
 
--- these bytes were taken, or else a prefix of them
+-- the sink took these bytes, or else a prefix of them
 pub record TakesBytes (whole : Bool) (bytes : List ℕ) (before now : Option (List ℕ)) : Type 0 where
   pub written : List ℕ
   pub part : IsPart whole written bytes
   pub taken : now ≡ append_known before written
 
--- a desk, and what the sink of the replies took, where it tells that
+-- a desk, and the bytes that the sink took, if they are known
 pub record Place : Type 0 where
   pub desk : ServiceView
   pub taken : Option (List ℕ)
@@ -55,13 +55,13 @@ pub record Place : Type 0 where
 abbrev pub place_of : ServiceView → Option (List ℕ) → Place
 place_of desk taken = record { desk = desk; taken = taken }
 
--- The client's messages were set, and the replies to them and to this rest were written; or else a prefix of each. Of the sets of a desk
--- that is spent now nothing is said.
+-- The client's messages were set, and the replies to them and to this rest were written; or else prefixes of both. If the desk is spent
+-- now, nothing is said of its sets.
 pub record Answers (whole : Bool) (who : ℕ) (messages : List Message) (last : Rest) (old new : Place) : Type 0 where
   pub sets : new.desk.spent ≡ false → AddsSets whole who messages old.desk new.desk
   pub replies : TakesBytes whole (Replies old.desk.opening (inputs_of old.desk.history) who messages last) old.taken new.taken
 
--- the answer tells how the stream ends: its messages, the rest, and the place at which the rest begins
+-- the result says how the stream ends: its messages, its rest, and the place at which the rest begins
 abbrev pub TellsEnd : List Message → Rest → ℕ → Result ℕ WireRefusal → Type 0
 TellsEnd messages last place (Ok count) = (last ≡ rest.End) × (count ≡ length messages)
 TellsEnd messages last place (Err (refusal.BadCommand at word)) = (last ≡ rest.BadCommand word) × (at ≡ place)
@@ -73,8 +73,8 @@ TellsEnd messages last place (Err refusal.ReadFault) = ⊤
 TellsEnd messages last place (Err refusal.WriteFault) = ⊤
 TellsEnd messages last place (Err refusal.NoMemory) = ⊤
 
--- A stream of which so many bytes came before these was served: they are messages and a rest, the client is answered, and the call
--- tells how they end.
+-- The bytes that come after so many of a stream were served: they are messages and a rest, the client was answered, and the result says
+-- how they end.
 pub record Serves (who : ℕ) (before : ℕ) (bytes : List ℕ) (old new : Place) (result : Result ℕ WireRefusal) : Type 0 where
   pub messages : List Message
   pub last : Rest
@@ -84,7 +84,7 @@ pub record Serves (who : ℕ) (before : ℕ) (bytes : List ℕ) (old new : Place
   pub end : TellsEnd messages last place result
   pub answers : Answers (is_whole result) who messages last old new
 
--- the answer tells whether more bytes were held than are served, unless the stream ends by a bad message before
+-- the result says whether the source held more bytes than are served, unless something bad came first
 abbrev pub TellsLimit : List ℕ → Result ℕ WireRefusal → Type 0
 TellsLimit held (Ok count) = length held ≤ max_stream
 TellsLimit held (Err (refusal.BadCommand at word)) = ⊤
@@ -96,7 +96,7 @@ TellsLimit held (Err refusal.ReadFault) = ⊤
 TellsLimit held (Err refusal.WriteFault) = ⊤
 TellsLimit held (Err refusal.NoMemory) = ⊤
 
--- the desk and the client's reader are there for more, unless memory ran out
+-- the desk and the reader can go on, unless memory ran out
 abbrev pub GoesOn : Seated → Option Seated → ServiceView → Result ℕ WireRefusal → Type 0
 GoesOn reader back desk (Err refusal.Spent) = ⊤
 GoesOn reader back desk (Err refusal.NoMemory) = ⊤

@@ -1,4 +1,4 @@
-//! Messages are set one after another, and each is replied before the next is set.
+//! Sets messages one after another. The reply to each is written before the next is set.
 
 ghost use Rattle.std.specs.Prelude.{◌≡◌, ◌∷◌, [], None, false, IfOk, OnErr, is_ok, if◌then◌else◌};
 ghost use Rattle.init_base.specs.Faults.{Counted, write_failed};
@@ -14,7 +14,7 @@ use property_area::Reader;
 use std::alloc::Global;
 use wire_format::Message;
 
-/// Sets messages, and writes the reply to each before the next is set.
+/// Sets messages, and writes the reply to each before it sets the next.
 pub(crate) fn answer_all<D: WireDesk, K: Sink>(
     alloc: Global,
     desk: &mut D,
@@ -54,14 +54,14 @@ fn answer<D: WireDesk, K: Sink>(
     write_reply(alloc, in_form(message, reply), to)
 }
 
-/// The reply that a message's form has.
+/// The reply in a message's form: form one has none.
 fn in_form(message: &Message, reply: Option<Reply>) -> Option<Reply>
     ensures { result ≡ (if message.now.second then reply else None) }
 {
     if message.second { reply } else { None }
 }
 
-/// Sets a message, and answers the reply that its form would have.
+/// Sets a message. Returns the reply, whatever the message's form.
 fn set<D: WireDesk>(
     desk: &mut D,
     reader: &mut Option<Reader>,

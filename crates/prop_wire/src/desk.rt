@@ -11,13 +11,13 @@ use property_area::Reader;
 use property_service::{Accepted, AreaName, Desk, Service};
 use wire_format::Message;
 
-/// The machine over the words of an area, as a client's messages meet it.
+/// A property service that sets the messages of clients.
 pub trait WireDesk {
     ghost use Rattle.atomic_table.specs.Seated.{TableId};
     ghost use Rattle.property_service.specs.Service.{DeclaredIn, ServiceView};
     ghost use Rattle.prop_wire.specs.Desk.{SetsMessage};
 
-    // its opening, its history, and whether an earlier call ran out of memory
+    // its opening and its history, and whether an earlier call ran out of memory
     ghost view: { Self → ServiceView };
 
     // the area that it serves
@@ -27,7 +27,7 @@ pub trait WireDesk {
     fn is_spent(&self) -> bool
         ensures { result ≡ (view self.now).spent };
 
-    /// Sets a message for the reader's client, and answers the reply that its form would have.
+    /// Sets a message for the reader's client. Returns the reply, whatever the message's form.
     fn set_message(
         &mut self,
         reader: Reader,
@@ -40,7 +40,7 @@ pub trait WireDesk {
         ensures err { OnErr result.1 ((view self.new).spent ≡ false → view self.new ≡ view self.old) };
 }
 
-/// It keeps the entry of each message.
+/// It keeps an entry for each message.
 impl<'a, N: AreaName> WireDesk for Service<'a, N> {
     ghost view = { λ s. s };
 
@@ -60,7 +60,7 @@ impl<'a, N: AreaName> WireDesk for Service<'a, N> {
     }
 }
 
-/// The reply to a set that was answered so. There is none if the machine didn't judge the set.
+/// The reply to a set with this answer. `NoMemory` if the machine didn't judge the set.
 fn reply_to(answer: &Result<Accepted, SetRefusal>) -> Result<Option<Reply>, NoMemory>
     ensures reply { IfOk result (λ reply. reply ≡ output_reply (line_of answer.now)) }
     ensures judged { is_ok result ≡ has_entry answer.now }
@@ -74,7 +74,7 @@ fn reply_to(answer: &Result<Accepted, SetRefusal>) -> Result<Option<Reply>, NoMe
     }
 }
 
-/// It keeps nothing of a message but what the machine does.
+/// It keeps no entries, so its memory doesn't grow with the messages.
 impl<'a, N: AreaName> WireDesk for Desk<'a, N, LastReply> {
     ghost view = { λ d. d };
 

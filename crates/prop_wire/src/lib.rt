@@ -1,6 +1,6 @@
-//! Serving the messages that clients of init's property socket send: each is a set by the machine, and the client is replied
-//! before more is read. What is replied is in `specs/Reply.antt` and `specs/Replies.antt`, what a call of `serve` leaves in
-//! `specs/Serving.antt`.
+//! Serves the messages that clients send to init's property socket. Each message is a set by the client, and its reply is written
+//! before more is read. `specs/Reply.antt` and `specs/Replies.antt` define the replies, `specs/Serving.antt` what a call of `serve`
+//! leaves.
 #![tactic(auto)]
 
 mod answering;

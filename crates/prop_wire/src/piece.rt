@@ -10,7 +10,7 @@ use std::marker::Model;
 /// The most bytes of a piece.
 pub(crate) const MAX_PIECE: usize = 4096;
 
-/// Bytes that were read at once.
+/// The bytes of one read.
 #[derive(Drop)]
 pub(crate) struct Piece {
     bytes: [u8; MAX_PIECE],
@@ -44,7 +44,7 @@ impl Piece {
         &self.bytes[..self.len]
     }
 
-    /// Reads at most so many bytes in place of those before, and answers how many. 0 means that the source is at its end.
+    /// Reads at most `room` bytes in place of those before. Returns how many; 0 means that the source is at its end.
     pub fn fill<S: Source>(&mut self, from: &mut S, room: usize) -> Result<usize, Failed>
         requires { (0 < room) × (room ≤ 4096) }
         ensures count { IfOk result (λ count. count ≡ length self.new) }

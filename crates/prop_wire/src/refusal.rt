@@ -4,7 +4,7 @@ ghost use Rattle.std.specs.Prelude.{◌≡◌};
 
 use init_base::{Failed, IoRefusal, NoMemory};
 
-/// Why a stream isn't served to its end. A place is that of a byte of the stream, from 0.
+/// Why a stream isn't served to its end. A place is the number of bytes before it.
 #[derive(Clone, Copy, Debug, PartialEq, Eq)]
 pub enum WireRefusal {
     /// An earlier call on the desk ran out of memory.
@@ -13,7 +13,7 @@ pub enum WireRefusal {
     BadCommand { at: u64, word: u32 },
     /// A message of form two with a length that is too large follows the messages, at this place.
     BadLength { at: u64, len: u32 },
-    /// The stream has more bytes than are served. So many were taken of it.
+    /// The stream has more bytes than are served. So many were read.
     TooLong { taken: u64 },
     /// The stream ends within a message, which begins at this place.
     Torn { at: u64 },

@@ -1,4 +1,4 @@
-//! What clients are replied.
+//! The replies to messages.
 
 ghost use Rattle.std.specs.Prelude.{◌≡◌, None};
 ghost use Rattle.prop_wire.specs.Reply as spec;
@@ -19,11 +19,11 @@ pub enum Reply {
     InvalidName,
     /// The value isn't of the property's type, too long, or not UTF-8.
     InvalidValue,
-    /// The policy doesn't let the client's domain set it.
+    /// The policy doesn't allow the client's domain to set it.
     PermissionDenied,
     /// No form has this command.
     InvalidCommand,
-    /// The control name is none, or its value is no service.
+    /// The control name asks for no operation, or its value names no service.
     HandleControlMessage,
     /// The machine is over, or has no room or no number left.
     SetFailed,
@@ -69,7 +69,7 @@ pub(crate) fn refusal_reply(refusal: &SetRefusal) -> Option<Reply>
     }
 }
 
-/// The reply that an output is. None if it answers no set.
+/// The reply that an output stands for. None if it answers no set.
 fn output_reply(output: &Output) -> Option<Reply>
     ensures { result ≡ spec.output_reply output.now }
 {
@@ -80,7 +80,7 @@ fn output_reply(output: &Output) -> Option<Reply>
     }
 }
 
-/// Keeps the reply that the last output is, and no output.
+/// Keeps the reply of the last output, and no outputs.
 #[derive(Debug, Drop)]
 pub struct LastReply {
     reply: Option<Reply>,
@@ -96,7 +96,7 @@ impl Model for LastReply {
 }
 
 impl LastReply {
-    /// It keeps no reply.
+    /// Keeps no reply yet.
     pub fn new() -> LastReply
         ensures { result ≡ None }
     {

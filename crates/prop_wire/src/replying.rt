@@ -1,4 +1,4 @@
-//! Writing the words of replies.
+//! Writes the words of replies.
 
 ghost use Rattle.std.specs.Prelude.{◌≡◌};
 ghost use Rattle.init_base.specs.Faults.{Counted, write_failed};
@@ -29,7 +29,7 @@ pub(crate) fn write_reply<K: Sink>(
     }
 }
 
-/// Answers what is bad, which ends the stream.
+/// Writes the reply to something bad, which ends the stream.
 pub(crate) fn refuse<K: Sink>(
     alloc: Global,
     bad: Option<Bad>,

@@ -1,4 +1,4 @@
-//! `serve`: a stream of a client's messages is set at a desk and answered.
+//! `serve`: serves a stream of a client's messages at a desk.
 
 ghost use Rattle.std.specs.Prelude.{◌≡◌, ◌+◌, ◌≤◌, ◌↔◌, ℕ, List as Items, [], Some, Err, length, true, false};
 ghost use Rattle.init_base.specs.Faults.{Counted};
@@ -20,14 +20,17 @@ use init_base::{Sink, Source};
 use property_area::Reader;
 use std::alloc::Global;
 
-/// Serves the messages that a source holds, of which it reads at most 16,777,216 bytes: each is set for the reader's client, and its
-/// reply is written before more is read. It answers how many messages there were.
+/// Serves the messages that a source holds, of which it reads at most 16,777,216 bytes. Each message is a set by the reader's client.
+/// Its reply is written before more is read. Returns the number of messages.
 ///
-/// `Spent` comes exactly if an earlier call on the desk ran out of memory; nothing is read then. `BadCommand` and `BadLength` come
-/// exactly if the bytes that are served are messages and such a rest, which is answered by a word; nothing is read behind them. Else
-/// `TooLong` comes exactly if the source holds more bytes, and else `Torn` exactly if it ends within a message. Before each of these
-/// any message may meet a fault: `ReadFault` and `WriteFault` come only if the count of faults of the source, or of the sink, rose.
-/// The reader comes back but at `NoMemory`.
+/// `Spent` comes exactly if an earlier call on the desk ran out of memory. Then nothing is read or written. Else the bytes decide:
+/// - `BadCommand` and `BadLength` come exactly if such a word follows the whole messages. An error word answers it, and nothing after
+///   it is read.
+/// - Else `TooLong` comes exactly if the source holds more bytes.
+/// - Else `Torn` comes exactly if the source ends within a message.
+///
+/// `ReadFault` and `WriteFault` may come before the end is reached, but only if the count of faults of the source, or of the sink,
+/// rose. `NoMemory` may come at any time. The reader comes back unless memory ran out.
 pub fn serve<D: WireDesk, S: Source, K: Sink>(
     alloc: Global,
     desk: &mut D,
@@ -37,7 +40,7 @@ pub fn serve<D: WireDesk, S: Source, K: Sink>(
 ) -> (Option<Reader>, Result<u64, WireRefusal>)
     requires table { reader.table ≡ D.area }
     requires client { DeclaredIn reader.view.opening reader.view.who }
-    // It is so of a source that tells what it holds.
+    // If the source's contents are known, they decide what is set and written.
     ensures serves { (held : Items ℕ) → S.left from.old ≡ Some held → Serves reader.view.who 0 (stream_of held)
         (place_of (D.view desk.old) (K.taken to.old)) (place_of (D.view desk.new) (K.taken to.new)) result.1 }
     ensures limit { (held : Items ℕ) → S.left from.old ≡ Some held → TellsLimit held result.1 }
@@ -76,7 +79,7 @@ fn serve_stream<D: WireDesk, S: Source, K: Sink>(
     serve_pieces(alloc, desk, reader, &mut stream, from, to)
 }
 
-/// Serves a stream of which nothing was read yet, piece by piece.
+/// Serves a stream piece by piece, from its first read.
 fn serve_pieces<D: WireDesk, S: Source, K: Sink>(
     alloc: Global,
     desk: &mut D,
@@ -100,7 +103,7 @@ fn serve_pieces<D: WireDesk, S: Source, K: Sink>(
     stream.end()
 }
 
-/// Answers the messages that the piece makes whole. Something bad behind them is answered too.
+/// Answers the messages that the piece completes, and then something bad, if it follows them.
 fn answer_piece<D: WireDesk, K: Sink>(
     alloc: Global,
     desk: &mut D,

@@ -1,4 +1,4 @@
-//! `Stream`: how far a stream of messages is read.
+//! `Stream`: how far a stream of messages was read.
 
 ghost use Rattle.std.specs.Prelude.{◌≡◌, ◌+◌, ◌≤◌, ◌++◌, [], length, Ok, Err, true, false, IfOk, if◌then◌else◌, ◌==◌};
 ghost use Rattle.init_base.specs.Faults.{Counted};
@@ -21,10 +21,10 @@ pub const MAX_STREAM: u64 = 16_777_216;
 /// The bytes of a message of form one.
 const FIRST_LEN: u64 = 128;
 
-/// The bytes of a message of form two beside its texts.
+/// The bytes of a message of form two without its texts.
 const SECOND_LEN: u64 = 12;
 
-/// What ends a stream's messages before its end.
+/// What ends a stream early.
 #[derive(Clone, Copy, Debug, PartialEq, Eq)]
 pub(crate) enum Bad {
     /// A word that is no form's command.
@@ -57,27 +57,27 @@ impl Bad {
     }
 }
 
-/// The messages that a piece makes whole, and what bad follows them.
+/// The messages that a piece completes, and what bad follows them.
 #[derive(Drop)]
 pub(crate) struct Batch {
     pub messages: List<Message>,
     pub bad: Option<Bad>,
 }
 
-/// How far a stream of messages is read.
+/// How far a stream of messages was read.
 #[derive(Drop)]
 pub(crate) struct Stream {
     pub feeder: Feeder,
     pub piece: Piece,
     /// The bytes that were read so far.
     pub read: u64,
-    /// The whole messages so far, and their bytes.
+    /// The number of whole messages so far, and of their bytes.
     pub messages: u64,
     pub whole: u64,
 }
 
 impl Stream {
-    /// A stream of which nothing was read.
+    /// A stream before its first read.
     pub fn new(alloc: Global) -> Result<Stream, NoMemory>
         ensures { IfOk result (λ stream. stream ≡ record { feeder = tail []; piece = []; read = 0; messages = 0; whole = 0 }) }
     {
@@ -90,7 +90,7 @@ impl Stream {
         })
     }
 
-    /// Reads the next piece, of at most what is left to the limit. At the limit it reads one byte more, which is too many.
+    /// Reads the next piece, at most up to the limit. At the limit it asks for one byte more, which is too many. False at the end.
     pub fn read_on<S: Source>(&mut self, from: &mut S) -> Result<bool, WireRefusal>
         requires { self.old.read ≤ max_stream }
         ensures draws { DrawsPiece (S.left from.old) (S.left from.new) self.old.read self.new.piece result }
@@ -114,7 +114,7 @@ impl Stream {
         Ok(true)
     }
 
-    /// The messages that the piece makes whole.
+    /// The messages that the piece completes.
     pub fn feed(&mut self) -> Result<Batch, NoMemory>
         requires { IsTail self.old.feeder }
         ensures reads { IfOk result (λ batch.
@@ -144,7 +144,9 @@ impl Stream {
         requires few { self.old.messages ≤ self.old.whole }
         requires fits { self.old.whole + total_len messages.now ≤ max_stream }
         ensures { self.new ≡ record self.old {
-            messages = self.old.messages + length messages.now; whole = self.old.whole + total_len messages.now } }
+          messages = self.old.messages + length messages.now;
+          whole = self.old.whole + total_len messages.now;
+        } }
     {
         for message in messages {
             self.messages += 1;
@@ -152,7 +154,7 @@ impl Stream {
         }
     }
 
-    /// The answer at the end of the stream.
+    /// The result at the end of the stream.
     pub fn end(&self) -> Result<u64, WireRefusal>
         ensures { result ≡ (if self.now.whole == self.now.read then Ok self.now.messages else Err (WireRefusal.Torn self.now.whole)) }
     {

@@ -1,4 +1,4 @@
--- The reply that the last output is, where outputs are told one after another.
+-- The reply of the last of several outputs.
 use Rattle.std.proofs.Common.{◌≡◌, List, [], ◌∷◌, ◌++◌, Option, refl, ap, ◌∙◌}
 use Rattle.init_machine.specs.declared.output.Output.{Output}
 use Rattle.outputs.specs.Joins.{Joins}

@@ -18,9 +18,9 @@ use Rattle.prop_wire.specs.declared.refusal.WireRefusal.TheVariants as refusal
 use Rattle.prop_wire.specs.declared.reply.Reply.{Reply}
 use Rattle.prop_wire.specs.declared.stream.Stream.{Stream}
 
--- ---- the client's reader, which is away while its message is set
+-- ---- the client's reader, which the desk has while it sets a message
 
--- it is there, of this area and of a client that its opening declares
+-- the reader is there; it is of this area, and of a client that its opening declares
 abbrev pub CanAsk : TableId → Option Seated → Type 0
 CanAsk area None = ⊥
 CanAsk area (Some reader) = (reader.table ≡ area) × DeclaredIn reader.view.opening reader.view.who
@@ -51,7 +51,7 @@ RemainsServing _ reader back spent = IsBack reader back × (spent ≡ false)
 
 -- ---- a piece
 
--- The piece was answered, and the stream goes on behind it.
+-- The piece was answered, and the stream goes on after it.
 pub record GoesBehind (who : ℕ) (old new : Stream) (a b : Place) : Type 0 where
   pub messages : List Message
   pub left : List ℕ
@@ -81,7 +81,7 @@ AnswersPiece who old new a b (Err why) = ComesOfPiece why × Serves who old.whol
 
 -- ---- all pieces
 
--- what is served of a source's bytes is all that it had, or what comes before one that is too many
+-- the bytes that are served are all that the source had, or all before one that is too many
 abbrev pub DrawsAll : Option (List ℕ) → List ℕ → List ℕ → Result ℕ WireRefusal → Type 0
 DrawsAll new given more (Ok count) = (more ≡ []) × IsAtEnd new
 DrawsAll new given more (Err (refusal.Torn at)) = (more ≡ []) × IsAtEnd new

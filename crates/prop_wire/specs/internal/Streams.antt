@@ -1,5 +1,5 @@
--- How far a stream of messages is read.
-use Rattle.std.specs.Prelude.{◌≡◌, ℕ, ◌+◌, ◌<◌, ◌≤◌, ⊤, Bool, true, false, List, [], length, sum_by, Option, Some, None, Result, Ok, Err, if◌then◌else◌}
+-- How far a stream of messages was read.
+use Rattle.std.specs.Prelude.{◌≡◌, ℕ, ◌+◌, ◌<◌, ◌≤◌, ⊤, Bool, true, false, List, [], length, sum_by, Option, Some, None, Result, Ok, Err}
 use Rattle.std.specs.Io.KnownBytes.{append_known, Consumes, IsAtEnd, Keeps}
 use Rattle.init_trace.specs.Written.{TakesFront}
 use Rattle.wire_format.specs.Feeding.{LeavesTail, Feeding, over, tail}
@@ -23,7 +23,7 @@ total_len messages = sum_by message_len messages
 
 -- ---- pieces
 
--- a piece of a source, where so many bytes of it were read before
+-- what reading the next piece leaves, after so many bytes were read
 abbrev pub DrawsPiece : Option (List ℕ) → Option (List ℕ) → ℕ → List ℕ → Result Bool WireRefusal → Type 0
 DrawsPiece old new read piece (Ok true) = Consumes old new piece × (0 < length piece) × (read + length piece ≤ max_stream)
 DrawsPiece old new read piece (Ok false) = Consumes old new [] × IsAtEnd new

@@ -1,13 +1,12 @@
-use Rattle.std.proofs.Common.{List, ◌++◌, length-append, subst, refl, ap, arith, false, true}
+use Rattle.std.proofs.Common.{List, ◌++◌, subst, refl, false, true}
 use Rattle.std.proofs.lemmas.Result.{err_from_is_err_and}
 use Rattle.wire_format.specs.declared.message.Message.{Message}
 use Rattle.wire_format.specs.declared.message.Rest.TheVariants as rest
 use Rattle.prop_wire.specs.Serving.{place_of, Answers}
 use Rattle.prop_wire.specs.internal.Course.{who_in}
-use Rattle.prop_wire.specs.internal.Streams.{tail_of, total_len}
+use Rattle.prop_wire.specs.internal.Streams.{tail_of}
 use Rattle.prop_wire.specs.declared.refusal.WireRefusal.TheVariants as refusal
-use Rattle.prop_wire.specs.declared.stream.Stream.{Stream}
-use Rattle.prop_wire.proofs.Batches.{counted_in, cut_comes, piece_answered, piece_cut, piece_fits}
+use Rattle.prop_wire.proofs.Batches.{counted_in, cut_comes, piece_answered, piece_cut, room_in}
 use Rattle.prop_wire.proofs.Ends.{serves_none}
 use Rattle.prop_wire.proofs.serving.answer_piece.Goals as goal
 
@@ -25,17 +24,16 @@ returns-in_err-answer_all-clause-answers g c =
     let who = who_in c.args.reader.now in
     let a = place_of (g.D.WireDesk.view c.args.desk.now) (g.K.Sink.taken c.args.to.now) in
     let b = place_of (g.D.WireDesk.view c.answer_all.new.desk) (g.K.Sink.taken c.answer_all.new.to) in
-    rw (p.1, p.2) (cut_comes c.in_err-answer_all.field-0.0,
-    piece_cut who s.whole (tail_of s.feeder ++ s.piece) c.in_ok-batch.batch.messages c.in_ok-batch.batch.bad c.feed.new.self.feeder a b c.in_err-answer_all.field-0.0
-    c.in_ok-batch.ensures.reads (subst (λ (ms : List Message). Answers false who ms rest.End a b) c.items.ensures c.in_err-answer_all.ensures.answers))
+    rw (p.1, p.2) (
+      cut_comes c.in_err-answer_all.field-0.0,
+      piece_cut who s.whole (tail_of s.feeder ++ s.piece) c.in_ok-batch.batch.messages c.in_ok-batch.batch.bad c.feed.new.self.feeder a b c.in_err-answer_all.field-0.0
+          c.in_ok-batch.ensures.reads (subst (λ (ms : List Message). Answers false who ms rest.End a b) c.items.ensures c.in_err-answer_all.ensures.answers),
+    )
 
 pub count_in-requires-clause-fits : goal.count_in-requires-clause-fits
 count_in-requires-clause-fits g c =
-    let s = c.args.stream.now in
-    let fits = piece_fits (tail_of s.feeder ++ s.piece) c.in_ok-batch.batch.messages c.in_ok-batch.batch.bad c.feed.new.self.feeder c.in_ok-batch.ensures.reads in
-    let whole = ap (λ (x : Stream). x.whole) c.feed.ensures.rest in
-    let total = ap (λ (ms : List Message). total_len ms) c.items-2.ensures in
-    omega (arith, length-append (tail_of s.feeder) s.piece)
+    room_in c.args.stream.now c.feed.new.self c.items-2.result.now c.in_ok-batch.batch.messages c.in_ok-batch.batch.bad c.feed.new.self.feeder c.requires.read c.requires.within
+    c.feed.ensures.rest c.items-2.ensures c.in_ok-batch.ensures.reads
 
 pub returns-clause-answers : goal.returns-clause-answers
 returns-clause-answers g c =
