@@ -13,7 +13,7 @@ use memchr::memchr;
 use std::alloc::Global;
 
 /// What the lines of a text say, so far.
-#[derive(Debug, Drop)]
+#[derive(Drop)]
 pub struct Gathered {
     /// What the lines before the first one out of form say.
     pub said: List<Said>,
