@@ -12,6 +12,7 @@ ghost use Rattle.job_reader.specs.Stops.{IsOfTree, has_read_fault, status_of};
 ghost use Rattle.job_reader.specs.Tree.{IsWorldOf};
 ghost use Rattle.rc_import.specs.World.{World};
 
+use crate::grammar::Grammar;
 use crate::loading::load;
 use crate::reading::{read_script, read_store};
 use crate::stop::Stop;
@@ -103,14 +104,15 @@ fn given_by(alloc: Global, script: &Script) -> Result<(List<Plan>, List<Text>), 
     both(plans, domains_of(alloc, script.clients.items()))
 }
 
-/// Reads the script, the tree and the store.
+/// Reads the script by a grammar, the tree and the store.
 pub fn prepare<F: Files, S: Source, P: Keeper>(
     alloc: Global,
+    grammar: Grammar,
     files: &mut F,
     source: &mut S,
     keeper: &mut P,
 ) -> Result<Job, Stop>
-    ensures script { IfSome (S.left source.old) (λ bytes. ScriptOfJob bytes (S.left source.new) result) }
+    ensures script { IfSome (S.left source.old) (λ bytes. ScriptOfJob grammar bytes (S.left source.new) result) }
     ensures tree { (world : World) → IsWorldOf (F.tree files.old) world → GivesSetup world result }
     ensures store { IfSome (P.held keeper.old) (λ held. GivesSaved held result) }
     ensures fit { IfOk result IsFit }
@@ -121,7 +123,7 @@ pub fn prepare<F: Files, S: Source, P: Keeper>(
         (counts_of (F.fault_count files.old) (S.fault_count source.old) trace (P.fault_count keeper.old) out)
         (counts_of (F.fault_count files.new) (S.fault_count source.new) trace (P.fault_count keeper.new) out) }
 {
-    let script = read_script(alloc, source)?;
+    let script = read_script(alloc, grammar, source)?;
     let parts = match read_tree(alloc, files) {
         Ok(parts) => parts,
         Err(why) => {
