@@ -1,5 +1,6 @@
 -- What the code gathers, line by line. No promise of the crate cites these definitions.
-use Rattle.std.specs.Prelude.{ℕ, ◌+◌, List, [], ◌∷◌, ◌++◌, Option, Some, None}
+use Rattle.std.specs.Prelude.{◌≡◌, ℕ, ◌+◌, ◌≤◌, length, List, [], ◌∷◌, ◌++◌, Option, Some, None}
+use Rattle.script_lang.specs.Lines.{lines_of}
 use Rattle.script_lang.specs.Script.{steps_in, said_in}
 use Rattle.script_lang.specs.Statements.{reading_of}
 use Rattle.script_lang.specs.declared.gather.Gathered.{Gathered}
@@ -53,3 +54,10 @@ until_unread number (Some says) later = said_in number (Some says) ++ later
 abbrev pub said_until : ℕ → List (List ℕ) → List Said
 said_until number [] = []
 said_until number (line ∷ lines) = until_unread number (reading_of line) (said_until (number + 1) lines)
+
+-- this was gathered of all lines of a text within the limits
+pub record IsGatheredWithin (bytes : List ℕ) (g : Gathered) : Type 0 where
+  pub short : length bytes ≤ 16777216
+  pub few_lines : g.lines ≤ 100000
+  pub few_steps : g.steps ≤ 1000000
+  pub gathered : g ≡ gathered_from nothing_gathered (lines_of bytes)

@@ -2,6 +2,7 @@ pub mod Lines
 pub mod Statements
 pub mod Script
 pub mod Refusal
+pub mod Sets
 pub mod Inputs
 pub mod Merges
 pub mod Reading

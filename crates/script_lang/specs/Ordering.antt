@@ -1,5 +1,5 @@
 -- How the code tells which statements fit. No promise of the crate cites these definitions.
-use Rattle.std.specs.Prelude.{◌≡◌, ℕ, ◌+◌, Bool, List, [], ◌∷◌, ◌++◌, length, count_by, Option, Some, None, if◌then◌else◌}
+use Rattle.std.specs.Prelude.{◌≡◌, ℕ, ◌+◌, Bool, ◌&&◌, List, [], ◌∷◌, ◌++◌, length, count_by, Option, Some, None, if◌then◌else◌}
 use Rattle.std.specs.Borrow.{Bor}
 use Rattle.std.specs.HashSet.{HashSet, contains_by}
 use Rattle.std.specs.List.{list_any}
@@ -7,6 +7,7 @@ use Rattle.std.specs.Str.{bytes_eq}
 use Rattle.std.specs.declared.hash.BuildHasherDefault.{BuildHasherDefault}
 use Rattle.std.specs.declared.hash.FoldHasher.{FoldHasher}
 use Rattle.script_lang.specs.Script.{fits, is_act, is_area, is_client, is_client_named, is_plan_of, reading_fits, statements_in}
+use Rattle.script_lang.specs.Sets.{only_sets}
 use Rattle.script_lang.specs.Statements.{reading_of}
 use Rattle.script_lang.specs.declared.order.Order.{Order}
 use Rattle.script_lang.specs.declared.statement.Said.{Said}
@@ -18,6 +19,13 @@ first_unfit before [] = None
 first_unfit before (said ∷ more) =
     let later = first_unfit (before ++ said.statement ∷ []) more in
     if fits before said.statement then later else Some said.line
+
+-- the line of the first statement that doesn't fit behind those before it where clients only set
+abbrev pub first_unfit_of_sets : List Statement → List Said → Option ℕ
+first_unfit_of_sets before [] = None
+first_unfit_of_sets before (said ∷ more) =
+    let later = first_unfit_of_sets (before ++ said.statement ∷ []) more in
+    if fits before said.statement && only_sets said.statement then later else Some said.line
 
 -- whether a set of paths has this one
 abbrev pub has_path : HashSet (Bor (List ℕ)) (BuildHasherDefault FoldHasher) → List ℕ → Bool

@@ -32,3 +32,9 @@ abbrev pub IsRefused : List ℕ → ScriptRefusal → Type 0
 IsRefused bytes (TooLarge limit number) = IsTooLarge bytes limit number
 IsRefused bytes (BadLine line) = IsBadAt bytes line
 IsRefused bytes NoMemory = ⊤
+
+-- the bytes pass a limit; want of memory is free
+abbrev pub IsOverLimit : List ℕ → ScriptRefusal → Type 0
+IsOverLimit bytes (TooLarge limit number) = IsTooLarge bytes limit number
+IsOverLimit bytes (BadLine line) = ⊥
+IsOverLimit bytes NoMemory = ⊤

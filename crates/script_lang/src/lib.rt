@@ -1,8 +1,8 @@
 //! Scripts: what the machine is opened with, and what is asked of it, act by act.
 //!
 //! `read` answers a script exactly where the bytes are the text of one, as `IsScript` of `specs/Script.antt` says, and
-//! else the limit that they pass or the first bad line. `specs/Inputs.antt` has the inputs of a script, in the order of
-//! its lines and actor by actor.
+//! else the limit that they pass or the first bad line. `read_sets` does so for scripts whose clients only set, as
+//! `specs/Sets.antt` says. `specs/Inputs.antt` has the inputs of a script, in the order of its lines and actor by actor.
 //!
 //! `generate` makes the texts of a boot of so many services, as `specs/Generated.antt` says: a tree and the script over it.
 #![tactic(auto)]
@@ -29,7 +29,7 @@ pub use laws::{
     statements_are_written_in_one_way,
 };
 pub use number::{decimal, is_canonical};
-pub use reader::read;
+pub use reader::{read, read_sets};
 pub use reading::{is_permitted, says_nothing};
 pub use refusal::ScriptRefusal;
 pub use script::{Act, Ask, Client, Script, domains_of};

@@ -5,9 +5,10 @@ ghost use Rattle.std.specs.List.{list_any};
 ghost use Rattle.std.specs.Str.{bytes_eq};
 ghost use Rattle.script_lang.specs.Ordering as spec;
 ghost use Rattle.script_lang.specs.Script.{fits};
+ghost use Rattle.script_lang.specs.Sets as sets_spec;
 ghost use Rattle.script_lang.specs.declared.statement.Statement.{Statement as Spoken};
 
-use crate::script::Client;
+use crate::script::{Ask, Client};
 use crate::statement::{Said, Statement};
 use init_base::NoMemory;
 use std::alloc::Global;
@@ -106,4 +107,27 @@ pub fn first_unfit(alloc: Global, said: &[Said]) -> Result<Option<u32>, NoMemory
         }
     }
     Ok(None)
+}
+
+/// The line of the first statement that doesn't fit behind those before it where clients only set.
+pub fn first_unfit_of_sets(alloc: Global, said: &[Said]) -> Result<Option<u32>, NoMemory>
+    ensures { IfOk result (λ line. line ≡ spec.first_unfit_of_sets [] said.now) }
+{
+    let mut order = Order::new(alloc);
+    for said in said {
+        if !order.admits(&said.statement)? || !only_sets(&said.statement) {
+            return Ok(Some(said.line));
+        }
+    }
+    Ok(None)
+}
+
+/// Whether a statement may stand where clients only set.
+fn only_sets(statement: &Statement) -> bool
+    ensures { result ≡ sets_spec.only_sets statement.now }
+{
+    match statement {
+        Statement::Ask { ask, .. } => matches!(ask, Ask::Set(_)),
+        _ => true,
+    }
 }
