@@ -1,7 +1,7 @@
 -- What holds of scripts by either grammar: a text has one reading.
 use Rattle.std.proofs.Common.{◌≡◌, ℕ, List}
 use Rattle.script_lang.proofs.OneReading.{one_line, script_or_line}
-use Rattle.script_lang.proofs.SetsReading.{one_line_of_sets, sets_or_line}
+use Rattle.script_lang.proofs.SetsReading.{one_line_of_sets, script_of_sets_is_script, sets_or_line}
 use Rattle.script_lang.specs.Script.{IsScript, IsWithinLimits}
 use Rattle.script_lang.specs.declared.script.Script.{Script}
 use Rattle.job_reader.specs.Script.{IsBadIn, IsScriptIn}
@@ -10,7 +10,7 @@ use Rattle.job_reader.specs.declared.grammar.Grammar.TheVariants.{Whole, Sets}
 
 pub is_script : (g : Grammar) (bytes : List ℕ) (script : Script) → IsScriptIn g bytes script → IsScript bytes script
 is_script Whole bytes script is = is
-is_script Sets bytes script is = is.is_script
+is_script Sets bytes script is = script_of_sets_is_script bytes script is
 
 pub bad_within : (g : Grammar) (bytes : List ℕ) (line : ℕ) → IsBadIn g bytes line → IsWithinLimits bytes
 bad_within Whole bytes line bad = bad.within

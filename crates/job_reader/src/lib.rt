@@ -15,7 +15,7 @@ mod texts;
 
 pub use grammar::Grammar;
 pub use loading::diagnose;
-pub use preparing::{Job, prepare};
+pub use preparing::{Job, prepare, prepare_with};
 pub use reading::read_trace;
 pub use status::Status;
 pub use stop::Stop;
