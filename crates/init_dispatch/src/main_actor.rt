@@ -82,8 +82,9 @@ fn take_input<N: AreaName>(
     requires main { (reader.view.who ≡ 0) × IsNoSet input }
     ensures { IfSome result (λ back. TakesInputs service.old service.new reader back (input ∷ [])) }
 {
-    match service.input(reader, input) {
-        (reader, Ok(())) => reader,
-        (_, Err(_)) => None,
+    let (reader, taken) = service.input(reader, input);
+    match taken {
+        Ok(()) => reader,
+        Err(_) => None,
     }
 }

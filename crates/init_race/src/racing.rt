@@ -94,7 +94,8 @@ fn part_off(
 fn end<N: AreaName>(service: Service<'_, N>, readers: List<Reader>) -> Result<Finished, NoMemory>
     requires area { All (λ (reader : Seated). reader.table ≡ N.area) readers }
     requires all { AreAll readers }
-    ensures { IfOk result (HasEnded readers) }
+    ensures ended { IfOk result (HasEnded readers) }
+    ensures history { IfOk result (λ finished. finished.history ≡ service.entry.history) }
 {
     match service.finish(readers) {
         Ok(finished) => Ok(finished),
@@ -163,7 +164,8 @@ pub fn end_with<N: AreaName>(
 ) -> Result<Ended, NoMemory>
     requires area { IfOk came (λ back. All (λ (reader : Seated). reader.table ≡ N.area) back.0) }
     requires all { IfOk came (λ back. AreAll back.0) }
-    ensures { IfOk result (λ ended. IsOkAnd came (λ back. HasEnded back.0 ended.finished × (ended.parts ≡ back.1))) }
+    ensures ended { IfOk result (λ ended. IsOkAnd came (λ back. HasEnded back.0 ended.finished × (ended.parts ≡ back.1))) }
+    ensures history { IfOk result (λ ended. ended.finished.history ≡ service.entry.history) }
 {
     match came {
         Ok((readers, parts)) => {
