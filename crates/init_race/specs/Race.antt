@@ -1,5 +1,5 @@
 -- What a race leaves: its report, the record of the area's writer, and what the keeper is given.
-use Rattle.std.specs.Prelude.{◌≡◌, ℕ, ◌+◌, ◌⊎◌, ⊤, All, List, [], ◌∷◌, Some, Result, Ok, Err, if◌then◌else◌}
+use Rattle.std.specs.Prelude.{◌≡◌, ◌≤◌, ℕ, ◌+◌, ◌⊎◌, ⊤, All, List, [], ◌∷◌, length, Some, Result, Ok, Err, if◌then◌else◌}
 use Rattle.std.specs.List.{list_any}
 use Rattle.init_driver.specs.Keeper.{KeeperView, Risks, Took}
 use Rattle.init_machine.specs.History.{after, inputs_of}
@@ -14,7 +14,7 @@ use Rattle.persist_file.specs.Store.{store_text}
 use Rattle.property_area.specs.Area.{list_in}
 use Rattle.property_area.specs.Seats.{Seated}
 use Rattle.property_area.specs.declared.view.AreaView.{AreaView}
-use Rattle.property_service.specs.Ending.{HasItsPart, taking_all}
+use Rattle.property_service.specs.Ending.{HasItsPart, HasReader, taking_all}
 use Rattle.property_service.specs.Record.{recorded, log_of}
 use Rattle.property_service.specs.Service.{Agrees, ServiceView, state_after}
 use Rattle.property_service.specs.declared.ending.Finished.{Finished}
@@ -35,6 +35,11 @@ pub record HasEnded (readers : List Seated) (finished : Finished) : Type 0 where
   pub saved : finished.saved ≡ (state_after service).saved
   pub policy : finished.policy ≡ service.opening.policy
   pub seat : finished.seat.view ≡ taking_all service.seat readers
+
+-- whatever service these readers have their parts of, the main actor and each of its clients has one of them
+abbrev pub AreAll : List Seated → Type 0
+AreAll readers =
+    (s : ServiceView) → All (HasItsPart s) readers → (who : ℕ) → who ≤ length s.opening.config.domains → HasReader readers who
 
 -- ---- the record
 

@@ -1,0 +1,6 @@
+pub mod MainActor
+pub mod Sessions
+pub mod Clients
+pub mod Served
+pub mod Through
+pub mod Ended
