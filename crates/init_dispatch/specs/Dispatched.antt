@@ -1,5 +1,5 @@
 -- What a script leaves whose main actor went first and whose clients' sets were dispatched.
-use Rattle.std.specs.Prelude.{◌≡◌, IsTrue, List, [], ◌∷◌, ◌++◌, All}
+use Rattle.std.specs.Prelude.{◌≡◌, IsTrue, List, [], ◌∷◌, ◌++◌, All, Result}
 use Rattle.init_machine.specs.History.{inputs_of}
 use Rattle.init_machine.specs.State.{Opening}
 use Rattle.init_machine.specs.declared.diagnostic.Diagnostic.{Diagnostic}
@@ -7,6 +7,10 @@ use Rattle.init_machine.specs.declared.input.Input.TheVariants as input
 use Rattle.init_machine.specs.declared.report.ClientPart.{ClientPart}
 use Rattle.init_machine.specs.declared.report.Entry.{Entry}
 use Rattle.init_machine.specs.declared.report.Report.{Report}
+use Rattle.init_driver.specs.Keeper.{KeeperView}
+use Rattle.init_race.specs.Race.{KeepsReport}
+use Rattle.init_race.specs.declared.racing.Raced.{Raced}
+use Rattle.init_race.specs.declared.refusal.RaceRefusal.{RaceRefusal}
 use Rattle.script_lang.specs.Inputs.{Parts}
 use Rattle.script_lang.specs.Laws.{is_set}
 use Rattle.script_lang.specs.declared.script.Script.{Script}
@@ -25,3 +29,7 @@ pub record IsDispatched (o : Opening) (found : List Diagnostic) (script : Script
   pub audited : Audited o found script report
   pub main_first : HasMainFirst script report.history
   pub no_readings : All (λ (part : ClientPart). part.readings ≡ []) report.clients
+
+-- what stands with the keeper after a dispatch: what a race leaves, of such a report
+abbrev pub KeepsDispatch : Opening → List Diagnostic → Script → Result Raced RaceRefusal → KeeperView → KeeperView → Type 0
+KeepsDispatch o found script result old new = KeepsReport o (λ report. IsDispatched o found script report) result old new

@@ -3,13 +3,13 @@
 ghost use Rattle.std.specs.Prelude.{◌≡◌, ◌≤◌, ◌++◌, ◌∷◌, [], All, IfOk, length};
 ghost use Rattle.init_base.specs.Faults.{Counted};
 ghost use Rattle.init_core.specs.Core.{opening_of};
-ghost use Rattle.init_dispatch.specs.Dispatched.{IsDispatched};
+ghost use Rattle.init_dispatch.specs.Dispatched.{IsDispatched, KeepsDispatch};
 ghost use Rattle.init_dispatch.specs.internal.Ending.{AreDispatched, HasBegun, IsServed};
 ghost use Rattle.init_driver.specs.Keeper.{seen_by};
 ghost use Rattle.init_driver.specs.Run.{AsksAreMet};
 ghost use Rattle.init_machine.specs.WellFormed.{IsWellFormed};
 ghost use Rattle.init_race.specs.Keeping.{has_failed};
-ghost use Rattle.init_race.specs.Race.{HasRecorded, KeepsRace};
+ghost use Rattle.init_race.specs.Race.{HasRecorded};
 ghost use Rattle.prop_dispatch.specs.Clients.{AreOfClients, HaveNotEntered};
 ghost use Rattle.property_area.specs.Area.{begins};
 ghost use Rattle.script_lang.specs.Sets.{IsSetOrMain};
@@ -172,7 +172,7 @@ pub fn run_dispatch<R: Threads + Wait + Sync, P: Keeper>(
     ensures seat { IfOk result (λ raced. HasRecorded
         (opening_of setup.config setup.policy script.now.words) raced.report.history raced.report.clients raced.seat.view) }
     ensures kept { let seen = seen_by P.held P.TellsCrash P.moment P.MayLeave in
-        KeepsRace (opening_of setup.config setup.policy script.now.words) setup.diagnostics script.now result (seen keeper.old)
+        KeepsDispatch (opening_of setup.config setup.policy script.now.words) setup.diagnostics script.now result (seen keeper.old)
         (seen keeper.new) }
     ensures cause { Counted (has_failed result) (P.fault_count keeper.old) (P.fault_count keeper.new) }
 {

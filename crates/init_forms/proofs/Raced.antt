@@ -78,18 +78,18 @@ written_race Is course report old new keeper kept (status.BadStore line why) aud
 written_race Is course report old new keeper kept status.BadTrace audited took writes = absurd writes
 
 -- the keeper failed
-pub failed_race : (course : Course) (old : Option (List ℕ)) (keeper kept : KeeperView)
-    → KeepsNot refusal.Keeper course.opening course.diagnostics course.script keeper kept
-    → PerformsRace IsAudited course old old keeper kept status.ReadFault
-failed_race course old keeper kept risks = (risks.report, risks.audited, (refl, risks.kept))
+pub failed_race : (Is : Course → Report → Type 0) (course : Course) (old : Option (List ℕ)) (keeper kept : KeeperView)
+    → KeepsNot refusal.Keeper course.opening (Is course) keeper kept
+    → PerformsRace Is course old old keeper kept status.ReadFault
+failed_race Is course old keeper kept risks = (risks.report, risks.report_is, (refl, risks.kept))
 
 -- memory ran out before anything was written
-pub stopped_race : (course : Course) (old : Option (List ℕ)) (keeper kept : KeeperView)
-    → KeepsNot refusal.NoMemory course.opening course.diagnostics course.script keeper kept
-    → PerformsRace IsAudited course old old keeper kept status.NoMemory
-stopped_race course old keeper kept keeps = elim keeps [
+pub stopped_race : (Is : Course → Report → Type 0) (course : Course) (old : Option (List ℕ)) (keeper kept : KeeperView)
+    → KeepsNot refusal.NoMemory course.opening (Is course) keeper kept
+    → PerformsRace Is course old old keeper kept status.NoMemory
+stopped_race Is course old keeper kept keeps = elim keeps [
   | inl took ↦ inl (refl, took)
-  | inr risks ↦ inr (risks.report, risks.audited, inr (refl, risks.kept))
+  | inr risks ↦ inr (risks.report, risks.report_is, inr (refl, risks.kept))
 ]
 
 -- ---- how it ends

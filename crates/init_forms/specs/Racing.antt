@@ -5,7 +5,7 @@ use Rattle.init_driver.specs.Keeper.{KeeperView, Risks, Took}
 use Rattle.init_driver.specs.declared.refusal.DriveRefusal.{DriveRefusal}
 use Rattle.init_driver.specs.declared.refusal.DriveRefusal.TheVariants as refusal
 use Rattle.init_machine.specs.declared.report.Report.{Report}
-use Rattle.init_dispatch.specs.Dispatch.{IsDispatch}
+use Rattle.init_dispatch.specs.Dispatched.{IsDispatched as IsDispatchedBy}
 use Rattle.init_race.specs.Race.{race_given}
 use Rattle.init_trace.specs.Report.{TextOf}
 use Rattle.init_trace.specs.Written.{TakesFront}
@@ -20,7 +20,7 @@ IsAudited course report = Audited course.opening course.diagnostics course.scrip
 
 -- a report that one worker may have left, behind which the sessions' sets stand in the order in which it took them
 abbrev pub IsRelayedReport : Course → Report → Type 0
-IsRelayedReport course report = IsDispatch course.opening course.diagnostics course.script report
+IsRelayedReport course report = IsDispatchedBy course.opening course.diagnostics course.script report
 
 -- the report's text is written whole, and the keeper took what the race gives it
 abbrev pub WritesRace : Course → Report → Option (List ℕ) → Option (List ℕ) → KeeperView → KeeperView → Type 0

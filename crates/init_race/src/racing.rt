@@ -9,7 +9,7 @@ ghost use Rattle.init_machine.specs.State.{Opening};
 ghost use Rattle.init_machine.specs.WellFormed.{IsWellFormed};
 ghost use Rattle.init_race.specs.internal.Ended.{ComeBack, next_part, readers_of, told_to};
 ghost use Rattle.init_race.specs.Keeping.{Gives, given_behind, has_failed, stored_in};
-ghost use Rattle.init_race.specs.Race.{AreAll, AreRaced, HasEnded, HasRecorded, KeepsRace};
+ghost use Rattle.init_race.specs.Race.{AreAll, AreRaced, HasEnded, HasRecorded, IsReportOf, KeepsRace, KeepsReport};
 ghost use Rattle.init_race.specs.Threads.{MayAct};
 ghost use Rattle.machine_laws.specs.Saved.{has_stored};
 ghost use Rattle.machine_laws.specs.Saved as spec;
@@ -312,15 +312,14 @@ pub fn leave<P: Keeper>(
     keeper: &mut P,
 ) -> Result<Raced, RaceRefusal>
     requires { (o : Opening) × (script : Acts) × IsWellFormed o.config × IfOk ended (λ e. AreRaced o script e.finished e.parts) }
-    ensures report { IfOk result (λ raced. IsOkAnd ended
-        (λ e. raced.report ≡ record { diagnostics = found; history = e.finished.history; clients = e.parts })) }
+    ensures report { IfOk result (λ raced. IsReportOf found ended raced.report) }
     ensures raced { (o : Opening) (script : Acts) → IfOk ended (λ e. AreRaced o script e.finished e.parts)
         → IfOk result (λ raced. Audited o found script raced.report) }
     ensures seat { (o : Opening) (script : Acts) → IfOk ended (λ e. AreRaced o script e.finished e.parts)
         → IfOk result (λ raced. HasRecorded o raced.report.history raced.report.clients raced.seat.view) }
     ensures kept { (o : Opening) (script : Acts) → IfOk ended (λ e. AreRaced o script e.finished e.parts)
         → let seen = seen_by P.held P.TellsCrash P.moment P.MayLeave in
-        KeepsRace o found script result (seen keeper.old) (seen keeper.new) }
+        KeepsReport o (λ report. IsReportOf found ended report) result (seen keeper.old) (seen keeper.new) }
     ensures cause { Counted (has_failed result) (P.fault_count keeper.old) (P.fault_count keeper.new) }
 {
     let (found, ended) = both(found, ended)?;

@@ -9,7 +9,7 @@ use Rattle.job_reader.specs.Counts.{AreCounted, Counts, counts_of}
 use Rattle.job_reader.specs.Policy.{IsPolicyOf}
 use Rattle.job_reader.specs.Endings.{IsRunStatus}
 use Rattle.job_reader.specs.Prepared.{ArePrepared, IsJobFor, IsSetupOf, IsTree, ScriptOfJob}
-use Rattle.job_reader.specs.Script.{IsReadWhole, IsScriptIn, ScriptSays}
+use Rattle.job_reader.specs.Script.{ArePermitted, IsReadWhole, IsScriptIn, ScriptSays}
 use Rattle.job_reader.specs.Stops.{GivesScript, IsOfStore, IsOfTree, is_read_fault, status_of}
 use Rattle.job_reader.specs.Tree.{IsFitFor}
 use Rattle.job_reader.specs.Tree.Purpose.{ToRun}
@@ -119,6 +119,11 @@ of_job : (g : Grammar) (bytes : List ℕ) (left : Option (List ℕ)) (script : S
     → IfOk result (λ job. job.script ≡ script) → IfErr result (λ why. IsOfTree why ⊎ IsOfStore why) → ScriptOfJob g bytes left result
 of_job g bytes left script (Ok job) is read same kind = (subst (λ s. IsScriptIn g bytes s) (sym same) is, read)
 of_job g bytes left script (Err why) is read same kind = rest_stop_script g bytes left why kind ((script, is), read)
+
+pub permitted_in_job : (g : Grammar) (script : Script) (result : Result Job Stop) → ArePermitted g script → IfOk result (λ job. job.script ≡ script)
+    → IfOk result (λ job. ArePermitted g job.script)
+permitted_in_job g script (Ok job) permitted same = subst (λ s. ArePermitted g s) (sym same) permitted
+permitted_in_job g script (Err why) permitted same = tt
 
 pub script_of_rest : (g : Grammar) (told left : Option (List ℕ)) (script : Script) (result : Result Job Stop)
     → IfSome told (λ bytes. GivesScript g bytes left (Ok script))

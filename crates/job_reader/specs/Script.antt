@@ -1,10 +1,10 @@
 -- What a status says of the script that a source tells.
-use Rattle.std.specs.Prelude.{◌≡◌, ℕ, ⊤, List, [], Option, Some}
+use Rattle.std.specs.Prelude.{◌≡◌, ℕ, ⊤, All, List, [], Option, Some}
 use Rattle.init_machine.specs.declared.limit.Limit.{Limit}
 use Rattle.init_machine.specs.declared.limit.Limit.TheVariants as limits
 use Rattle.script_lang.specs.Refusal.{IsBadAt, IsTooLarge}
 use Rattle.script_lang.specs.Script.{IsScript}
-use Rattle.script_lang.specs.Sets.{IsBadOfSetsAt, IsScriptOfSets}
+use Rattle.script_lang.specs.Sets.{IsBadOfSetsAt, IsScriptOfSets, IsSetOrMain}
 use Rattle.script_lang.specs.declared.script.Script.{Script}
 use Rattle.job_reader.specs.declared.grammar.Grammar.{Grammar}
 use Rattle.job_reader.specs.declared.grammar.Grammar.TheVariants as grammar
@@ -15,6 +15,11 @@ use Rattle.job_reader.specs.declared.status.Status.TheVariants as status
 abbrev pub IsScriptIn : Grammar → List ℕ → Script → Type 0
 IsScriptIn grammar.Whole bytes script = IsScript bytes script
 IsScriptIn grammar.Sets bytes script = IsScriptOfSets bytes script
+
+-- all acts of the script are permitted by a grammar
+abbrev pub ArePermitted : Grammar → Script → Type 0
+ArePermitted grammar.Whole script = ⊤
+ArePermitted grammar.Sets script = All IsSetOrMain script.acts
 
 -- the bytes are no script by a grammar, and this is the first bad line
 abbrev pub IsBadIn : Grammar → List ℕ → ℕ → Type 0

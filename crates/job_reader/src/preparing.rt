@@ -8,6 +8,7 @@ ghost use Rattle.init_machine.specs.WellFormed.{IsWellFormed};
 ghost use Rattle.job_reader.specs.Counts.{counts_of};
 ghost use Rattle.job_reader.specs.Endings.{IsRunStatus};
 ghost use Rattle.job_reader.specs.Prepared.{ArePrepared, GivesSaved, GivesSetup, GivesTree, IsAsked, IsFit, IsJobFor, ScriptOfJob};
+ghost use Rattle.job_reader.specs.Script.{ArePermitted};
 ghost use Rattle.job_reader.specs.Stops.{IsOfStore, IsOfTree, has_read_fault, status_of};
 ghost use Rattle.job_reader.specs.Tree.{IsWorldOf};
 ghost use Rattle.rc_import.specs.World.{World};
@@ -114,6 +115,7 @@ pub fn prepare<F: Files, S: Source, P: Keeper>(
     keeper: &mut P,
 ) -> Result<Job, Stop>
     ensures script { IfSome (S.left source.old) (λ bytes. ScriptOfJob grammar bytes (S.left source.new) result) }
+    ensures permitted { IfOk result (λ job. ArePermitted grammar job.script) }
     ensures tree { (world : World) → IsWorldOf (F.tree files.old) world → GivesSetup world result }
     ensures store { IfSome (P.held keeper.old) (λ held. GivesSaved held result) }
     ensures fit { IfOk result IsFit }

@@ -4,6 +4,7 @@ ghost use Rattle.std.specs.Prelude.{◌≡◌, IfErr, IfOk, IfSome, IsTrue, Some
 ghost use Rattle.init_base.specs.Faults.{Counted};
 ghost use Rattle.init_driver.specs.Keeper.{seen_by};
 ghost use Rattle.job_reader.specs.Prepared.{IsAsked};
+ghost use Rattle.job_reader.specs.Script.{ArePermitted};
 ghost use Rattle.job_reader.specs.Stops.{GivesScript, GivesStore, GivesTrace, IsOfScript, IsOfStore, IsOfTrace, has_read_fault};
 ghost use Rattle.persist_file.specs.Store.{are_saved};
 ghost use Rattle.script_lang.specs.Laws.{MeetsConditions};
@@ -28,6 +29,7 @@ const MOST_TRACE_BYTES: usize = 67_108_864;
 pub fn read_script<S: Source>(alloc: Global, grammar: Grammar, source: &mut S) -> Result<Script, Stop>
     ensures script { IfSome (S.left source.old) (λ bytes. GivesScript grammar bytes (S.left source.new) result) }
     ensures conditions { IfOk result MeetsConditions }
+    ensures permitted { IfOk result (ArePermitted grammar) }
     ensures early { IfErr result IsOfScript }
     ensures cause { Counted (has_read_fault result) (S.fault_count source.old) (S.fault_count source.new) }
 {
@@ -41,6 +43,7 @@ pub fn read_script<S: Source>(alloc: Global, grammar: Grammar, source: &mut S) -
 fn script_in(alloc: Global, grammar: Grammar, bytes: &[u8]) -> Result<Script, Stop>
     ensures script { GivesScript grammar bytes.now (Some []) result }
     ensures conditions { IfOk result MeetsConditions }
+    ensures permitted { IfOk result (ArePermitted grammar) }
     ensures early { IfErr result IsOfScript }
     ensures fault { has_read_fault result ≡ false }
 {

@@ -21,12 +21,12 @@ returns-in-Ok-clause-leaves g c =
 pub returns-in-Err-Keeper-clause-leaves : goal.returns-in-Err-Keeper-clause-leaves
 returns-in-Err-Keeper-clause-leaves g c =
     let seen = seen_by g.P.Keeper.held g.P.Keeper.TellsCrash g.P.Keeper.moment g.P.Keeper.MayLeave in
-    failed_race (course_of c.args.job) (g.K.Sink.taken c.args.out.now) (seen c.args.keeper.now) (seen c.race.new.keeper) (rw c.in-Err-Keeper.field-0-is at c.in-Err-Keeper.ensures.kept)
+    failed_race IsAudited (course_of c.args.job) (g.K.Sink.taken c.args.out.now) (seen c.args.keeper.now) (seen c.race.new.keeper) (rw c.in-Err-Keeper.field-0-is at c.in-Err-Keeper.ensures.kept)
 
 pub returns-clause-leaves : goal.returns-clause-leaves
 returns-clause-leaves g c =
     let seen = seen_by g.P.Keeper.held g.P.Keeper.TellsCrash g.P.Keeper.moment g.P.Keeper.MayLeave in
-    stopped_race (course_of c.args.job) (g.K.Sink.taken c.args.out.now) (seen c.args.keeper.now) (seen c.race.new.keeper) (rw c.in-Err-NoMemory.field-0-is at c.in-Err-NoMemory.ensures.kept)
+    stopped_race IsAudited (course_of c.args.job) (g.K.Sink.taken c.args.out.now) (seen c.args.keeper.now) (seen c.race.new.keeper) (rw c.in-Err-NoMemory.field-0-is at c.in-Err-NoMemory.ensures.kept)
 
 pub returns-in-Ok-clause-seat : goal.returns-in-Ok-clause-seat
 returns-in-Ok-clause-seat g c =

@@ -26,7 +26,7 @@ returns-in-Err-clause-kept g c o script raced =
     let seen = seen_by g.P.Keeper.held g.P.Keeper.TellsCrash g.P.Keeper.moment g.P.Keeper.MayLeave in
     let ended = c.in_ok-found.ended in
     let are = are_raced o script c.args.ended ended c.in_ok-found.ensures.pair.1 raced in
-    race_not_kept o c.args.found script ended.finished ended.parts (seen c.args.keeper.now) (seen c.keep.new.keeper) _ are c.in-Err.ensures.keeps
+    race_not_kept o c.args.found script c.args.ended ended (seen c.args.keeper.now) (seen c.keep.new.keeper) _ c.in_ok-found.ensures.pair.1 are c.in-Err.ensures.keeps
 
 pub returns-in-Ok-clause-raced : goal.returns-in-Ok-clause-raced
 returns-in-Ok-clause-raced g c o script raced =

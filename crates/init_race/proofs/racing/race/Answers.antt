@@ -1,4 +1,5 @@
 use Rattle.init_core.specs.Core.{opening_of}
+use Rattle.init_race.proofs.Kept.{kept_so, left_audited}
 use Rattle.init_race.proofs.racing.race.Goals as goal
 
 pub leave-requires : goal.leave-requires
@@ -14,4 +15,6 @@ returns-clause-seat g c =
 
 pub returns-clause-kept : goal.returns-clause-kept
 returns-clause-kept g c =
-    c.leave.ensures.kept (opening_of c.args.setup.config c.args.setup.policy c.args.script.now.words) c.args.script.now c.run_in_area-ended.ensures
+    let o = opening_of c.args.setup.config c.args.setup.policy c.args.script.now.words in
+    kept_so o _ _ c.leave.result _ _ (left_audited o c.args.setup.diagnostics c.args.script.now _ c.run_in_area-ended.ensures)
+    (c.leave.ensures.kept o c.args.script.now c.run_in_area-ended.ensures)
