@@ -138,7 +138,11 @@ fn tell_end(
 fn has_cause(status: Status, wrote: &[u8]) -> bool {
     match status {
         Status::Done => wrote.starts_with(b"no "),
-        Status::Usage | Status::ReadFault | Status::WriteFault | Status::NoMemory => false,
+        Status::Usage
+        | Status::ReadFault
+        | Status::WriteFault
+        | Status::NoMemory
+        | Status::NoInit => false,
         _ => true,
     }
 }
@@ -151,15 +155,23 @@ fn tell_cause(
     wrote: &[u8],
     is_image_bad: bool,
 ) {
-    let Ok(outside) = outside_of(rt, words) else {
+    let Ok(
+        Outside {
+            files,
+            script,
+            trace,
+            keeper,
+        },
+    ) = outside_of(rt, words)
+    else {
         return;
     };
     let mut named = Named {
         words,
-        files: outside.files,
-        script: only_if(is_plain_file(rt, words, 2), outside.script),
-        trace: only_if(is_plain_file(rt, words, 3), outside.trace),
-        store: outside.keeper,
+        files,
+        script: only_if(is_plain_file(rt, words, 2), script),
+        trace: only_if(is_plain_file(rt, words, 3), trace),
+        store: keeper,
     };
     if is_image_bad {
         tell_line(rt, image_line(rt.alloc(), &mut named));
