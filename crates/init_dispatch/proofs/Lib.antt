@@ -4,3 +4,4 @@ pub mod Clients
 pub mod Served
 pub mod Through
 pub mod Ended
+pub mod Orders

@@ -35,7 +35,7 @@ use Rattle.init_dispatch.specs.internal.Sessions.{AreSessions, IsSession, sets_a
 
 -- ---- a client's part is sets alone
 
-abbrev AreSets : List Ask → Type 0
+abbrev pub AreSets : List Ask → Type 0
 AreSets asks = All (λ one. IsTrue (is_set_ask one)) asks
 
 mine_are_sets : (who : ℕ) (found : Option Ask) (later : List Ask) → ((one : Ask) → found ≡ Some one → IsTrue (is_set_ask one)) → AreSets later
@@ -56,7 +56,7 @@ act_sets who (act.Ask other asked) one is found = chosen (other.0 == who) found
         subst (λ a. IsTrue (is_set_ask a)) same is
     chosen false e = cc
 
-part_sets : (who : ℕ) (acts : List Act) → All IsSetOrMain acts → AreSets (filter_map (ask_by who) acts)
+pub part_sets : (who : ℕ) (acts : List Act) → All IsSetOrMain acts → AreSets (filter_map (ask_by who) acts)
 part_sets who [] only = All-nil _
 part_sets who (a ∷ acts) only =
     mine_are_sets who (ask_by who a) (filter_map (ask_by who) acts) (λ one found. act_sets who a one (All-head IsSetOrMain a acts only) found)
