@@ -15,11 +15,13 @@ use Rattle.init_race.proofs.Parting.{told_first}
 use Rattle.init_race.proofs.Returning.{all_come}
 use Rattle.init_race.proofs.Through.{are_raced}
 use Rattle.init_race.specs.Acting.{IsPart, IsThrough}
-use Rattle.init_race.specs.Race.{AreAll, HasEnded}
+use Rattle.init_race.specs.Race.{AreAll, AreRaced, HasEnded}
 use Rattle.init_race.specs.Seating.{AllSeated}
 use Rattle.init_race.specs.Threads.{EachThrough}
 use Rattle.init_race.specs.declared.actors.Acted.{Acted}
 use Rattle.init_race.specs.declared.racing.Ended.{Ended}
+use Rattle.init_race.specs.declared.racing.Raced.{Raced}
+use Rattle.init_race.specs.declared.refusal.RaceRefusal.{RaceRefusal}
 use Rattle.init_race.specs.internal.Ended.{readers_of, told_to}
 use Rattle.prop_dispatch.specs.declared.session.Session.{Session}
 use Rattle.property_area.specs.Seats.{Seated}
@@ -119,3 +121,35 @@ is_dispatched o found script ended report are is =
       no_readings = subst (All (λ (part : ClientPart). part.readings ≡ [])) (sym are.parts_are)
           (All-map (λ (part : ClientPart). part.readings ≡ []) silent script.clients (λ k d within. refl));
     })
+
+-- ---- of what comes back, if anything does
+
+pub back_with : (P : List Seated → Type 0) (whole : List Seated) (came : Result (List Seated × List ClientPart) NoMemory) → P whole
+    → IfOk came (λ back. back.0 ≡ whole) → IfOk came (λ back. P back.0)
+back_with P whole (Ok back) holds is = subst P (sym is) holds
+back_with P whole (Err e) holds is = tt
+
+pub ended_dispatched : (area : TableId) (o : Opening) (script : Script) (s t : ServiceView) (main : Seated) (sessions : List Session) (readers : List Seated)
+    (came : Result (List Seated × List ClientPart) NoMemory) (result : Result Ended NoMemory) → AsksAreMet script → All IsSetOrMain script.acts
+    → length script.clients ≡ length o.config.domains → HasBegun area o script s main sessions → IsServed area s t sessions readers
+    → IfOk came (λ back. back.0 ≡ readers ++ main ∷ []) → IfOk came (λ back. back.1 ≡ map silent script.clients)
+    → IfOk result (λ ended. IsOkAnd came (λ back. HasEnded back.0 ended.finished × (ended.parts ≡ back.1)))
+    → IfOk result (λ ended. ended.finished.history ≡ t.history) → IfOk result (λ ended. AreDispatched o script ended.finished ended.parts)
+ended_dispatched area o script s t main sessions readers came (Err e) met only domains begun served back_is parts_are with_it history = tt
+ended_dispatched area o script s t main sessions readers (Err e) (Ok ended) met only domains begun served back_is parts_are with_it history = absurd with_it
+ended_dispatched area o script s t main sessions readers (Ok back) (Ok ended) met only domains begun served back_is parts_are with_it history =
+    are_dispatched area o script s t main sessions readers back.0 ended.finished ended.parts met only domains begun served back_is (with_it.1 ∙ parts_are)
+    with_it.0 history
+
+pub raced_too : (o : Opening) (script : Script) (ended : Result Ended NoMemory) → IfOk ended (λ e. AreDispatched o script e.finished e.parts)
+    → IfOk ended (λ e. AreRaced o script e.finished e.parts)
+raced_too o script (Ok e) are = are.raced
+raced_too o script (Err why) are = tt
+
+pub reported : (o : Opening) (found : List Diagnostic) (script : Script) (ended : Result Ended NoMemory) (result : Result Raced RaceRefusal)
+    → IfOk ended (λ e. AreDispatched o script e.finished e.parts)
+    → IfOk result (λ raced. IsOkAnd ended (λ e. raced.report ≡ record { diagnostics = found; history = e.finished.history; clients = e.parts }))
+    → IfOk result (λ raced. IsDispatched o found script raced.report)
+reported o found script ended (Err why) are is = tt
+reported o found script (Err e) (Ok raced) are is = absurd is
+reported o found script (Ok e) (Ok raced) are is = is_dispatched o found script e raced.report are is
