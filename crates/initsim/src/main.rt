@@ -1,34 +1,29 @@
 //! `initsim`: Android's first process over a modelled kernel. It checks a tree of rc files, runs or races a script over it, audits
 //! traces, and tells how much made-up services give to do.
 //!
-//! `top` has the call that does all that the program does, with its promise. `main` makes the real files, script,
-//! trace and output, and makes that call.
+//! `init_forms` has the call that does all that the program does, with its promise. `main` makes the real files, script, trace,
+//! store and output, makes that call, and says on standard error how it ended.
 #![tactic(auto)]
 
 mod arguments;
-mod auditing;
 mod help;
 mod noting;
-mod racing;
-mod soaking;
 mod standard;
 mod telling;
-mod top;
-mod verdict;
 
 use arguments::words_of;
+use explanations::{Named, cause_line, image_line};
 use help::{is_help, tell_help};
 use init_base::{Fault, Keeper, List, NoMemory, Source, StdFiles, StdSink, StdSource, Text};
-use init_race::OpenGate;
-use job_reader::Status;
+use init_forms::{OpenGate, Status, initsim};
 use noting::Noting;
-use second_line::{Named, TreeStore, cause_line, image_line, last_fault, store_below};
 use standard::hold_closed;
+use std::fs;
 use std::process::ExitCode;
 use std::sync::Wait;
 use std::thread::Threads;
 use telling::{tell, tell_misuse};
-use top::initsim;
+use tree_store::{TreeStore, last_fault, store_below};
 
 /// The objects of the machine that the words name.
 #[derive(Drop)]
@@ -130,14 +125,65 @@ fn tell_end(
 ) {
     let fault = fault_behind(status, outside, &out.sink);
     let _ = tell(rt, status, fault);
-    let named = Named { rt, words };
-    if fault.is_none() && outside.keeper.faults() > 0 {
-        tell_line(rt, image_line(&named));
+    let is_image_bad = fault.is_none() && outside.keeper.faults() > 0;
+    if is_image_bad || has_cause(status, out.first()) {
+        tell_cause(rt, status, words, out.first(), is_image_bad);
     }
-    tell_line(rt, cause_line(&named, status, out.first()));
     if status == Status::Usage {
         let _ = tell_usage(rt, words);
     }
+}
+
+/// Whether there may be more to say: after a refusal of what was read, and after a verdict that isn't yes.
+fn has_cause(status: Status, wrote: &[u8]) -> bool {
+    match status {
+        Status::Done => wrote.starts_with(b"no "),
+        Status::Usage | Status::ReadFault | Status::WriteFault | Status::NoMemory => false,
+        _ => true,
+    }
+}
+
+/// Prints what is wrong in what the words name. It is read once more.
+fn tell_cause(
+    rt: &HostRuntime,
+    status: Status,
+    words: &List<Text>,
+    wrote: &[u8],
+    is_image_bad: bool,
+) {
+    let Ok(outside) = outside_of(rt, words) else {
+        return;
+    };
+    let mut named = Named {
+        words,
+        files: outside.files,
+        script: only_if(is_plain_file(rt, words, 2), outside.script),
+        trace: only_if(is_plain_file(rt, words, 3), outside.trace),
+        store: outside.keeper,
+    };
+    if is_image_bad {
+        tell_line(rt, image_line(rt.alloc(), &mut named));
+    }
+    tell_line(rt, cause_line(rt.alloc(), &mut named, status, wrote));
+}
+
+/// Whether a word is the path of a plain file.
+fn is_plain_file(rt: &HostRuntime, words: &List<Text>, at: usize) -> bool {
+    let Some(word) = words.at(at) else {
+        return false;
+    };
+    let Ok(path) = std::str::from_utf8(word.bytes()) else {
+        return false;
+    };
+    match fs::metadata(rt, path) {
+        Ok(found) => found.is_file(),
+        Err(_) => false,
+    }
+}
+
+/// A value, where it is wanted. Else it ends here.
+fn only_if<T: Drop>(is_wanted: bool, value: T) -> Option<T> {
+    if is_wanted { Some(value) } else { None }
 }
 
 /// Prints a second line, where there is one.

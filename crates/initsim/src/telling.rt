@@ -2,7 +2,7 @@
 
 use command_line::{FormName, Misuse, Place, WordFault, misuse_of};
 use init_base::{Fault, List, Text};
-use job_reader::Status;
+use init_forms::Status;
 use persist_file::StoreCause;
 use refusal_causes::ShownPath;
 use std::fmt;

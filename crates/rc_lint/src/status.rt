@@ -6,7 +6,7 @@ ghost use Rattle.rc_lint.specs.Status.{code_of};
 use rc_import::LoadRefusal;
 
 /// How a run of the program ended.
-#[derive(Debug, Drop)]
+#[derive(Drop)]
 pub enum Status {
     /// The report is written, and has no error.
     Clean,

@@ -11,3 +11,4 @@ pub mod Spellings
 pub mod InputParts
 pub mod Conditions
 pub mod Counted
+pub mod SetsReading

@@ -4,7 +4,7 @@ use Rattle.std.proofs.lemmas.List.{flat_map_more}
 use Rattle.script_lang.specs.Gathering.{or_else, first_unread, said_until, unread_in, until_unread}
 use Rattle.script_lang.specs.Ordering.{first_misfit, first_unfit_of_sets}
 use Rattle.script_lang.specs.Script.{AllFit, IsFirstBad, fits, line_fits, statements_in, statements_of}
-use Rattle.script_lang.specs.Sets.{IsFirstBadOfSets, line_fits_sets, only_sets, reading_fits_sets}
+use Rattle.script_lang.specs.Sets.{AllFitSets, IsFirstBadOfSets, line_fits_sets, only_sets, reading_fits_sets}
 use Rattle.script_lang.specs.Statements.{reading_of}
 use Rattle.script_lang.specs.declared.statement.Said.{Said}
 use Rattle.script_lang.specs.declared.statement.Statement.{Statement}
@@ -210,3 +210,15 @@ some_is_first_bad_of_sets lines place some =
       misfit = found.misfit;
       number_is = omega (arith, found.place_is);
     }
+
+pub all_fit_of_sets : (lines : List (List ℕ)) → or_else (first_unfit_of_sets [] (said_until 1 lines)) (first_unread 1 lines) ≡ None → AllFitSets lines
+all_fit_of_sets lines none = all_fit_where_none line_fits_sets [] 1 lines (sym (sets_misfit_is [] 1 lines) ∙ none)
+
+pub one_first_bad_of_sets : (lines : List (List ℕ)) (place other : ℕ) → IsFirstBadOfSets lines place → IsFirstBadOfSets lines other → place ≡ other
+one_first_bad_of_sets lines place other one two =
+    let same : Some place ≡ Some other = sym (place_is lines place one) ∙ place_is lines other two in cc
+  where
+    place_is : (lines : List (List ℕ)) (place : ℕ) → IsFirstBadOfSets lines place → misfit_behind line_fits_sets [] 1 lines ≡ Some place
+    place_is lines place first =
+        ap (misfit_behind line_fits_sets [] 1) first.text
+        ∙ some_where_bad line_fits_sets [] 1 first.before first.bad first.behind first.all_fit first.misfit ∙ ap (λ n. Some n) (omega (arith, first.number_is))

@@ -17,7 +17,7 @@ use Rattle.script_lang.specs.declared.statement.Statement.{Statement}
 use Rattle.script_lang.specs.declared.statement.Statement.TheVariants as statement
 use Rattle.script_lang.proofs.Builds.{built_script}
 use Rattle.script_lang.proofs.Gatherings.{IsGathered, gathered_is, misfit_is, all_said}
-use Rattle.script_lang.proofs.Misfits.{none_is_all_fit, some_is_first_bad, some_is_first_bad_of_sets}
+use Rattle.script_lang.proofs.Misfits.{all_fit_of_sets, none_is_all_fit, some_is_first_bad, some_is_first_bad_of_sets}
 
 -- what was gathered of a text within the limits
 pub record IsWithin (bytes : List ℕ) (g : Gathered) : Type 0 where
@@ -117,14 +117,25 @@ acts_only_set clients before (said ∷ more) none =
 pub said_fits : (g : Gathered) → None ≡ or_else (first_unfit_of_sets [] g.said) g.unread → first_unfit [] g.said ≡ None
 said_fits g none = none_unfit [] g.said (neither (first_unfit_of_sets [] g.said) g.unread (sym none)).0
 
-pub is_script_of_sets : (bytes : List ℕ) (g : Gathered) (script : Script) → IsWithin bytes g
-    → None ≡ or_else (first_unfit_of_sets [] g.said) g.unread → script ≡ built_from empty_script g.said → IsScriptOfSets bytes script
-is_script_of_sets bytes g script within none built =
-    let both = neither (first_unfit_of_sets [] g.said) g.unread (sym none) in
-    let fitting = none_unfit [] g.said both.0 in
-    let unread : None ≡ or_else (first_unfit [] g.said) g.unread = rw fitting (sym both.1) in
-    let is : script ≡ script_of g.said = built ∙ built_script g.said fitting in
-    record {
-      is_script = is_script bytes g script within unread built;
-      only_sets = subst (λ (s : Script). All IsSetOrMain s.acts) (sym is) (acts_only_set (script_of g.said).clients [] g.said both.0);
-    }
+all_lines_said : (bytes : List ℕ) (g : Gathered) → IsWithin bytes g → g.unread ≡ None → g.said ≡ said_from 1 (lines_of bytes)
+all_lines_said bytes g within none = within.gathered.said ∙ all_said 1 (lines_of bytes) (sym within.gathered.unread ∙ none)
+
+module _ (bytes : List ℕ) (g : Gathered) (script : Script) (within : IsWithin bytes g)
+    (none : None ≡ or_else (first_unfit_of_sets [] g.said) g.unread) (built : script ≡ built_from empty_script g.said) where
+  both : (first_unfit_of_sets [] g.said ≡ None) × (g.unread ≡ None)
+  both = neither (first_unfit_of_sets [] g.said) g.unread (sym none)
+
+  is : script ≡ script_of g.said
+  is = built ∙ built_script g.said (none_unfit [] g.said both.0)
+
+  pub is_script_of_sets : IsScriptOfSets bytes script
+  is_script_of_sets = record {
+    within = within_limits bytes g within;
+    all_fit = all_fit_of_sets (lines_of bytes) (sym (none
+        ∙ ap (λ said. or_else (first_unfit_of_sets [] said) g.unread) within.gathered.said
+        ∙ ap (λ unread. or_else (first_unfit_of_sets [] (said_until 1 (lines_of bytes))) unread) within.gathered.unread));
+    script_is = is ∙ ap script_of (all_lines_said bytes g within both.1);
+  }
+
+  pub only_sets_acts : All IsSetOrMain script.acts
+  only_sets_acts = subst (λ (s : Script). All IsSetOrMain s.acts) (sym is) (acts_only_set (script_of g.said).clients [] g.said both.0)

@@ -1,8 +1,8 @@
 -- Scripts whose clients only set: which texts are such scripts, and which line of another text is the first bad one.
-use Rattle.std.specs.Prelude.{◌≡◌, ℕ, ◌+◌, ⊤, Bool, true, false, IsTrue, ◌&&◌, List, ◌∷◌, ◌++◌, length, All, Option, Some, None}
+use Rattle.std.specs.Prelude.{◌≡◌, ℕ, ◌+◌, ⊤, Bool, true, false, IsTrue, ◌&&◌, List, ◌∷◌, ◌++◌, length, Option, Some, None}
 use Rattle.script_lang.specs.Lines.{lines_of}
 use Rattle.script_lang.specs.Refusal.{IsTooLarge}
-use Rattle.script_lang.specs.Script.{IsScript, IsWithinLimits, fits, statements_of}
+use Rattle.script_lang.specs.Script.{IsWithinLimits, fits, said_from, script_of, statements_of}
 use Rattle.script_lang.specs.Statements.{reading_of}
 use Rattle.script_lang.specs.declared.refusal.ScriptRefusal.{ScriptRefusal}
 use Rattle.script_lang.specs.declared.refusal.ScriptRefusal.TheVariants.{TooLarge, BadLine, NoMemory}
@@ -72,8 +72,9 @@ IsSetOrMain (act.Ask who ask) = IsTrue (is_set_ask ask)
 
 -- the bytes are the text of this script, whose clients only set
 pub record IsScriptOfSets (bytes : List ℕ) (script : Script) : Type 0 where
-  pub is_script : IsScript bytes script
-  pub only_sets : All IsSetOrMain script.acts
+  pub within : IsWithinLimits bytes
+  pub all_fit : AllFitSets (lines_of bytes)
+  pub script_is : script ≡ script_of (said_from 1 (lines_of bytes))
 
 -- the bytes are within all limits, and this line is the first bad one
 pub record IsBadOfSetsAt (bytes : List ℕ) (line : ℕ) : Type 0 where

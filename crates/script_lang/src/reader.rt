@@ -1,11 +1,11 @@
 //! Reading a script.
 
-ghost use Rattle.std.specs.Prelude.{◌≡◌, [], IfOk, IfErr};
+ghost use Rattle.std.specs.Prelude.{◌≡◌, [], All, IfOk, IfErr};
 ghost use Rattle.script_lang.specs.Gathering.{IsGatheredWithin, or_else};
 ghost use Rattle.script_lang.specs.Ordering as spec;
 ghost use Rattle.script_lang.specs.Refusal.{IsOverLimit, IsRefused};
 ghost use Rattle.script_lang.specs.Script.{IsScript};
-ghost use Rattle.script_lang.specs.Sets.{IsRefusedOfSets, IsScriptOfSets};
+ghost use Rattle.script_lang.specs.Sets.{IsRefusedOfSets, IsScriptOfSets, IsSetOrMain};
 
 use crate::build::build;
 use crate::gather::{Gathered, gather};
@@ -38,6 +38,7 @@ pub fn read(alloc: Global, bytes: &[u8]) -> Result<Script, ScriptRefusal>
 /// catch, each of which is a bad line.
 pub fn read_sets(alloc: Global, bytes: &[u8]) -> Result<Script, ScriptRefusal>
     ensures script { IfOk result (IsScriptOfSets bytes.now) }
+    ensures sets { IfOk result (λ script. All IsSetOrMain script.acts) }
     ensures refused { IfErr result (IsRefusedOfSets bytes.now) }
 {
     let gathered = gather_within(alloc, bytes)?;

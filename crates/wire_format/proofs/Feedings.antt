@@ -1,13 +1,12 @@
 -- What a feeder answers to a piece.
-use Rattle.std.proofs.Common.{◌≡◌, ℕ, ◌+◌, ◌<◌, ◌≤◌, ◌⊎◌, ⊎_elim, Bool, true, false, List, [], ◌∷◌, ◌++◌, length, Result, Ok, Err, refl, ap, sym, subst, ◌∙◌, inl, inr, arith}
+use Rattle.std.proofs.Common.{◌≡◌, ℕ, ◌+◌, ◌≤◌, ◌⊎◌, ⊎_elim, true, List, ◌++◌, length, Ok, Err, refl, ap, sym, ◌∙◌, inl, inr, arith}
 use Rattle.std.proofs.lemmas.Bool.{cases_Bool, both_ways}
-use Rattle.wire_format.specs.Feeding.{over, tail, Feeding, Feeds, IsOnly, Tells}
+use Rattle.wire_format.specs.Feeding.{tail, Feeding, Feeds, IsOnly}
 use Rattle.wire_format.specs.Format.{word_from}
-use Rattle.wire_format.specs.Wire.{front_by, front_of, is_open, no_message, shape_of, unfinished, waits, BeginsWith, IsThere, Wire}
+use Rattle.wire_format.specs.Wire.{front_by, front_of, is_open, no_message, shape_of, unfinished, waits, IsThere, Wire}
 use Rattle.wire_format.specs.declared.message.Message.{Message}
 use Rattle.wire_format.specs.declared.message.Rest.{Rest}
 use Rattle.wire_format.specs.declared.message.Rest.TheVariants as rest
-use Rattle.wire_format.specs.declared.refusal.FeedRefusal.{FeedRefusal}
 use Rattle.wire_format.specs.declared.refusal.FeedRefusal.TheVariants as refusal
 use Rattle.wire_format.specs.declared.shape.Shape.{Shape}
 use Rattle.wire_format.specs.declared.shape.Shape.TheVariants as shape

@@ -1,11 +1,10 @@
 -- What bytes that are added change of a front.
-use Rattle.std.proofs.Common.{◌≡◌, ℕ, ◌+◌, ◌<◌, ◌≤◌, Bool, true, false, nat_lt, cond, List, [], ◌∷◌, ◌++◌, length, take, drop, slice_range, ◌-◌, ◌==◌, refl, ap, sym, subst, ◌∙◌, inl, inr, arith, length-append}
+use Rattle.std.proofs.Common.{◌≡◌, ℕ, ◌+◌, ◌<◌, ◌≤◌, true, false, nat_lt, List, [], ◌++◌, length, take, drop, slice_range, ◌-◌, ◌==◌, refl, ap, sym, subst, ◌∙◌, inl, inr, arith, length-append}
 use Rattle.std.proofs.lemmas.Bool.{cases_Bool, cond_both, ltb-true, ltb-false}
 use Rattle.std.proofs.lemmas.List.{append_assoc, drop-append-le, drop_all, length-take, take-append-drop, take_rest}
 use Rattle.wire_format.specs.Format.{first, second, word_from}
 use Rattle.wire_format.specs.Wire.{first_message, first_shape, front_by, front_of, second_message, second_shape, shape_by, shape_of, value_shape, waits, whole, no_message, Front, IsThere}
 use Rattle.wire_format.specs.declared.message.Message.{Message}
-use Rattle.wire_format.specs.declared.message.Rest.{Rest}
 use Rattle.wire_format.specs.declared.shape.Shape.{Shape}
 use Rattle.wire_format.specs.declared.shape.Shape.TheVariants as shape
 use Rattle.wire_format.proofs.Shapes.{shape_stays, shape_takes, size_of, wanted}

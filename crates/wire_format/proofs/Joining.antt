@@ -1,8 +1,7 @@
 -- Pieces of a stream, and the stream that they join to.
-use Rattle.std.proofs.Common.{◌≡◌, ℕ, zero, suc, ◌+◌, ◌<◌, ◌≤◌, Bool, true, false, List, [], ◌∷◌, ◌++◌, length, drop, Result, Ok, refl, ap, sym, subst, ◌∙◌, inl, inr, arith}
-use Rattle.std.proofs.lemmas.Bool.{cases_Bool}
+use Rattle.std.proofs.Common.{◌≡◌, ℕ, zero, suc, ◌+◌, ◌<◌, ◌≤◌, List, [], ◌∷◌, ◌++◌, length, drop, refl, ap, ◌∙◌, arith}
 use Rattle.std.proofs.lemmas.List.{append-nil, append_assoc, length-drop, nil_from_length}
-use Rattle.wire_format.specs.Feeding.{answers_of, bytes_of, tail, Fed, Feeding, Feeds, IsFedTo, LeavesTail}
+use Rattle.wire_format.specs.Feeding.{answers_of, bytes_of, Fed, IsFedTo, LeavesTail}
 use Rattle.wire_format.specs.Format.{word_from}
 use Rattle.wire_format.specs.Wire.{front_by, front_of, no_message, shape_of, unfinished, whole, BeginsWith, Front, IsThere, Wire}
 use Rattle.wire_format.specs.declared.message.Message.{Message}

@@ -6,3 +6,6 @@ pub mod Fronts
 pub mod Tails
 pub mod Feedings
 pub mod Joining
+pub mod Spellings
+pub mod Encodings
+pub mod Readings

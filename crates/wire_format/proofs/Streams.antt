@@ -1,6 +1,6 @@
 -- Messages at the front of bytes.
 use Rattle.std.proofs.Common.{◌≡◌, ℕ, List, [], ◌∷◌, ◌++◌, drop, refl, subst, sym, ap, ◌∙◌}
-use Rattle.wire_format.specs.Wire.{BeginsWith, Front, front_of, whole, no_message}
+use Rattle.wire_format.specs.Wire.{BeginsWith, front_of, whole, no_message}
 use Rattle.wire_format.specs.declared.message.Rest.{Rest}
 use Rattle.wire_format.proofs.Fronts.{whole_stays}
 use Rattle.wire_format.specs.internal.Pieces.{IsFront}

@@ -1,9 +1,9 @@
 -- Reading a piece behind a tail.
-use Rattle.std.proofs.Common.{◌≡◌, ℕ, ◌+◌, ◌<◌, ◌≤◌, Bool, true, false, List, [], ◌∷◌, ◌++◌, length, drop, Result, Ok, Err, refl, ap, sym, subst, ◌∙◌, inl, inr, arith}
+use Rattle.std.proofs.Common.{◌≡◌, ℕ, false, List, [], ◌∷◌, ◌++◌, drop, Result, Ok, Err, refl, ap, sym, subst, ◌∙◌, inl, inr}
 use Rattle.std.specs.Prelude.{IfOk, IsTrue}
 use Rattle.std.proofs.lemmas.Bool.{cases_Bool, both_ways}
 use Rattle.std.proofs.lemmas.List.{append-nil}
-use Rattle.wire_format.specs.Wire.{front_by, front_of, is_open, shape_of, waits, whole, no_message, BeginsWith, Front}
+use Rattle.wire_format.specs.Wire.{front_by, front_of, is_open, shape_of, waits, whole, no_message, BeginsWith}
 use Rattle.wire_format.specs.declared.message.Message.{Message}
 use Rattle.wire_format.specs.declared.message.Rest.{Rest}
 use Rattle.wire_format.specs.declared.message.Rest.TheVariants as rest

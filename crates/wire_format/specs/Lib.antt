@@ -1,4 +1,5 @@
 pub mod Feeding
 pub mod Format
+pub mod Spelling
 pub mod Wire
 pub mod internal

@@ -1,5 +1,6 @@
 //! The messages that clients of init's property socket send: their spelling, and reading them from a stream that comes in any pieces.
-//! The form is in `specs/Format.antt`, what a stream is in `specs/Wire.antt`, what a feeder makes of pieces in `specs/Feeding.antt`.
+//! The form is in `specs/Format.antt`, which bytes spell a message in `specs/Spelling.antt`, what a stream is in `specs/Wire.antt`, and
+//! what a feeder makes of pieces in `specs/Feeding.antt`.
 #![tactic(auto)]
 
 mod encoding;
@@ -15,6 +16,9 @@ mod word;
 
 pub use encoding::encode;
 pub use feeder::Feeder;
-pub use laws::{each_stream_has_one_reading, pieces_join};
+pub use laws::{
+    each_stream_has_one_reading, lengths_give_places, messages_are_spelled, pieces_join,
+    spellings_are_read,
+};
 pub use message::{Message, Rest};
 pub use refusal::FeedRefusal;

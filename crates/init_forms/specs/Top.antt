@@ -1,0 +1,60 @@
+-- What the top call leaves alone, and what it can do.
+use Rattle.std.specs.Prelude.{◌≡◌, ℕ, ⊤, ◌⊎◌, Option, Some, None, IsSomeAnd}
+use Rattle.init_base.specs.Faults.{Rose}
+use Rattle.command_line.specs.declared.form.Form.{Form}
+use Rattle.command_line.specs.declared.form.Form.TheVariants as form
+use Rattle.job_reader.specs.Script.{HasScript}
+use Rattle.job_reader.specs.Store.{HasStore}
+use Rattle.job_reader.specs.Trace.{HasTrace}
+use Rattle.job_reader.specs.Tree.{IsFitFor, IsWorldOf}
+use Rattle.job_reader.specs.Tree.Purpose.{ToRun, ToCheck}
+use Rattle.job_reader.specs.declared.status.Status.{Status}
+use Rattle.job_reader.specs.declared.status.Status.TheVariants as status
+use Rattle.rc_import.specs.World.{World}
+use Rattle.init_forms.specs.Outcome.{Sources, generated_sources}
+use Rattle.init_forms.specs.Soaking.{generated_tree}
+
+-- Where a refusal before the run is answered, something is as before. Of a fault it is so too, unless the keeper's count rose.
+abbrev pub IsAsBefore : {A : Type 0} → A → A → Status → ℕ → ℕ → Type 0
+IsAsBefore old new status.Done before now = ⊤
+IsAsBefore old new status.WriteFault before now = ⊤
+IsAsBefore old new status.NoMemory before now = ⊤
+IsAsBefore old new status.ReadFault before now = (new ≡ old) ⊎ Rose before now
+IsAsBefore old new status.Usage before now = new ≡ old
+IsAsBefore old new (status.BadScript line) before now = new ≡ old
+IsAsBefore old new status.NoInit before now = new ≡ old
+IsAsBefore old new (status.TooLarge limit number) before now = new ≡ old
+IsAsBefore old new (status.BadPolicy allow line) before now = new ≡ old
+IsAsBefore old new (status.BadStore line why) before now = new ≡ old
+IsAsBefore old new status.BadTrace before now = new ≡ old
+
+-- What is told can be run: the script's bytes are a script, the world can be run, and the text that the keeper holds is a store.
+pub record CanRun (sources : Sources) (world : World) : Type 0 where
+  pub script : IsSomeAnd sources.script HasScript
+  pub world_is_fit : IsFitFor ToRun world
+  pub store : IsSomeAnd sources.held HasStore
+
+-- the generated boot of so many services can be run
+pub record CanSoak (services : ℕ) : Type 0 where
+  pub world : World
+  pub world_is : IsWorldOf (Some (generated_tree services)) world
+  pub can : CanRun (generated_sources services) world
+
+-- What is told can be done. A check asks for the world alone, a race for what a run does, and an audit for that and for a trace. A soak
+-- reads nothing that is told.
+abbrev pub CanBeDone : Option Form → Sources → World → Type 0
+CanBeDone None sources world = ⊥
+CanBeDone (Some form.Run) sources world = CanRun sources world
+CanBeDone (Some form.Race) sources world = CanRun sources world
+CanBeDone (Some form.Check) sources world = IsFitFor ToCheck world
+CanBeDone (Some form.Audit) sources world = CanRun sources world × IsSomeAnd sources.trace HasTrace
+CanBeDone (Some (form.Soak services)) sources world = ⊥
+
+-- a form that reads a script
+abbrev pub ReadsScript : Option Form → Type 0
+ReadsScript None = ⊥
+ReadsScript (Some form.Run) = ⊤
+ReadsScript (Some form.Race) = ⊤
+ReadsScript (Some form.Check) = ⊥
+ReadsScript (Some form.Audit) = ⊤
+ReadsScript (Some (form.Soak services)) = ⊥
