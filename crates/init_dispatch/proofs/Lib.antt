@@ -6,3 +6,4 @@ pub mod Served
 pub mod Through
 pub mod Ended
 pub mod Orders
+pub mod OnlySets

@@ -10,5 +10,5 @@ mod parts;
 mod running;
 mod sessions;
 
-pub use laws::{each_dispatch_is_a_run, scripts_of_sets_may_be_dispatched};
+pub use laws::each_dispatch_is_a_run;
 pub use running::run_dispatch;
