@@ -4,9 +4,11 @@
 //! the audit of traces returns Yes to, and has the main actor's entries before all sets (`IsDispatched`).
 #![tactic(auto)]
 
+mod laws;
 mod main_actor;
 mod parts;
 mod running;
 mod sessions;
 
+pub use laws::each_dispatch_is_a_run;
 pub use running::run_dispatch;
