@@ -25,7 +25,7 @@ left_out : (b : Bool) (x : Pair) → b ≡ false → (if b then x ∷ [] else []
 left_out true x is = absurd (grind (arith, is))
 left_out false x is = refl
 
--- a session's own request comes behind the others
+-- a session's own request comes after the others
 pub of_own : (k : ℕ) (xs : List Item) (x : Item) → x.session ≡ k → pairs_of k (xs ++ x ∷ []) ≡ pairs_of k xs ++ x.request ∷ []
 of_own k xs x is =
     of_append k xs (x ∷ []) ∙ ap (λ l. pairs_of k xs ++ l) (chosen (x.session == k) x.request (grind (arith, nat_tests, is)))
