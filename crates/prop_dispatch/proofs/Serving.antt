@@ -247,14 +247,14 @@ one_entered area old done s now then seats seats' h n = record {
   many = omega (arith, ap (λ (l : List Seat). length l) n.added, length-append seats (n.seat ∷ []), length-append done (s ∷ []), h.many);
   each = λ k t x at there. ⊎_elim
       (λ (early : slice_get done k ≡ Some t). ⊎_elim
-          (λ (low : slice_get seats k ≡ Some x). h.each k t x early low)
-          (λ (last : (k ≡ length seats) × (n.seat ≡ x)). absurd (omega (arith, last.0, h.many, slice_get_within done k t early)))
-          (get_end seats n.seat k x (sym (ap (λ (l : List Seat). slice_get l k) n.added) ∙ there)))
+      (λ (low : slice_get seats k ≡ Some x). h.each k t x early low)
+      (λ (last : (k ≡ length seats) × (n.seat ≡ x)). absurd (omega (arith, last.0, h.many, slice_get_within done k t early)))
+      (get_end seats n.seat k x (sym (ap (λ (l : List Seat). slice_get l k) n.added) ∙ there)))
       (λ (late : (k ≡ length done) × (s ≡ t)). ⊎_elim
-          (λ (low : slice_get seats k ≡ Some x). absurd (omega (arith, late.0, h.many, slice_get_within seats k x low)))
-          (λ (last : (k ≡ length seats) × (n.seat ≡ x)).
-          subst (λ (y : Opening × ℕ × Seat). IsNew area y.0 y.1 y.2) (λ i. (h.opening i, (late.1 i).who.0, last.1 i)) n.is_new)
-          (get_end seats n.seat k x (sym (ap (λ (l : List Seat). slice_get l k) n.added) ∙ there)))
+      (λ (low : slice_get seats k ≡ Some x). absurd (omega (arith, late.0, h.many, slice_get_within seats k x low)))
+      (λ (last : (k ≡ length seats) × (n.seat ≡ x)).
+      subst (λ (y : Opening × ℕ × Seat). IsNew area y.0 y.1 y.2) (λ i. (h.opening i, (late.1 i).who.0, last.1 i)) n.is_new)
+      (get_end seats n.seat k x (sym (ap (λ (l : List Seat). slice_get l k) n.added) ∙ there)))
       (get_end done s k t at);
 }
 

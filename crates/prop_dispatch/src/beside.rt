@@ -52,7 +52,8 @@ fn push_and_work<'a, N: AreaName + Send + Sync, R: Threads + Wait + Sync, P: Pac
         move || -> (Pass<Item, View>, Worker<'_, N>)
             requires { IsPassOf line.now pass × (view pass ≡ worker_view (view pass).made (view pass).got (view pass).done)
                 × IsServing N.area (view pass).got worker.failed worker.service worker.seats.items }
-            ensures { IsPassOf line.entry.now result.0 × (view result.0 ≡ worker_view (view pass).made (view result.0).got (view pass).done)
+            ensures { IsPassOf line.entry.now result.0
+                × (view result.0 ≡ worker_view (view pass).made (view result.0).got (view pass).done)
                 × GoesOn N.area (view pass).got worker.entry.failed worker.entry.service worker.entry.seats.items
                 (view result.0).got result.1.failed result.1.service result.1.seats.items }
         { work(rt, line, ended, pass, worker) },

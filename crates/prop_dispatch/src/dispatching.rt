@@ -134,10 +134,7 @@ fn serve<'a, N: AreaName + Send + Sync, R: Threads + Wait + Sync, P: Pace>(
 }
 
 /// Takes the worker apart, which has served all.
-fn end<'a, N: AreaName>(
-    alloc: Global,
-    worker: Worker<'a, N>,
-) -> Result<Dispatched<'a, N>, NoMemory>
+fn end<'a, N: AreaName>(alloc: Global, worker: Worker<'a, N>) -> Result<Dispatched<'a, N>, NoMemory>
     ensures failed { OnOk result (worker.entry.failed ≡ false) }
     ensures dispatched { IfOk result (λ done. (old : ServiceView) (sessions : Items Asking)
         → AllServed N.area old sessions worker.entry.service worker.entry.seats.items

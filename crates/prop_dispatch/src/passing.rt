@@ -103,11 +103,7 @@ pub(crate) fn push_and_end<R: Threads + Wait + Sync, P: Pace>(
 }
 
 /// Takes in the passes of all sessions, which have ended.
-pub(crate) fn take_in_all(
-    line: &Line,
-    pass: &mut Pass<Item, View>,
-    passes: Vec<Pass<Item, View>>,
-)
+pub(crate) fn take_in_all(line: &Line, pass: &mut Pass<Item, View>, passes: Vec<Pass<Item, View>>)
     requires pass { IsPassOf line.now pass.old }
     requires gets { view pass.old ≡ worker_view (view pass.old).made (view pass.old).got [] }
     requires each { EachFrom line.now 0 passes.items }

@@ -9,7 +9,7 @@ use init_machine::SetRefusal;
 use property_service::Accepted;
 
 /// How the machine answered a set of a session.
-#[derive(Debug, Drop)]
+#[derive(Drop)]
 pub enum Verdict {
     Accepted(Accepted),
     Refused(SetRefusal),
