@@ -9,7 +9,7 @@ ghost use Rattle.prop_dispatch.specs.declared.session.Session.{Session as Asking
 ghost use Rattle.property_service.specs.Service.{ServiceView};
 
 use crate::pace::Pace;
-use crate::passing::{push_and_end, seat_all, take_in_all};
+use crate::passing::{AllPushed, push_and_end, seat_all, take_in_all};
 use crate::protocol::{Item, Line, View};
 use crate::senders::Sender;
 use crate::session::Session;
@@ -23,7 +23,8 @@ use std::sync::atomic::AtomicBool;
 use std::thread;
 use std::thread::Threads;
 
-/// The sessions push, and the worker serves, until both have ended.
+/// The sessions push on a thread of their own, and the worker serves on this one, until both have ended. If that thread can't be made,
+/// nothing is pushed: the worker would otherwise wait for sessions that don't begin.
 fn push_and_work<'a, N: AreaName + Send + Sync, R: Threads + Wait + Sync, P: Pace>(
     rt: &R,
     line: &Line,
@@ -47,20 +48,36 @@ fn push_and_work<'a, N: AreaName + Send + Sync, R: Threads + Wait + Sync, P: Pac
 {
     let ended = AtomicBool::new(false);
     let ended = &ended;
-    thread::join(
+    thread::scope(
+        thread::scope_env(),
         rt,
-        move || -> (Pass<Item, View>, Worker<'_, N>)
+        move |scope| -> (
+            (Pass<Item, View>, Worker<'_, N>),
+            Result<Vec<Pass<Item, View>>, NoMemory>,
+        )
             requires { IsPassOf line.now pass × (view pass ≡ worker_view (view pass).made (view pass).got (view pass).done)
-                × IsServing N.area (view pass).got worker.failed worker.service worker.seats.items }
-            ensures { IsPassOf line.entry.now result.0
-                × (view result.0 ≡ worker_view (view pass).made (view result.0).got (view pass).done)
+                × IsServing N.area (view pass).got worker.failed worker.service worker.seats.items × All (MayPush line.now) senders.items }
+            ensures { IsPassOf line.entry.now result.0.0
+                × (view result.0.0 ≡ worker_view (view pass).made (view result.0.0).got (view pass).done)
                 × GoesOn N.area (view pass).got worker.entry.failed worker.entry.service worker.entry.seats.items
-                (view result.0).got result.1.failed result.1.service result.1.seats.items }
-        { work(rt, line, ended, pass, worker) },
-        move || -> Result<Vec<Pass<Item, View>>, NoMemory>
-            requires { All (MayPush line.now) senders.items }
-            ensures { IfOk result (λ passes. EachPushed line.entry.now senders.items passes.items) }
-        { push_and_end(rt, line, pace, ended, senders) },
+                (view result.0.0).got result.0.1.failed result.0.1.service result.0.1.seats.items
+                × IfOk result.1 (λ passes. EachPushed line.entry.now senders.items passes.items) }
+        {
+            let pushing = scope.spawn_with(
+                AllPushed::of(line, &senders),
+                move || -> Result<Vec<Pass<Item, View>>, NoMemory>
+                    requires { All (MayPush line.now) senders.items }
+                    ensures { IfOk result (λ passes. EachPushed line.entry.now senders.items passes.items) }
+                { push_and_end(rt, line, pace, ended, senders) },
+            );
+            match pushing {
+                Ok(pushing) => {
+                    let worked = work(rt, line, ended, pass, worker);
+                    (worked, pushing.join(rt))
+                }
+                Err(_) => ((pass, worker), Err(NoMemory)),
+            }
+        },
     )
 }
 

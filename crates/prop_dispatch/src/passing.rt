@@ -13,10 +13,11 @@ use crate::session::Session;
 use crossbeam_queue::Pass;
 use init_base::{List, NoMemory};
 use std::alloc::Global;
+use std::snapshot::Snapshot;
 use std::sync::Wait;
 use std::sync::atomic::{AtomicBool, Ordering};
 use std::thread;
-use std::thread::Threads;
+use std::thread::{Promise, Threads};
 
 /// Gives each session its pass.
 pub(crate) fn seat_all(
@@ -100,6 +101,32 @@ pub(crate) fn push_and_end<R: Threads + Wait + Sync, P: Pace>(
     let passes = push_beside(rt, line, pace, senders);
     ended.store(true, Ordering::SeqCst);
     passes
+}
+
+/// What the sessions' thread promises: all of them have pushed what they had.
+#[derive(Drop)]
+pub(crate) struct AllPushed {
+    line: Snapshot<Line>,
+    senders: Snapshot<Vec<Sender>>,
+}
+
+impl AllPushed {
+    pub fn of(line: &Line, senders: &Vec<Sender>) -> AllPushed
+        ensures line { result.line.value ≡ line.now }
+        ensures senders { result.senders.value ≡ senders.now }
+    {
+        AllPushed {
+            line: Snapshot::of(line),
+            senders: Snapshot::of(senders),
+        }
+    }
+}
+
+impl Promise<Result<Vec<Pass<Item, View>>, NoMemory>> for AllPushed {
+    ghost use Rattle.std.specs.Prelude.{IfOk};
+    ghost use Rattle.prop_dispatch.specs.internal.Passing.{EachPushed};
+
+    ghost kept_by = { λ p r. IfOk r (λ passes. EachPushed p.line.value p.senders.value.items passes.items) };
 }
 
 /// Takes in the passes of all sessions, which have ended.
