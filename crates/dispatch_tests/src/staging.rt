@@ -83,9 +83,12 @@ fn numbered(alloc: Global, requests: Vec<List<Pair>>) -> Result<List<Session>, N
     ensures many { IfOk result (λ sessions. length sessions ≡ length requests.items) }
 {
     let mut sessions = List::new(alloc);
-    for requests in requests {
+    for pairs in requests {
         let who = ClientId(sessions.len() as u32 + 1);
-        sessions.push(Session { who, requests })?;
+        sessions.push(Session {
+            who,
+            requests: pairs,
+        })?;
     }
     Ok(sessions)
 }
