@@ -1,3 +1,12 @@
 pub mod Names
 pub mod Promoted
 pub mod Findings
+pub mod Baseline
+pub mod Left
+pub mod Outside
+pub mod Gcc
+pub mod Json
+pub mod Uri
+pub mod Sarif
+pub mod Page
+pub mod internal

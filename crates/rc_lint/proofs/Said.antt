@@ -5,8 +5,8 @@ use Rattle.init_trace.specs.Written.{TakesFront}
 use Rattle.init_base.specs.Faults.{Counted}
 use Rattle.lint_findings.specs.Findings.{errors_in}
 use Rattle.lint_findings.specs.declared.finding.Finding.{Finding}
-use Rattle.lint_page.specs.Page.{IsPage}
-use Rattle.lint_page.specs.declared.style.Style.{Style}
+use Rattle.lint_findings.specs.Page.{IsPage}
+use Rattle.lint_findings.specs.declared.style.Style.{Style}
 use Rattle.rc_import.specs.Answers.{IsAnswer, is_read_fault}
 use Rattle.rc_import.specs.declared.loaded.Loaded.{Loaded}
 use Rattle.rc_import.specs.declared.loaded.LoadRefusal.{LoadRefusal}

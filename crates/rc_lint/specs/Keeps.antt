@@ -1,6 +1,6 @@
 -- What a status says of a told tree where the baseline of its findings is kept, and what is held then.
 use Rattle.std.specs.Prelude.{◌≡◌, ℕ, ⊤, List, Option, Err}
-use Rattle.lint_baseline.specs.Outside.{HoldsBaselineOf}
+use Rattle.lint_findings.specs.Outside.{HoldsBaselineOf}
 use Rattle.lint_findings.specs.declared.finding.Finding.{Finding}
 use Rattle.rc_import.specs.declared.loaded.LoadRefusal.TheVariants as why
 use Rattle.lint_sources.specs.Loads.{loaded}

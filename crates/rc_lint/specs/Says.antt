@@ -2,10 +2,10 @@
 use Rattle.std.specs.Prelude.{◌≡◌, ◌≢◌, ℕ, ⊤, ◌⊎◌, List, [], Option, Ok, Err}
 use Rattle.std.specs.Io.KnownBytes.{append_known}
 use Rattle.init_trace.specs.Written.{TakesFront}
-use Rattle.lint_baseline.specs.Left.{left}
+use Rattle.lint_findings.specs.Left.{left}
 use Rattle.lint_findings.specs.Findings.{diagnostics_of, errors_in}
 use Rattle.lint_findings.specs.declared.finding.Finding.{Finding}
-use Rattle.lint_page.specs.Page.{IsPage}
+use Rattle.lint_findings.specs.Page.{IsPage}
 use Rattle.rc_import.specs.declared.loaded.Loaded.{Loaded}
 use Rattle.rc_import.specs.declared.loaded.LoadRefusal.TheVariants as why
 use Rattle.lint_sources.specs.Excused.{errors_among}

@@ -3,9 +3,7 @@
 use crate::request::Request;
 use clap::{Arg, ArgAction, ArgMatches, Command, Error, value_parser};
 use init_base::{List, NoMemory, Text, both};
-use lint_baseline::Baseline;
-use lint_findings::{About, Promoted, about_of};
-use lint_page::{Format, Style};
+use lint_findings::{About, Baseline, Format, Promoted, Style, about_of};
 use std::alloc::Global;
 use std::env::{Env, FillError};
 

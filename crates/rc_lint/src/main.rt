@@ -13,7 +13,7 @@ mod top;
 
 use command_line::{Asked, WordsRefusal, asked_by, words_of};
 use init_base::{Fault, NoMemory, StdFiles, StdKeeper, StdSink, StdSource, Text};
-use lint_baseline::{Baseline, BaselineRefusal, load};
+use lint_findings::{Baseline, BaselineRefusal, load};
 use lint_sources::Watched;
 use rc_import::LoadRefusal;
 use request::Request;

@@ -1,8 +1,7 @@
 //! What is asked of the program.
 
 use init_base::{List, Text};
-use lint_baseline::Baseline;
-use lint_page::Style;
+use lint_findings::{Baseline, Style};
 
 /// What is asked of the program.
 #[derive(Debug, Drop)]

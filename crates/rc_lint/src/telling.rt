@@ -2,7 +2,7 @@
 
 use crate::status::Status;
 use init_base::{Fault, NoMemory, Text};
-use lint_baseline::BaselineRefusal;
+use lint_findings::BaselineRefusal;
 use rc_import::LoadRefusal;
 use std::string::String;
 use std::{fmt, io};

@@ -35,7 +35,8 @@ padded_last size count text sum =
     ∙ ap (λ (l : List ℕ). text ++ l) (sym (replicate_more count 0))
     ∙ sym (append_assoc text (replicate count 0) (0 ∷ []))
 
-text_in_field : (size count : ℕ) (text : List ℕ) → length text + count + 1 ≡ size → list_any is_zero text ≡ false → field_text (padded size text) ≡ text
+text_in_field : (size count : ℕ) (text : List ℕ) → length text + count + 1 ≡ size → list_any is_zero text ≡ false
+    → field_text (padded size text) ≡ text
 text_in_field size count text sum none =
     let front_len : length (text ++ replicate count 0) ≡ size - 1 = simp (length-append, length-replicate) (omega arith) in
     ap (λ n. before_first is_zero (take (n - 1) (padded size text))) (padded_len size text (omega arith))
@@ -58,9 +59,6 @@ filled size text fits =
       is = text_in_field size (size - length text - 1) text (omega arith) (not-true (list_any is_zero text) parts.1);
     }
 
-first_joined : (command name value : List ℕ) → command ++ name ++ value ≡ command ++ (name ++ value)
-first_joined command name value = append_assoc command name value
-
 first_spells : (name value : List ℕ) → fits_form (message_of false name value) ≡ true
     → SpellsFirst (message_bytes (message_of false name value)) (message_of false name value)
 first_spells name value fits =
@@ -71,7 +69,7 @@ first_spells name value fits =
       command = word_bytes first;
       name = padded 32 name;
       value = padded 92 value;
-      joined = first_joined (word_bytes first) (padded 32 name) (padded 92 value);
+      joined = append_assoc (word_bytes first) (padded 32 name) (padded 92 value);
       command_is = word_is first (omega arith);
       name_len = of_name.len;
       name_is = of_name.is;
@@ -142,25 +140,31 @@ second_bytes bytes message are spells =
     let all : (i : ℕ) → get_or (spells.command ++ (spells.name_len ++ (message.name ++ (spells.value_len ++ message.value)))) i 0 < 256
     = subst (λ (l : List ℕ). (i : ℕ) → get_or l i 0 < 256) joined are in
     let command_is : word_bytes second ≡ spells.command
-    = word_spelled spells.command second (part_bytes [] spells.command (spells.name_len ++ (message.name ++ (spells.value_len ++ message.value))) all) spells.command_is in
+    = word_spelled spells.command second (part_bytes [] spells.command
+    (spells.name_len ++ (message.name ++ (spells.value_len ++ message.value))) all) spells.command_is in
     let name_len_is : word_bytes (length message.name) ≡ spells.name_len
-    = word_spelled spells.name_len (length message.name) (part_bytes spells.command spells.name_len (message.name ++ (spells.value_len ++ message.value)) all) spells.name_len_is in
+    = word_spelled spells.name_len (length message.name) (part_bytes spells.command spells.name_len
+    (message.name ++ (spells.value_len ++ message.value)) all) spells.name_len_is in
     let by_value : spells.command ++ (spells.name_len ++ (message.name ++ (spells.value_len ++ message.value)))
     ≡ (spells.command ++ (spells.name_len ++ message.name)) ++ (spells.value_len ++ message.value) = simp append_assoc in
     let value_len_is : word_bytes (length message.value) ≡ spells.value_len
-    = word_spelled spells.value_len (length message.value) (part_bytes (spells.command ++ (spells.name_len ++ message.name)) spells.value_len message.value
+    = word_spelled spells.value_len (length message.value) (part_bytes (spells.command ++ (spells.name_len ++ message.name))
+    spells.value_len message.value
     (subst (λ (l : List ℕ). (i : ℕ) → get_or l i 0 < 256) by_value all)) spells.value_len_is in
     rw (command_is, name_len_is, value_len_is) (sym by_value ∙ sym joined)
 
 second_fits : (name value : List ℕ) → length name ≤ 1024 → length value ≤ 8192 → fits_form (message_of true name value) ≡ true
 second_fits name value name_fits value_fits =
-    and_from (nat_le (length name) 1024) (nat_le (length value) 8192) (le-leb (length name) 1024 name_fits) (le-leb (length value) 8192 value_fits)
+    and_from (nat_le (length name) 1024) (nat_le (length value) 8192) (le-leb (length name) 1024 name_fits)
+    (le-leb (length value) 8192 value_fits)
 
-pub second_encoded : (message : Message) (bytes : List ℕ) → ((i : ℕ) → get_or bytes i 0 < 256) → message.second ≡ true → Spells bytes message
+pub second_encoded : (message : Message) (bytes : List ℕ) → ((i : ℕ) → get_or bytes i 0 < 256) → message.second ≡ true
+    → Spells bytes message
     → encoded message ≡ Some bytes
 second_encoded message bytes are of_second either =
     let spells : SpellsSecond bytes message = MatchBool-at_true (SpellsSecond bytes message) (SpellsFirst bytes message) of_second either in
     ap encoded (same_message message (message_of true message.name message.value) of_second refl refl)
-    ∙ cond-true (fits_form (message_of true message.name message.value)) (Some (message_bytes (message_of true message.name message.value))) None
+    ∙ cond-true (fits_form (message_of true message.name message.value)) (Some (message_bytes (message_of true message.name message.value)))
+    None
     (second_fits message.name message.value spells.name_fits spells.value_fits)
     ∙ ap Some (second_bytes bytes message are spells)

@@ -44,7 +44,8 @@ shape_told : (have command name value : ℕ) → IsToldBy command name value (sh
 shape_told have command name value =
     cond_both (nat_lt have 4) _ _ (λ s. IsToldBy command name value s) (λ _. tt)
     (λ _. cond_both (command == first) _ _ (λ s. IsToldBy command name value s) (λ is. first_told have command name value (eqb-true _ _ is))
-    (λ _. cond_both (command == second) _ _ (λ s. IsToldBy command name value s) (λ is. second_told have command name value (eqb-true _ _ is)) (λ _. tt)))
+    (λ _. cond_both (command == second) _ _ (λ s. IsToldBy command name value s)
+    (λ is. second_told have command name value (eqb-true _ _ is)) (λ _. tt)))
 
 -- ---- parts of bytes
 
@@ -57,7 +58,8 @@ cut bytes from to order =
     sym (take-append-drop (to - from) (drop from bytes))
     ∙ ap (λ (l : List ℕ). slice_range bytes from to ++ l) (drop-drop (to - from) from bytes ∙ ap (λ n. drop n bytes) sum)
 
-word_there : (bytes : List ℕ) (at number : ℕ) → at + 4 ≤ length bytes → word_from bytes at ≡ number → IsWord (slice_range bytes at (at + 4)) number
+word_there : (bytes : List ℕ) (at number : ℕ) → at + 4 ≤ length bytes → word_from bytes at ≡ number
+    → IsWord (slice_range bytes at (at + 4)) number
 unfolding word_from
 word_there bytes at number there is = record { len = part_len bytes at (at + 4) (omega arith) there ∙ omega arith; is = is }
 
@@ -72,7 +74,8 @@ first_spelled bytes there is =
     let name : List ℕ = slice_range bytes 4 36 in
     let value : List ℕ = slice_range bytes 36 128 in
     let all : bytes ≡ command ++ (name ++ (value ++ drop 128 bytes))
-    = cut bytes 0 4 (omega arith) ∙ ap (λ (l : List ℕ). command ++ l) (cut bytes 4 36 (omega arith) ∙ ap (λ (l : List ℕ). name ++ l) (cut bytes 36 128 (omega arith))) in
+    = cut bytes 0 4 (omega arith) ∙ ap (λ (l : List ℕ). command ++ l)
+    (cut bytes 4 36 (omega arith) ∙ ap (λ (l : List ℕ). name ++ l) (cut bytes 36 128 (omega arith))) in
     let spelled : SpellsFirst (command ++ (name ++ value)) (first_message bytes) = record {
       command = command;
       name = name;
@@ -97,7 +100,8 @@ second_spelled bytes name_len value_len there is name_is value_is name_fits valu
     let value : List ℕ = slice_range bytes (12 + name_len) (12 + name_len + value_len) in
     let left : List ℕ = drop (12 + name_len + value_len) bytes in
     let name_count : length name ≡ name_len = part_len bytes 8 (8 + name_len) (omega arith) (omega arith) ∙ omega arith in
-    let value_count : length value ≡ value_len = part_len bytes (12 + name_len) (12 + name_len + value_len) (omega arith) there ∙ omega arith in
+    let value_count : length value ≡ value_len = part_len bytes (12 + name_len) (12 + name_len + value_len) (omega arith) there
+    ∙ omega arith in
     let at_value : 8 + name_len + 4 ≡ 12 + name_len = omega arith in
     let all : bytes ≡ command ++ (of_name ++ (name ++ (of_value ++ (value ++ left))))
     = cut bytes 0 4 (omega arith) ∙ ap (λ (l : List ℕ). command ++ l) (cut bytes 4 8 (omega arith)
@@ -119,7 +123,8 @@ second_spelled bytes name_len value_len there is name_is value_is name_fits valu
     } in
     (command ++ (of_name ++ (name ++ (of_value ++ value))), all ∙ simp append_assoc, spelled)
 
-spelled_at : (bytes : List ℕ) (message other : Message) (more left : List ℕ) → whole message left ≡ whole other more → IsSpelled bytes message left → IsSpelled bytes other more
+spelled_at : (bytes : List ℕ) (message other : Message) (more left : List ℕ) → whole message left ≡ whole other more
+    → IsSpelled bytes message left → IsSpelled bytes other more
 spelled_at bytes message other more left same spelled =
     let messages_are : message ≡ other = cc in
     let lefts_are : left ≡ more = cc in
@@ -128,7 +133,8 @@ spelled_at bytes message other more left same spelled =
 spelled_by : (s : Shape) (bytes : List ℕ) (message : Message) (more : List ℕ) → IsThere (length bytes) s
     → IsToldBy (word_from bytes 0) (word_from bytes 4) (word_from bytes (8 + word_from bytes 4)) s → front_by s bytes ≡ whole message more
     → IsSpelled bytes message more
-spelled_by shape.First bytes message more there told is = spelled_at bytes (first_message bytes) message more (drop 128 bytes) is (first_spelled bytes there told)
+spelled_by shape.First bytes message more there told is = spelled_at bytes (first_message bytes) message more (drop 128 bytes) is
+    (first_spelled bytes there told)
 spelled_by (shape.Second name_len value_len) bytes message more there told is =
     let at : word_from bytes (8 + name_len) ≡ value_len = ap (λ n. word_from bytes (8 + n)) (sym told.1) ∙ told.2 in
     spelled_at bytes (second_message bytes name_len value_len) message more (drop (12 + name_len + value_len) bytes) is
@@ -145,7 +151,8 @@ read_spelled bytes message more = spelled_by (shape_of bytes) bytes message more
 
 -- ---- a stream
 
-pub stream_spelled : (bytes : List ℕ) (messages : List Message) (left : List ℕ) → BeginsWith bytes messages left → SpellsAll bytes messages left
+pub stream_spelled : (bytes : List ℕ) (messages : List Message) (left : List ℕ) → BeginsWith bytes messages left
+    → SpellsAll bytes messages left
 stream_spelled bytes [] left begins = begins
 stream_spelled bytes (message ∷ messages) left begins =
     let spelled = read_spelled bytes message begins.0 begins.1 in
@@ -160,5 +167,6 @@ stream_len bytes (message ∷ messages) left begins =
     let one : length bytes ≡ length spelled.0 + length begins.0 = ap length spelled.1 ∙ length-append spelled.0 begins.0 in
     let len : length spelled.0 ≡ message_len message = spelling_len message spelled.0 spelled.2 in
     let rest : length begins.0 ≡ sum_by message_len messages + length left = stream_len begins.0 messages left begins.2 in
-    let sum : sum_by message_len (message ∷ messages) ≡ message_len message + sum_by message_len messages = sum_by-cons message_len message messages in
+    let sum : sum_by message_len (message ∷ messages) ≡ message_len message + sum_by message_len messages
+    = sum_by-cons message_len message messages in
     omega arith

@@ -30,7 +30,8 @@ word_read before word more at number starts is =
 abbrev pub message_of : Bool → List ℕ → List ℕ → Message
 message_of second name value = record { second = second; name = name; value = value }
 
-pub same_message : (message other : Message) → message.second ≡ other.second → message.name ≡ other.name → message.value ≡ other.value → message ≡ other
+pub same_message : (message other : Message) → message.second ≡ other.second → message.name ≡ other.name → message.value ≡ other.value
+    → message ≡ other
 same_message message other of_second of_name of_value =
     ap (λ b. message_of b message.name message.value) of_second
     ∙ ap (λ l. message_of other.second l message.value) of_name
@@ -71,7 +72,8 @@ fields_read command name value more is name_len value_len =
     let left : drop 128 bytes ≡ more
     = ap (λ (l : List ℕ). drop 128 l) by_more ∙ drop_at ((command ++ name) ++ value) more 128 (simp length-append (omega arith)) in
     let message_is : first_message bytes ≡ message_of false (field_text name) (field_text value)
-    = same_message (first_message bytes) (message_of false (field_text name) (field_text value)) refl (ap field_text of_name) (ap field_text of_value) in
+    = same_message (first_message bytes) (message_of false (field_text name) (field_text value)) refl (ap field_text of_name)
+    (ap field_text of_value) in
     ap (λ s. front_by s bytes) shape_is ∙ cc (message_is, left)
 
 -- what stands before the bytes that follow
@@ -84,18 +86,21 @@ first_read bytes message more of_second spells =
     ap (λ l. front_of (l ++ more)) spells.joined
     ∙ ap front_of (joined_first spells.command spells.name spells.value more)
     ∙ fields_read spells.command spells.name spells.value more spells.command_is spells.name_len spells.value_len
-    ∙ ap (λ m. whole m more) (same_message (message_of false (field_text spells.name) (field_text spells.value)) message (sym of_second) spells.name_is spells.value_is)
+    ∙ ap (λ m. whole m more) (same_message (message_of false (field_text spells.name) (field_text spells.value)) message (sym of_second)
+    spells.name_is spells.value_is)
 
 -- ---- form two
 
-second_len : (bytes : List ℕ) (message : Message) → SpellsSecond bytes message → length bytes ≡ 12 + length message.name + length message.value
+second_len : (bytes : List ℕ) (message : Message) → SpellsSecond bytes message
+    → length bytes ≡ 12 + length message.name + length message.value
 second_len bytes message spells =
     let of_command : length spells.command ≡ 4 = spells.command_is.len in
     let of_name : length spells.name_len ≡ 4 = spells.name_len_is.len in
     let of_value : length spells.value_len ≡ 4 = spells.value_len_is.len in
     ap length spells.joined ∙ simp length-append (omega arith)
 
-texts_read : (command name_len name value_len value more : List ℕ) → IsWord command second → IsWord name_len (length name) → IsWord value_len (length value)
+texts_read : (command name_len name value_len value more : List ℕ) → IsWord command second → IsWord name_len (length name)
+    → IsWord value_len (length value)
     → length name ≤ 1024 → length value ≤ 8192
     → front_of (command ++ (name_len ++ (name ++ (value_len ++ (value ++ more))))) ≡ whole (message_of true name value) more
 unfolding front_of
@@ -105,9 +110,12 @@ texts_read command name_len name value_len value more is name_is value_is name_f
     let of_name_len : length name_len ≡ 4 = name_is.len in
     let of_value_len : length value_len ≡ 4 = value_is.len in
     let there : 12 + length name + length value ≤ length bytes = simp length-append (omega arith) in
-    let command_read : word_from bytes 0 ≡ second = word_read [] command (name_len ++ (name ++ (value_len ++ (value ++ more)))) 0 second refl is in
-    let name_len_read : word_from bytes 4 ≡ length name = word_read command name_len (name ++ (value_len ++ (value ++ more))) 4 (length name) of_command name_is in
-    let by_name : bytes ≡ (command ++ name_len) ++ (name ++ (value_len ++ (value ++ more))) = sym (append_assoc command name_len (name ++ (value_len ++ (value ++ more)))) in
+    let command_read : word_from bytes 0 ≡ second = word_read [] command (name_len ++ (name ++ (value_len ++ (value ++ more)))) 0 second
+    refl is in
+    let name_len_read : word_from bytes 4 ≡ length name = word_read command name_len (name ++ (value_len ++ (value ++ more))) 4
+    (length name) of_command name_is in
+    let by_name : bytes ≡ (command ++ name_len) ++ (name ++ (value_len ++ (value ++ more)))
+    = sym (append_assoc command name_len (name ++ (value_len ++ (value ++ more)))) in
     let by_value_len : bytes ≡ ((command ++ name_len) ++ name) ++ (value_len ++ (value ++ more))
     = by_name ∙ sym (append_assoc (command ++ name_len) name (value_len ++ (value ++ more))) in
     let by_value : bytes ≡ (((command ++ name_len) ++ name) ++ value_len) ++ (value ++ more)
@@ -116,7 +124,8 @@ texts_read command name_len name value_len value more is name_is value_is name_f
     = by_value ∙ sym (append_assoc (((command ++ name_len) ++ name) ++ value_len) value more) in
     let value_len_read : word_from bytes (8 + length name) ≡ length value
     = ap (λ l. word_from l (8 + length name)) by_value_len
-    ∙ word_read ((command ++ name_len) ++ name) value_len (value ++ more) (8 + length name) (length value) (simp length-append (omega arith)) value_is in
+    ∙ word_read ((command ++ name_len) ++ name) value_len (value ++ more) (8 + length name) (length value)
+    (simp length-append (omega arith)) value_is in
     let shape_is : shape_of bytes ≡ shape.Second (length name) (length value)
     = ap (λ n. shape_by (length bytes) (word_from bytes 0) n (word_from bytes (8 + n))) name_len_read
     ∙ ap (λ n. shape_by (length bytes) (word_from bytes 0) (length name) n) value_len_read
@@ -126,10 +135,12 @@ texts_read command name_len name value_len value more is name_is value_is name_f
     ∙ part_read (command ++ name_len) name (value_len ++ (value ++ more)) 8 (8 + length name) (simp length-append (omega arith)) refl in
     let of_value : slice_range bytes (12 + length name) (12 + length name + length value) ≡ value
     = ap (λ (l : List ℕ). slice_range l (12 + length name) (12 + length name + length value)) by_value
-    ∙ part_read (((command ++ name_len) ++ name) ++ value_len) value more (12 + length name) (12 + length name + length value) (simp length-append (omega arith)) refl in
+    ∙ part_read (((command ++ name_len) ++ name) ++ value_len) value more (12 + length name) (12 + length name + length value)
+    (simp length-append (omega arith)) refl in
     let left : drop (12 + length name + length value) bytes ≡ more
     = ap (λ (l : List ℕ). drop (12 + length name + length value) l) by_more
-    ∙ drop_at ((((command ++ name_len) ++ name) ++ value_len) ++ value) more (12 + length name + length value) (simp length-append (omega arith)) in
+    ∙ drop_at ((((command ++ name_len) ++ name) ++ value_len) ++ value) more (12 + length name + length value)
+    (simp length-append (omega arith)) in
     let message_is : second_message bytes (length name) (length value) ≡ message_of true name value
     = same_message (second_message bytes (length name) (length value)) (message_of true name value) refl of_name of_value in
     ap (λ s. front_by s bytes) shape_is ∙ cc (message_is, left)
@@ -165,7 +176,8 @@ len_by false bytes message spells = first_len bytes message spells
 pub spelling_len : (message : Message) (bytes : List ℕ) → Spells bytes message → length bytes ≡ message_len message
 spelling_len message bytes spells = len_by message.second bytes message spells
 
-pub stream_read : (bytes : List ℕ) (messages : List Message) (left : List ℕ) → SpellsAll bytes messages left → BeginsWith bytes messages left
+pub stream_read : (bytes : List ℕ) (messages : List Message) (left : List ℕ) → SpellsAll bytes messages left
+    → BeginsWith bytes messages left
 stream_read bytes [] left spells = spells
 stream_read bytes (message ∷ messages) left spells =
     (spells.1, ap front_of spells.2 ∙ spelled_read message spells.0 spells.1 spells.3, stream_read spells.1 messages left spells.4)

@@ -60,7 +60,8 @@ abbrev pub SpelledIsRead : Type 0
 SpelledIsRead = (message : Message) (bytes more : List ℕ) → Spells bytes message → front_of (bytes ++ more) ≡ whole message more
 
 abbrev pub SpelledStreamIsRead : Type 0
-SpelledStreamIsRead = (bytes : List ℕ) (messages : List Message) (left : List ℕ) → SpellsAll bytes messages left → BeginsWith bytes messages left
+SpelledStreamIsRead = (bytes : List ℕ) (messages : List Message) (left : List ℕ) → SpellsAll bytes messages left
+    → BeginsWith bytes messages left
 
 -- ---- what is read is spelled
 
@@ -70,11 +71,13 @@ ReadIsSpelled = (bytes : List ℕ) (message : Message) (more : List ℕ) → fro
     → (spelling : List ℕ) × (bytes ≡ spelling ++ more) × Spells spelling message
 
 abbrev pub ReadStreamIsSpelled : Type 0
-ReadStreamIsSpelled = (bytes : List ℕ) (messages : List Message) (left : List ℕ) → BeginsWith bytes messages left → SpellsAll bytes messages left
+ReadStreamIsSpelled = (bytes : List ℕ) (messages : List Message) (left : List ℕ) → BeginsWith bytes messages left
+    → SpellsAll bytes messages left
 
 -- a message of form two has one spelling, which `encode` gives
 abbrev pub SecondIsEncoded : Type 0
-SecondIsEncoded = (message : Message) (bytes : List ℕ) → ((i : ℕ) → slice_index bytes i < 256) → message.second ≡ true → Spells bytes message
+SecondIsEncoded = (message : Message) (bytes : List ℕ) → ((i : ℕ) → slice_index bytes i < 256) → message.second ≡ true
+    → Spells bytes message
     → encoded message ≡ Some bytes
 
 -- ---- places

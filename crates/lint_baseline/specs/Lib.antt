@@ -1,4 +1,0 @@
-pub mod Baseline
-pub mod Left
-pub mod Outside
-pub mod internal

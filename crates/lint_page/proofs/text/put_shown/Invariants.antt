@@ -1,7 +1,0 @@
-use Rattle.std.proofs.Common.{◌≡◌, ◌++◌, drop}
-use Rattle.lint_page.specs.Gcc.{shown}
-use Rattle.lint_page.proofs.text.put_shown.Given as goal
-
--- what is left decides
-abbrev pub invariant-loop-byte : goal.invariant-loop-byte
-invariant-loop-byte l = l.page.items ++ shown (drop l.byte-index l.bytes) ≡ l.initial.page.items ++ shown l.bytes
