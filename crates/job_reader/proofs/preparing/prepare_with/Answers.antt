@@ -14,4 +14,4 @@ returns-clause-tree g c = λ world is.
 
 pub returns-clause-fit : goal.returns-clause-fit
 returns-clause-fit g c =
-    job_is_fit _ _ _ _ c.in_ok-job_of.ensures c.in-Ok.ensures.well_formed c.requires c.in-Ok-read_store.ensures.saved
+    job_is_fit _ _ _ _ c.in_ok-job_of.ensures c.in-Ok.ensures.well_formed c.requires.conditions c.in-Ok-read_store.ensures.saved
