@@ -85,7 +85,7 @@ module _ {Q A : Type 0} (line : Slotted (Option Item) (Doing Item View) Q A) whe
   puts_all number (s ∷ sessions) [] passes each came = absurd each
   puts_all number (s ∷ sessions) (x ∷ senders) [] each came = absurd came
   puts_all number (s ∷ sessions) (x ∷ senders) (p ∷ passes) each came =
-      let first : (view p).put ≡ s.requests = ap (λ (v : View). v.put) came.0.1 ∙ ap (λ r. r.items) each.2 in
+      let first : (view p).put ≡ s.requests = ap (λ (v : View). v.put) came.0.1 ∙ each.2 in
       λ i. first i ∷ puts_all (number + 1) sessions senders passes each.3 came.1 i
 
   -- the first of what is left comes in, and the others are left

@@ -18,6 +18,7 @@ use crossbeam_queue::Pass;
 use init_base::{List, NoMemory};
 use property_service::AreaName;
 use std::alloc::Global;
+use std::snapshot::Snapshot;
 use std::sync::Wait;
 use std::sync::atomic::AtomicBool;
 use std::thread;
@@ -64,7 +65,10 @@ fn push_and_work<'a, N: AreaName + Send + Sync, R: Threads + Wait + Sync, P: Pac
                 × IfOk result.1 (λ passes. EachPushed line.entry.now senders.items passes.items) }
         {
             let pushing = scope.spawn_with(
-                AllPushed::of(line, &senders),
+                AllPushed {
+                    line: Snapshot::of(line),
+                    senders: Snapshot::of(&senders),
+                },
                 move || -> Result<Vec<Pass<Item, View>>, NoMemory>
                     requires { All (MayPush line.now) senders.items }
                     ensures { IfOk result (λ passes. EachPushed line.entry.now senders.items passes.items) }
@@ -72,8 +76,9 @@ fn push_and_work<'a, N: AreaName + Send + Sync, R: Threads + Wait + Sync, P: Pac
             );
             match pushing {
                 Ok(pushing) => {
-                    let worked = work(rt, line, ended, pass, worker);
-                    (worked, pushing.join(rt))
+                    let (mut pass, mut worker) = (pass, worker);
+                    work(rt, line, ended, &mut pass, &mut worker);
+                    ((pass, worker), pushing.join(rt))
                 }
                 Err(_) => ((pass, worker), Err(NoMemory)),
             }

@@ -70,6 +70,7 @@ pub fn dispatch<'a, N: AreaName + Send + Sync, R: Threads + Wait + Sync, P: Pace
     ensures spent { (result ≡ Err refusal.Spent) ↔ (service.entry.spent ≡ true) }
 {
     if service.is_spent() {
+        drop(service);
         return Err(DispatchRefusal::Spent);
     }
     match relay(rt, alloc, service, sessions, room, pace) {
@@ -145,7 +146,10 @@ fn end<'a, N: AreaName>(alloc: Global, worker: Worker<'a, N>) -> Result<Dispatch
         seats,
         failed,
     } = worker;
-    let (readers, verdicts) = parted(alloc, seats, failed)?;
+    let Ok((readers, verdicts)) = parted(alloc, seats, failed) else {
+        drop(service);
+        return Err(NoMemory);
+    };
     let _ = service.history();
     Ok(Dispatched {
         service,

@@ -106,20 +106,8 @@ pub(crate) fn push_and_end<R: Threads + Wait + Sync, P: Pace>(
 /// What the sessions' thread promises: all of them have pushed what they had.
 #[derive(Drop)]
 pub(crate) struct AllPushed {
-    line: Snapshot<Line>,
-    senders: Snapshot<Vec<Sender>>,
-}
-
-impl AllPushed {
-    pub fn of(line: &Line, senders: &Vec<Sender>) -> AllPushed
-        ensures line { result.line.value ≡ line.now }
-        ensures senders { result.senders.value ≡ senders.now }
-    {
-        AllPushed {
-            line: Snapshot::of(line),
-            senders: Snapshot::of(senders),
-        }
-    }
+    pub line: Snapshot<Line>,
+    pub senders: Snapshot<Vec<Sender>>,
 }
 
 impl Promise<Result<Vec<Pass<Item, View>>, NoMemory>> for AllPushed {

@@ -46,30 +46,30 @@ impl<'a, N: AreaName> Worker<'a, N> {
 }
 
 /// Pops and serves until the sessions have ended and the queue seems empty.
-pub(crate) fn work<'a, N: AreaName, R: Wait>(
+pub(crate) fn work<N: AreaName, R: Wait>(
     rt: &R,
     line: &Line,
     ended: &AtomicBool,
-    mut pass: Pass<Item, View>,
-    mut worker: Worker<'a, N>,
-) -> (Pass<Item, View>, Worker<'a, N>)
-    requires pass { IsPassOf line.now pass }
-    requires gets { view pass ≡ worker_view (view pass).made (view pass).got (view pass).done }
-    requires serves { IsServing N.area (view pass).got worker.failed worker.service worker.seats.items }
-    ensures pass { IsPassOf line.now result.0 }
-    ensures view { view result.0 ≡ worker_view (view pass).made (view result.0).got (view pass).done }
-    ensures serves { GoesOn N.area (view pass).got worker.entry.failed worker.entry.service worker.entry.seats.items
-        (view result.0).got result.1.failed result.1.service result.1.seats.items }
+    pass: &mut Pass<Item, View>,
+    worker: &mut Worker<'_, N>,
+)
+    requires pass { IsPassOf line.now pass.old }
+    requires gets { view pass.old ≡ worker_view (view pass.old).made (view pass.old).got (view pass.old).done }
+    requires serves { IsServing N.area (view pass.old).got worker.old.failed worker.old.service worker.old.seats.items }
+    ensures pass { IsPassOf line.now pass.new }
+    ensures view { view pass.new ≡ worker_view (view pass.old).made (view pass.new).got (view pass.old).done }
+    ensures serves { GoesOn N.area (view pass.old).got worker.old.failed worker.old.service worker.old.seats.items
+        (view pass.new).got worker.new.failed worker.new.service worker.new.seats.items }
 {
     for _ in rt.forever() {
         let last = ended.load(Ordering::SeqCst);
-        match line.try_pop_as::<Takes>(&mut pass) {
+        match line.try_pop_as::<Takes>(pass) {
             Some(item) => worker.serve(item),
-            None if last => break,
+            None if last => return,
             None => thread::yield_now(),
         }
     }
-    (pass, worker)
+    unreachable!()
 }
 
 /// Pops and serves what is left.

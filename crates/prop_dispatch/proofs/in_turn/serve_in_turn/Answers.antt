@@ -1,9 +1,24 @@
 use Rattle.std.proofs.Common.{◌≡◌, ◌++◌, ◌∷◌, [], List, length, ap, arith, rules}
-use Rattle.prop_dispatch.specs.internal.Serving.{items_for}
+use Rattle.prop_dispatch.specs.internal.Serving.{items_for, items_from}
 use Rattle.prop_dispatch.specs.declared.session.Session.{Session}
 use Rattle.prop_dispatch.proofs.InTurn.{all_in_turn, session_next}
 use Rattle.prop_dispatch.proofs.Passes.{nil_of_zero}
 use Rattle.prop_dispatch.proofs.in_turn.serve_in_turn.Goals as goal
+
+pub loop-session-init : goal.loop-session-init
+loop-session-init g c =
+    let all : c.into_iter-session-iterator.result.rest.items ≡ c.args.sessions = search rules in (
+      [],
+      ap (λ (l : List Session). items_from 0 l) all,
+      omega (arith, ap (λ (l : List Session). length l) all),
+      λ old sessions before. before,
+    )
+
+pub serve_session-requires-after_bounds : goal.serve_session-requires-after_bounds
+serve_session-requires-after_bounds g c κs within =
+    let h = c.loop-session.invariant in
+    let old = c.requires.serves.0 in
+    (h.0, (old, c.args.sessions, h.3 old c.args.sessions c.requires.serves.1))
 
 pub loop-session-preserved : goal.loop-session-preserved
 loop-session-preserved g c =
