@@ -1,24 +1,17 @@
 -- What is wrong with words that have no form: the first fault, from the left.
-use Rattle.std.specs.Prelude.{ℕ, ◌==◌, if◌then◌else◌, List, [], ◌∷◌, length, codes, Option, Some, None, option_map}
+use Rattle.std.specs.Prelude.{ℕ, ◌==◌, if◌then◌else◌, List, [], ◌∷◌, length, Option, Some, None, option_map}
 use Rattle.std.specs.Option.{option_map_or, option_or}
-use Rattle.std.specs.Str.{bytes_eq, is_utf8}
+use Rattle.std.specs.Str.{is_utf8}
+use Rattle.command_line.specs.FormName.{form_named}
 use Rattle.command_line.specs.Services.{services_in}
-use Rattle.command_line.specs.declared.misuse.FormName.{FormName}
-use Rattle.command_line.specs.declared.misuse.FormName.TheVariants.{Run, Race, Check, Audit, Soak}
+use Rattle.command_line.specs.declared.form_name.FormName.{FormName}
+use Rattle.command_line.specs.declared.form_name.FormName.TheVariants.{Run, Race, Check, Soak, Dispatch, Audit}
 use Rattle.command_line.specs.declared.misuse.Misuse.{Misuse}
 use Rattle.command_line.specs.declared.misuse.Misuse.TheVariants as misuse
 use Rattle.command_line.specs.declared.misuse.Place.{Place}
 use Rattle.command_line.specs.declared.misuse.Place.TheVariants.{Root, Script, Trace, Number}
 use Rattle.command_line.specs.declared.misuse.WordFault.{WordFault}
 use Rattle.command_line.specs.declared.misuse.WordFault.TheVariants as fault
-
--- the form with this name
-abbrev pub form_named : List ℕ → Option FormName
-form_named word =
-    if bytes_eq word (codes "run") then Some Run
-    else (if bytes_eq word (codes "race") then Some Race
-    else (if bytes_eq word (codes "check") then Some Check
-    else (if bytes_eq word (codes "audit") then Some Audit else (if bytes_eq word (codes "soak") then Some Soak else None))))
 
 -- why a word names no path: it is empty, or begins with `-` (45), or isn't UTF-8
 abbrev pub word_fault : List ℕ → Option WordFault
@@ -34,17 +27,18 @@ abbrev pub number_fault : Option ℕ → Option Misuse
 number_fault None = Some misuse.BadNumber
 number_fault (Some services) = None
 
--- what is wrong with the words behind the form's name: `run` and `race` take the root and the script, `check` the root, `audit` the
--- root, the script and the trace, and `soak` a number of services
-abbrev pub misuse_behind : List (List ℕ) → FormName → Option Misuse
-misuse_behind (root ∷ []) Check = misuse_at Root root
-misuse_behind (count ∷ []) Soak = option_or (misuse_at Number count) (number_fault (services_in count))
-misuse_behind (root ∷ script ∷ []) Run = option_or (misuse_at Root root) (misuse_at Script script)
-misuse_behind (root ∷ script ∷ []) Race = option_or (misuse_at Root root) (misuse_at Script script)
-misuse_behind (root ∷ script ∷ trace ∷ []) Audit = option_or (misuse_at Root root) (option_or (misuse_at Script script) (misuse_at Trace trace))
-misuse_behind words form = Some (misuse.WrongCount form (length words))
+-- what is wrong with the words after the form's name: `run`, `race` and `dispatch` take the root and the script,
+-- `check` the root, `audit` the root, the script and the trace, and `soak` a number of services
+abbrev pub misuse_after : List (List ℕ) → FormName → Option Misuse
+misuse_after (root ∷ []) Check = misuse_at Root root
+misuse_after (count ∷ []) Soak = option_or (misuse_at Number count) (number_fault (services_in count))
+misuse_after (root ∷ script ∷ []) Run = option_or (misuse_at Root root) (misuse_at Script script)
+misuse_after (root ∷ script ∷ []) Race = option_or (misuse_at Root root) (misuse_at Script script)
+misuse_after (root ∷ script ∷ []) Dispatch = option_or (misuse_at Root root) (misuse_at Script script)
+misuse_after (root ∷ script ∷ trace ∷ []) Audit = option_or (misuse_at Root root) (option_or (misuse_at Script script) (misuse_at Trace trace))
+misuse_after words form = Some (misuse.WrongCount form (length words))
 
--- the first thing that is wrong: no word, a first word that is no form's name, or what stands behind it
+-- the first thing that is wrong: no word, a first word that is no form's name, or what stands after it
 abbrev pub misuse_of : List (List ℕ) → Option Misuse
 misuse_of [] = Some misuse.NoForm
-misuse_of (word ∷ words) = option_map_or (misuse_behind words) (form_named word) (Some misuse.UnknownForm)
+misuse_of (word ∷ words) = option_map_or (misuse_after words) (form_named word) (Some misuse.UnknownForm)

@@ -18,19 +18,19 @@ pub fn parse<'a>(alloc: Global, words: &'a [&'a str]) -> Result<ArgMatches<'a>, 
     command.try_get_matches_from(words)
 }
 
-/// `run ROOT SCRIPT`, `race ROOT SCRIPT`, `check ROOT`, `audit ROOT SCRIPT TRACE` and `soak N`, without help and version. Nothing
-/// is kept over an early end: letting a command go is dear to prove.
+/// The command with its forms, without help and version. Nothing is kept over an early end: letting a command go is dear to prove.
 fn command<'a>(alloc: Global) -> Result<Command<'a>, AllocError>
     ensures ok { IfOk result (λ command. app_of command ≡ app) }
 {
     let with_run = with_form(bare(alloc), two_paths(alloc, "run", "ROOT", "SCRIPT"))?;
     let with_race = with_form(with_run, two_paths(alloc, "race", "ROOT", "SCRIPT"))?;
     let with_check = with_form(with_race, one_path(alloc, "check", "ROOT"))?;
-    let with_audit = with_form(
-        with_check,
+    let with_soak = with_form(with_check, one_path(alloc, "soak", "N"))?;
+    let with_dispatch = with_form(with_soak, two_paths(alloc, "dispatch", "ROOT", "SCRIPT"))?;
+    with_form(
+        with_dispatch,
         three_paths(alloc, "audit", "ROOT", "SCRIPT", "TRACE"),
-    )?;
-    with_form(with_audit, one_path(alloc, "soak", "N"))
+    )
 }
 
 /// The command without its forms.

@@ -1,10 +1,11 @@
 //! The forms of the words.
 
-ghost use Rattle.std.specs.Prelude.{◌≡◌, option_map};
+ghost use Rattle.std.specs.Prelude.{◌≡◌, ◌&&◌, option_map};
 ghost use Rattle.command_line.specs.Form as form_spec;
 ghost use Rattle.command_line.specs.Services as services_spec;
 ghost use Rattle.command_line.specs.declared.form.Form.TheVariants as form;
 
+use crate::form_name::{FormName, form_named};
 use crate::services::services_in;
 use init_base::{List, Text};
 
@@ -17,32 +18,45 @@ pub enum Form {
     Race,
     /// `check ROOT`: what is wrong in the build files and the rc files is written.
     Check,
-    /// `audit ROOT SCRIPT TRACE`: whether the machine can have written a trace is written.
-    Audit,
     /// `soak N`: a generated boot of so many services runs, and the summary of its report is written.
     Soak { services: u32 },
+    /// `dispatch ROOT SCRIPT`: the machine runs, one worker serves all clients' sets through a queue, and its report is written.
+    Dispatch,
+    /// `audit ROOT SCRIPT TRACE`: whether the machine can have written a trace is written.
+    Audit,
 }
 
 /// The form of the words.
 pub fn form_of(words: &List<Text>) -> Option<Form>
     ensures { result ≡ form_spec.form_of words.now }
 {
-    match words.items() {
-        [word, root] if word.is(b"check") && is_path_word(root) => Some(Form::Check),
-        [word, count] if word.is(b"soak") && is_path_word(count) => soak_of(count),
-        [word, root, script] if word.is(b"run") && is_path_word(root) && is_path_word(script) => {
-            Some(Form::Run)
-        }
-        [word, root, script] if word.is(b"race") && is_path_word(root) && is_path_word(script) => {
-            Some(Form::Race)
-        }
-        [word, root, script, trace]
-            if word.is(b"audit")
-                && is_path_word(root)
-                && is_path_word(script)
-                && is_path_word(trace) => { Some(Form::Audit) }
+    let (word, paths) = words.items().split_first()?;
+    form_with(form_named(word)?, paths)
+}
+
+/// The form with this name and the words after it.
+fn form_with(name: FormName, paths: &[Text]) -> Option<Form>
+    ensures { result ≡ form_spec.form_with paths.now name }
+{
+    match (name, paths) {
+        (FormName::Check, [root]) if is_path_word(root) => Some(Form::Check),
+        (FormName::Soak, [count]) if is_path_word(count) => soak_of(count),
+        (FormName::Run, [root, script]) if are_path_words(root, script) => Some(Form::Run),
+        (FormName::Race, [root, script]) if are_path_words(root, script) => Some(Form::Race),
+        (FormName::Dispatch, [root, script]) if are_path_words(root, script) => Some(
+            Form::Dispatch,
+        ),
+        (FormName::Audit, [root, script, trace])
+            if are_path_words(root, script) && is_path_word(trace) => { Some(Form::Audit) }
         _ => None,
     }
+}
+
+/// Whether two words may stand after the name of a form.
+fn are_path_words(one: &Text, other: &Text) -> bool
+    ensures { result ≡ (form_spec.is_path_word one.now && form_spec.is_path_word other.now) }
+{
+    is_path_word(one) && is_path_word(other)
 }
 
 /// The form `soak` with a word that is a number of services.
@@ -53,7 +67,7 @@ fn soak_of(count: &Text) -> Option<Form>
     Some(Form::Soak { services })
 }
 
-/// Whether a word may stand behind the name of a form, as a path does: it isn't empty, doesn't begin with `-`, and is UTF-8.
+/// Whether a word may stand after the name of a form, as a path does: it isn't empty, doesn't begin with `-`, and is UTF-8.
 fn is_path_word(word: &Text) -> bool
     ensures { result ≡ form_spec.is_path_word word.now }
 {

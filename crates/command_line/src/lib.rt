@@ -6,10 +6,12 @@
 
 mod command;
 mod form;
+mod form_name;
 mod misuse;
 mod reading;
 mod services;
 
 pub use form::{Form, form_of};
-pub use misuse::{FormName, Misuse, Place, WordFault, misuse_of, nothing_wrong_with_a_form};
+pub use form_name::FormName;
+pub use misuse::{Misuse, Place, WordFault, misuse_of, nothing_wrong_with_a_form};
 pub use reading::{WordsRefusal, read_words};

@@ -5,6 +5,7 @@ ghost use Rattle.command_line.specs.Form as form_spec;
 ghost use Rattle.command_line.specs.Misuse as misuse_spec;
 ghost use Rattle.command_line.specs.Services as services_spec;
 
+use crate::form_name::{FormName, form_named};
 use crate::services::services_in;
 use init_base::{List, Text};
 
@@ -15,22 +16,12 @@ pub enum Misuse {
     NoForm,
     /// The first word is the name of no form.
     UnknownForm,
-    /// Behind the form's name stand more words than the form has, or fewer.
+    /// After the form's name stand more words than the form has, or fewer.
     WrongCount { form: FormName, given: usize },
     /// The word at this place names no path.
     BadWord { place: Place, fault: WordFault },
-    /// The word behind `soak` is no number from 1 to 1000 in decimal.
+    /// The word after `soak` is no number from 1 to 1000 in decimal.
     BadNumber,
-}
-
-/// The names of the forms.
-#[derive(Clone, Copy, Debug, PartialEq, Eq)]
-pub enum FormName {
-    Run,
-    Race,
-    Check,
-    Audit,
-    Soak,
 }
 
 /// The places of a form at which a path stands, or a number.
@@ -67,39 +58,27 @@ pub fn misuse_of(words: &List<Text>) -> Option<Misuse>
     let Some(form) = form_named(word) else {
         return Some(Misuse::UnknownForm);
     };
+    misuse_after(form, paths)
+}
+
+/// The first thing that is wrong with the words after the form's name.
+fn misuse_after(form: FormName, paths: &[Text]) -> Option<Misuse>
+    ensures { result ≡ misuse_spec.misuse_after paths.now form }
+{
     match (form, paths) {
         (FormName::Check, [root]) => misuse_at(Place::Root, root),
-        (FormName::Run | FormName::Race, [root, script]) => {
+        (FormName::Soak, [count]) => misuse_at(Place::Number, count).or(number_fault(count)),
+        (FormName::Run | FormName::Race | FormName::Dispatch, [root, script]) => {
             misuse_at(Place::Root, root).or(misuse_at(Place::Script, script))
         }
         (FormName::Audit, [root, script, trace]) => misuse_at(Place::Root, root).or(misuse_at(
             Place::Script,
             script,
         ).or(misuse_at(Place::Trace, trace))),
-        (FormName::Soak, [count]) => misuse_at(Place::Number, count).or(number_fault(count)),
         _ => Some(Misuse::WrongCount {
             form,
             given: paths.len(),
         }),
-    }
-}
-
-/// The form with this name.
-fn form_named(word: &Text) -> Option<FormName>
-    ensures { result ≡ misuse_spec.form_named word.now }
-{
-    if word.is(b"run") {
-        Some(FormName::Run)
-    } else if word.is(b"race") {
-        Some(FormName::Race)
-    } else if word.is(b"check") {
-        Some(FormName::Check)
-    } else if word.is(b"audit") {
-        Some(FormName::Audit)
-    } else if word.is(b"soak") {
-        Some(FormName::Soak)
-    } else {
-        None
     }
 }
 

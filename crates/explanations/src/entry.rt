@@ -10,7 +10,7 @@ use init_base::{Files, IoRefusal, Keeper, List, NoMemory, Source, SteadySink, St
 use init_core::Core;
 use init_machine::{Entry, Input, Output};
 use init_trace::Printer;
-use job_reader::{Job, prepare};
+use job_reader::{Grammar, Job, prepare};
 use list_store::ListStore;
 use script_lang::read;
 use std::alloc::Global;
@@ -127,7 +127,7 @@ fn machine_over<F: Files, S: Source + Drop, P: Keeper>(
     requires count { store.props.count ≡ 0 }
     ensures { IfSome result (λ machine. length machine.0.config.domains ≡ machine.1) }
 {
-    match prepare(alloc, files, &mut script, keeper) {
+    match prepare(alloc, Grammar::Whole, files, &mut script, keeper) {
         Ok(job) => opened(alloc, job, store),
         Err(_) => None,
     }

@@ -16,6 +16,8 @@ use Rattle.job_reader.specs.Texts.{AreShort, IsOneLong, allow_text, contexts_tex
 use Rattle.job_reader.specs.Trace.{HasTrace, TraceLimitSays, TraceSays}
 use Rattle.job_reader.specs.Tree.{HasNoRoot, IsBadPolicyFor, IsFitFor, IsPolicyTooLargeFor, IsTreeTooLarge, Purpose, TreeSays}
 use Rattle.job_reader.specs.Tree.Purpose.{ToRun, ToCheck}
+use Rattle.job_reader.specs.declared.grammar.Grammar.{Grammar}
+use Rattle.job_reader.specs.declared.grammar.Grammar.TheVariants.{Whole}
 use Rattle.job_reader.specs.declared.status.Status.{Status}
 use Rattle.job_reader.specs.declared.status.Status.TheVariants as status
 use Rattle.persist_file.proofs.Determined.{not_both as store_or_line}
@@ -28,7 +30,8 @@ use Rattle.rc_import.specs.World.{World}
 use Rattle.rc_import.specs.declared.loaded.LoadRefusal.{LoadRefusal}
 use Rattle.rc_import.specs.declared.loaded.LoadRefusal.TheVariants.{NoInit}
 use Rattle.rc_import.specs.declared.loaded.Loaded.{Loaded}
-use Rattle.script_lang.proofs.OneReading.{script_or_line, within_no_limit}
+use Rattle.script_lang.proofs.OneReading.{within_no_limit}
+use Rattle.init_forms.proofs.Grammars.{is_script, script_or_bad}
 use Rattle.init_forms.specs.Outcome.{Sources}
 use Rattle.init_forms.specs.Top.{CanRun}
 
@@ -112,62 +115,62 @@ complete_check status.BadTrace world before now is says counted fit = is
 
 -- ---- a run
 
-no_script_limit : (bytes : List ℕ) (left : Option (List ℕ)) (world : World) (held : List ℕ) (limit : Limit) (number : ℕ)
-    → IsRunLimit limit → ScriptLimitSays bytes left limit number → TreeSays ToRun world (status.TooLarge limit number) → StoreSays held (status.TooLarge limit number)
-    → HasScript bytes → IsFitFor ToRun world → HasStore held → ⊥
-no_script_limit bytes left world held limits.ScriptBytes number is script tree store has fit stored =
-    within_no_limit bytes limits.ScriptBytes number has.1.within script
-no_script_limit bytes left world held limits.ScriptLines number is script tree store has fit stored =
-    within_no_limit bytes limits.ScriptLines number has.1.within script
-no_script_limit bytes left world held limits.Steps number is script tree store has fit stored =
-    within_no_limit bytes limits.Steps number has.1.within script
-no_script_limit bytes left world held limits.FileBytes number is script tree store has fit stored =
+no_script_limit : (g : Grammar) (bytes : List ℕ) (left : Option (List ℕ)) (world : World) (held : List ℕ) (limit : Limit) (number : ℕ)
+    → IsRunLimit limit → ScriptLimitSays g bytes left limit number → TreeSays ToRun world (status.TooLarge limit number) → StoreSays held (status.TooLarge limit number)
+    → HasScript g bytes → IsFitFor ToRun world → HasStore held → ⊥
+no_script_limit g bytes left world held limits.ScriptBytes number is script tree store has fit stored =
+    within_no_limit bytes limits.ScriptBytes number (is_script g bytes has.0 has.1).within script
+no_script_limit g bytes left world held limits.ScriptLines number is script tree store has fit stored =
+    within_no_limit bytes limits.ScriptLines number (is_script g bytes has.0 has.1).within script
+no_script_limit g bytes left world held limits.Steps number is script tree store has fit stored =
+    within_no_limit bytes limits.Steps number (is_script g bytes has.0 has.1).within script
+no_script_limit g bytes left world held limits.FileBytes number is script tree store has fit stored =
     no_tree_limit ToRun world limits.FileBytes number fit tree
-no_script_limit bytes left world held limits.Files number is script tree store has fit stored =
+no_script_limit g bytes left world held limits.Files number is script tree store has fit stored =
     no_tree_limit ToRun world limits.Files number fit tree
-no_script_limit bytes left world held limits.Names number is script tree store has fit stored =
+no_script_limit g bytes left world held limits.Names number is script tree store has fit stored =
     no_tree_limit ToRun world limits.Names number fit tree
-no_script_limit bytes left world held limits.RcBytes number is script tree store has fit stored =
+no_script_limit g bytes left world held limits.RcBytes number is script tree store has fit stored =
     no_tree_limit ToRun world limits.RcBytes number fit tree
-no_script_limit bytes left world held limits.TraceBytes number is script tree store has fit stored = absurd is
-no_script_limit bytes left world held limits.StoreBytes number is script tree store has fit stored =
+no_script_limit g bytes left world held limits.TraceBytes number is script tree store has fit stored = absurd is
+no_script_limit g bytes left world held limits.StoreBytes number is script tree store has fit stored =
     not_more (length held) stored.1.short store.0
   where
     not_more : (size : ℕ) → size ≤ 33554432 → 33554432 < size → ⊥
     not_more size short more = omega (arith, short, more)
 
-done : (how : Status) (bytes : List ℕ) (left : Option (List ℕ)) (world : World) (held : List ℕ) (before now : Counts)
-    → IsRunStatus how → ScriptSays bytes left how → TreeSays ToRun world how → StoreSays held how → AreCounted how before now
-    → HasScript bytes → IsFitFor ToRun world → HasStore held → IsDoneUnlessRisen how before now
-done status.Done bytes left world held before now is script tree store counted has fit stored = tt
-done status.Usage bytes left world held before now is script tree store counted has fit stored = is
-done status.ReadFault bytes left world held before now is script tree store counted has fit stored = counted.0
-done status.WriteFault bytes left world held before now is script tree store counted has fit stored = counted.0
-done status.NoMemory bytes left world held before now is script tree store counted has fit stored = tt
-done (status.BadScript line) bytes left world held before now is script tree store counted has fit stored =
-    script_or_line bytes has.0 line has.1 script
-done status.NoInit bytes left world held before now is script tree store counted has fit stored = root_is_there ToRun world fit tree
-done (status.TooLarge limit number) bytes left world held before now is script tree store counted has fit stored =
-    no_script_limit bytes left world held limit number is script tree store has fit stored
-done (status.BadPolicy allow line) bytes left world held before now is script tree store counted has fit stored =
+done : (g : Grammar) (how : Status) (bytes : List ℕ) (left : Option (List ℕ)) (world : World) (held : List ℕ) (before now : Counts)
+    → IsRunStatus how → ScriptSays g bytes left how → TreeSays ToRun world how → StoreSays held how → AreCounted how before now
+    → HasScript g bytes → IsFitFor ToRun world → HasStore held → IsDoneUnlessRisen how before now
+done g status.Done bytes left world held before now is script tree store counted has fit stored = tt
+done g status.Usage bytes left world held before now is script tree store counted has fit stored = is
+done g status.ReadFault bytes left world held before now is script tree store counted has fit stored = counted.0
+done g status.WriteFault bytes left world held before now is script tree store counted has fit stored = counted.0
+done g status.NoMemory bytes left world held before now is script tree store counted has fit stored = tt
+done g (status.BadScript line) bytes left world held before now is script tree store counted has fit stored =
+    script_or_bad g bytes has.0 line has.1 script
+done g status.NoInit bytes left world held before now is script tree store counted has fit stored = root_is_there ToRun world fit tree
+done g (status.TooLarge limit number) bytes left world held before now is script tree store counted has fit stored =
+    no_script_limit g bytes left world held limit number is script tree store has fit stored
+done g (status.BadPolicy allow line) bytes left world held before now is script tree store counted has fit stored =
     no_bad_policy ToRun world allow line fit tree
-done (status.BadStore line why) bytes left world held before now is script tree store counted has fit stored =
+done g (status.BadStore line why) bytes left world held before now is script tree store counted has fit stored =
     store_or_line held stored.0 line why stored.1.pairs store.1
-done status.BadTrace bytes left world held before now is script tree store counted has fit stored = is
+done g status.BadTrace bytes left world held before now is script tree store counted has fit stored = is
 
-run_is_done : (how : Status) (script left held : Option (List ℕ)) (world : World) (before now : Counts)
-    → IsRunStatus how → IfSome script (λ bytes. ScriptSays bytes left how) → TreeSays ToRun world how → IfSome held (λ text. StoreSays text how)
-    → AreCounted how before now → IsSomeAnd script HasScript → IsFitFor ToRun world → IsSomeAnd held HasStore → IsDoneUnlessRisen how before now
-run_is_done how None left held world before now is says tree store counted has fit stored = absurd has
-run_is_done how (Some bytes) left None world before now is says tree store counted has fit stored = absurd stored
-run_is_done how (Some bytes) left (Some held) world before now is says tree store counted has fit stored =
-    done how bytes left world held before now is says tree store counted has fit stored
+run_is_done : (g : Grammar) (how : Status) (script left held : Option (List ℕ)) (world : World) (before now : Counts)
+    → IsRunStatus how → IfSome script (λ bytes. ScriptSays g bytes left how) → TreeSays ToRun world how → IfSome held (λ text. StoreSays text how)
+    → AreCounted how before now → IsSomeAnd script (HasScript g) → IsFitFor ToRun world → IsSomeAnd held HasStore → IsDoneUnlessRisen how before now
+run_is_done g how None left held world before now is says tree store counted has fit stored = absurd has
+run_is_done g how (Some bytes) left None world before now is says tree store counted has fit stored = absurd stored
+run_is_done g how (Some bytes) left (Some held) world before now is says tree store counted has fit stored =
+    done g how bytes left world held before now is says tree store counted has fit stored
 
-pub complete_run : (how : Status) (sources : Sources) (left : Option (List ℕ)) (world : World) (before now : Counts)
-    → IsRunStatus how → IfSome sources.script (λ bytes. ScriptSays bytes left how) → TreeSays ToRun world how
-    → IfSome sources.held (λ text. StoreSays text how) → AreCounted how before now → CanRun sources world → IsDoneUnlessRisen how before now
-complete_run how sources left world before now is says tree store counted can =
-    run_is_done how sources.script left sources.held world before now is says tree store counted can.script can.world_is_fit can.store
+pub complete_run : (g : Grammar) (how : Status) (sources : Sources) (left : Option (List ℕ)) (world : World) (before now : Counts)
+    → IsRunStatus how → IfSome sources.script (λ bytes. ScriptSays g bytes left how) → TreeSays ToRun world how
+    → IfSome sources.held (λ text. StoreSays text how) → AreCounted how before now → CanRun g sources world → IsDoneUnlessRisen how before now
+complete_run g how sources left world before now is says tree store counted can =
+    run_is_done g how sources.script left sources.held world before now is says tree store counted can.script can.world_is_fit can.store
 
 -- ---- an audit: with a trace that can be read, it ends as a run may
 
@@ -204,8 +207,8 @@ told_ends_as_run how None left is says has = absurd has
 told_ends_as_run how (Some bytes) left is says has = ends_as_run how bytes left is says has
 
 pub complete_audit : (how : Status) (sources : Sources) (left behind : Option (List ℕ)) (world : World) (before now : Counts)
-    → IsAuditStatus how → IfSome sources.script (λ bytes. ScriptSays bytes left how) → TreeSays ToRun world how
+    → IsAuditStatus how → IfSome sources.script (λ bytes. ScriptSays Whole bytes left how) → TreeSays ToRun world how
     → IfSome sources.held (λ text. StoreSays text how) → IfSome sources.trace (λ bytes. TraceSays bytes behind how)
-    → AreCounted how before now → CanRun sources world → IsSomeAnd sources.trace HasTrace → IsDoneUnlessRisen how before now
+    → AreCounted how before now → CanRun Whole sources world → IsSomeAnd sources.trace HasTrace → IsDoneUnlessRisen how before now
 complete_audit how sources left behind world before now is says tree store trace counted can has =
-    complete_run how sources left world before now (told_ends_as_run how sources.trace behind is trace has) says tree store counted can
+    complete_run Whole how sources left world before now (told_ends_as_run how sources.trace behind is trace has) says tree store counted can

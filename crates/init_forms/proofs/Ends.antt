@@ -21,6 +21,8 @@ use Rattle.job_reader.specs.Store.{HasStore, StoreLimitSays, StoreSays}
 use Rattle.job_reader.specs.Trace.{TraceLimitSays, TraceSays}
 use Rattle.job_reader.specs.Tree.{IsFitFor, IsTreeTooLarge, TreeLimitSays, TreeSays}
 use Rattle.job_reader.specs.Tree.Purpose.{ToRun, ToCheck}
+use Rattle.job_reader.specs.declared.grammar.Grammar.{Grammar}
+use Rattle.job_reader.specs.declared.grammar.Grammar.TheVariants.{Whole}
 use Rattle.job_reader.specs.declared.status.Status.{Status}
 use Rattle.job_reader.specs.declared.status.Status.TheVariants as status
 use Rattle.job_reader.specs.declared.stop.Stop.{Stop}
@@ -42,72 +44,72 @@ left_alone old a = untouched old a a refl (λ tells. risks_nothing a [])
 
 -- ---- why a run isn't begun
 
-tree_limit : (told : Told) (limit : Limit) (number : ℕ) → HasScript told.script → IsTreeTooLarge ToRun told.world limit number
-    → RunRefused told (status.TooLarge limit number)
-tree_limit told limit number has (inl policy) = inr (has, inl policy)
-tree_limit told limit number has (inr (inl build)) = inr (has, inr (build.0, inl (inl build.1)))
-tree_limit told limit number has (inr (inr rc)) =
+tree_limit : (g : Grammar) (told : Told) (limit : Limit) (number : ℕ) → HasScript g told.script → IsTreeTooLarge ToRun told.world limit number
+    → RunRefused g told (status.TooLarge limit number)
+tree_limit g told limit number has (inl policy) = inr (has, inl policy)
+tree_limit g told limit number has (inr (inl build)) = inr (has, inr (build.0, inl (inl build.1)))
+tree_limit g told limit number has (inr (inr rc)) =
     inr (has, inr (rc.policy, inl (inr (rc.build_files, record { refusal = rc.refusal; refused = rc.refused; passes = rc.passes }))))
 
-pub limit_refused : (told : Told) (left : Option (List ℕ)) (limit : Limit) (number : ℕ) → IsRunLimit limit → ScriptLimitSays told.script left limit number
-    → TreeLimitSays ToRun told.world limit number → StoreLimitSays told.held limit number → RunRefused told (status.TooLarge limit number)
-limit_refused told left limits.ScriptBytes number is script tree store = inl script
-limit_refused told left limits.ScriptLines number is script tree store = inl script
-limit_refused told left limits.Steps number is script tree store = inl script
-limit_refused told left limits.FileBytes number is script tree store = tree_limit told limits.FileBytes number script.0 tree
-limit_refused told left limits.Files number is script tree store = tree_limit told limits.Files number script.0 tree
-limit_refused told left limits.Names number is script tree store = tree_limit told limits.Names number script.0 tree
-limit_refused told left limits.RcBytes number is script tree store = tree_limit told limits.RcBytes number script.0 tree
-limit_refused told left limits.StoreBytes number is script tree store = inr (script.0, inr (tree.0, inr (tree.1, (refl, store.0, store.1))))
-limit_refused told left limits.TraceBytes number is script tree store = absurd is
+pub limit_refused : (g : Grammar) (told : Told) (left : Option (List ℕ)) (limit : Limit) (number : ℕ) → IsRunLimit limit → ScriptLimitSays g told.script left limit number
+    → TreeLimitSays ToRun told.world limit number → StoreLimitSays told.held limit number → RunRefused g told (status.TooLarge limit number)
+limit_refused g told left limits.ScriptBytes number is script tree store = inl script
+limit_refused g told left limits.ScriptLines number is script tree store = inl script
+limit_refused g told left limits.Steps number is script tree store = inl script
+limit_refused g told left limits.FileBytes number is script tree store = tree_limit g told limits.FileBytes number script.0 tree
+limit_refused g told left limits.Files number is script tree store = tree_limit g told limits.Files number script.0 tree
+limit_refused g told left limits.Names number is script tree store = tree_limit g told limits.Names number script.0 tree
+limit_refused g told left limits.RcBytes number is script tree store = tree_limit g told limits.RcBytes number script.0 tree
+limit_refused g told left limits.StoreBytes number is script tree store = inr (script.0, inr (tree.0, inr (tree.1, (refl, store.0, store.1))))
+limit_refused g told left limits.TraceBytes number is script tree store = absurd is
 
 refused : (form : Form) (told : Told) (why : Status) (old : Option (List ℕ)) (a b : KeeperView) → ComesTo (Some form) told (Refused why)
     → b.held ≡ a.held → (a.TellsCrash → Risks a b [] [])
     → (outcome : Outcome) × ComesTo (Some form) told outcome × (why ≡ status_of_outcome outcome) × Shows outcome (shown_as old old a b)
 refused form told why old a b comes held crash = (Refused why, comes, refl, untouched old a b held crash)
 
--- a run that isn't begun, or a race
-pub stop_ends : (why : Stop) (form : Form) (told : Told) (left old : Option (List ℕ)) (a b : KeeperView)
-    → ((how : Status) → RunRefused told how → ComesTo (Some form) told (Refused how))
-    → IsRunStatus (status_of why) → ScriptSays told.script left (status_of why)
+-- a run that isn't begun, or a race, or a dispatch
+pub stop_ends : (g : Grammar) (why : Stop) (form : Form) (told : Told) (left old : Option (List ℕ)) (a b : KeeperView)
+    → ((how : Status) → RunRefused g told how → ComesTo (Some form) told (Refused how))
+    → IsRunStatus (status_of why) → ScriptSays g told.script left (status_of why)
     → TreeSays ToRun told.world (status_of why) → StoreSays told.held (status_of why) → b.held ≡ a.held → (a.TellsCrash → Risks a b [] [])
     → Ends (Some form) told (status_of why) (shown_as old old a b)
-stop_ends stop.ReadFault form told left old a b comes is script tree store held crash = inl (untouched old a b held crash)
-stop_ends stop.NoMemory form told left old a b comes is script tree store held crash = inl (untouched old a b held crash)
-stop_ends (stop.BadScript line) form told left old a b comes is script tree store held crash =
+stop_ends g stop.ReadFault form told left old a b comes is script tree store held crash = inl (untouched old a b held crash)
+stop_ends g stop.NoMemory form told left old a b comes is script tree store held crash = inl (untouched old a b held crash)
+stop_ends g (stop.BadScript line) form told left old a b comes is script tree store held crash =
     refused form told (status.BadScript line) old a b (comes (status.BadScript line) (inl script)) held crash
-stop_ends stop.NoInit form told left old a b comes is script tree store held crash =
+stop_ends g stop.NoInit form told left old a b comes is script tree store held crash =
     refused form told status.NoInit old a b (comes status.NoInit (inr (script.0, inr (tree.policy, inl (tree.build_files, tree.absent))))) held crash
-stop_ends (stop.TooLarge limit number) form told left old a b comes is script tree store held crash =
+stop_ends g (stop.TooLarge limit number) form told left old a b comes is script tree store held crash =
     refused form told (status.TooLarge limit number) old a b
-    (comes (status.TooLarge limit number) (limit_refused told left limit number is script tree store)) held crash
-stop_ends (stop.BadPolicy allow line) form told left old a b comes is script tree store held crash =
+    (comes (status.TooLarge limit number) (limit_refused g told left limit number is script tree store)) held crash
+stop_ends g (stop.BadPolicy allow line) form told left old a b comes is script tree store held crash =
     refused form told (status.BadPolicy allow line) old a b (comes (status.BadPolicy allow line) (inr (script.0, inl tree))) held crash
-stop_ends (stop.BadStore line why) form told left old a b comes is script tree store held crash =
+stop_ends g (stop.BadStore line why) form told left old a b comes is script tree store held crash =
     refused form told (status.BadStore line why) old a b
     (comes (status.BadStore line why) (inr (script.0, inr (tree.0, inr (tree.1, store))))) held crash
-stop_ends stop.BadTrace form told left old a b comes is script tree store held crash = absurd is
+stop_ends g stop.BadTrace form told left old a b comes is script tree store held crash = absurd is
 
 -- ---- why nothing is judged
 
-can_be_run : (told : Told) (left : Option (List ℕ)) → IsReadWhole told.script left → IsFitFor ToRun told.world → HasStore told.held → CanBeRun told
+can_be_run : (told : Told) (left : Option (List ℕ)) → IsReadWhole Whole told.script left → IsFitFor ToRun told.world → HasStore told.held → CanBeRun Whole told
 can_be_run told left script tree store = record { script = script.0; policy = tree.0; files = tree.1; store = store }
 
-audit_limit : (told : Told) (left behind : Option (List ℕ)) (limit : Limit) (number : ℕ) → ScriptLimitSays told.script left limit number
+audit_limit : (told : Told) (left behind : Option (List ℕ)) (limit : Limit) (number : ℕ) → ScriptLimitSays Whole told.script left limit number
     → TreeLimitSays ToRun told.world limit number → StoreLimitSays told.held limit number → TraceLimitSays told.trace limit number
     → AuditRefused told (status.TooLarge limit number)
 audit_limit told left behind limits.TraceBytes number script tree store trace = inr (can_be_run told left script tree store, (refl, trace))
-audit_limit told left behind limits.ScriptBytes number script tree store trace = inl (limit_refused told left limits.ScriptBytes number tt script tree store)
-audit_limit told left behind limits.ScriptLines number script tree store trace = inl (limit_refused told left limits.ScriptLines number tt script tree store)
-audit_limit told left behind limits.Steps number script tree store trace = inl (limit_refused told left limits.Steps number tt script tree store)
-audit_limit told left behind limits.FileBytes number script tree store trace = inl (limit_refused told left limits.FileBytes number tt script tree store)
-audit_limit told left behind limits.Files number script tree store trace = inl (limit_refused told left limits.Files number tt script tree store)
-audit_limit told left behind limits.Names number script tree store trace = inl (limit_refused told left limits.Names number tt script tree store)
-audit_limit told left behind limits.RcBytes number script tree store trace = inl (limit_refused told left limits.RcBytes number tt script tree store)
-audit_limit told left behind limits.StoreBytes number script tree store trace = inl (limit_refused told left limits.StoreBytes number tt script tree store)
+audit_limit told left behind limits.ScriptBytes number script tree store trace = inl (limit_refused Whole told left limits.ScriptBytes number tt script tree store)
+audit_limit told left behind limits.ScriptLines number script tree store trace = inl (limit_refused Whole told left limits.ScriptLines number tt script tree store)
+audit_limit told left behind limits.Steps number script tree store trace = inl (limit_refused Whole told left limits.Steps number tt script tree store)
+audit_limit told left behind limits.FileBytes number script tree store trace = inl (limit_refused Whole told left limits.FileBytes number tt script tree store)
+audit_limit told left behind limits.Files number script tree store trace = inl (limit_refused Whole told left limits.Files number tt script tree store)
+audit_limit told left behind limits.Names number script tree store trace = inl (limit_refused Whole told left limits.Names number tt script tree store)
+audit_limit told left behind limits.RcBytes number script tree store trace = inl (limit_refused Whole told left limits.RcBytes number tt script tree store)
+audit_limit told left behind limits.StoreBytes number script tree store trace = inl (limit_refused Whole told left limits.StoreBytes number tt script tree store)
 
 -- an audit that isn't begun
-pub audit_stop_ends : (why : Stop) (told : Told) (left behind old : Option (List ℕ)) (a b : KeeperView) → ScriptSays told.script left (status_of why)
+pub audit_stop_ends : (why : Stop) (told : Told) (left behind old : Option (List ℕ)) (a b : KeeperView) → ScriptSays Whole told.script left (status_of why)
     → TreeSays ToRun told.world (status_of why) → StoreSays told.held (status_of why) → TraceSays told.trace behind (status_of why)
     → b.held ≡ a.held → (a.TellsCrash → Risks a b [] []) → Ends (Some Audit) told (status_of why) (shown_as old old a b)
 audit_stop_ends stop.ReadFault told left behind old a b script tree store trace held crash = inl (untouched old a b held crash)
@@ -160,7 +162,7 @@ part_behind e old new a b c due asked h = record {
 
 -- a course that was run
 pub performed_ends : (course : Course) (told : Told) (old new : Option (List ℕ)) (a b c : KeeperView) (how : Status) → Took a b []
-    → IsCourseOf told.script told.world told.held course → Performs course old new b c how → Ends (Some Run) told how (shown_as old new a c)
+    → IsCourseOf Whole told.script told.world told.held course → Performs course old new b c how → Ends (Some Run) told how (shown_as old new a c)
 performed_ends course told old new a b c status.Done asked is h =
     (Ran course, is, refl, (h.0, took_then a b c [] (given_in course.opening course.script) asked h.1))
 performed_ends course told old new a b c status.WriteFault asked is h = (Ran course, is, part_behind refusal.Write old new a b c (due_of_course course) asked h)

@@ -14,6 +14,7 @@ use Rattle.job_reader.specs.Stops.{IsOfTrace, has_read_fault, status_of}
 use Rattle.job_reader.specs.Store.{HasStore, StoreSays}
 use Rattle.job_reader.specs.Tree.{IsFitFor, TreeSays}
 use Rattle.job_reader.specs.Tree.Purpose.{ToRun}
+use Rattle.job_reader.specs.declared.grammar.Grammar.TheVariants.{Whole}
 use Rattle.job_reader.specs.declared.status.Status.{Status}
 use Rattle.job_reader.specs.declared.status.Status.TheVariants as status
 use Rattle.job_reader.specs.declared.stop.Stop.{Stop}
@@ -23,9 +24,9 @@ use Rattle.init_forms.specs.internal.Judging.{ending_of}
 use Rattle.init_forms.specs.Top.{IsAsBefore}
 
 pub judged_script : {T : Type 0} (result : Result T Stop) (bytes : List ℕ) (left : Option (List ℕ))
-    → IfErr result IsOfTrace → IsReadWhole bytes left → ScriptSays bytes left (ending_of result)
+    → IfErr result IsOfTrace → IsReadWhole Whole bytes left → ScriptSays Whole bytes left (ending_of result)
 judged_script (Ok value) bytes left last read = read
-judged_script (Err why) bytes left last read = trace_stop_script bytes left why last read
+judged_script (Err why) bytes left last read = trace_stop_script Whole bytes left why last read
 
 pub judged_tree : {T : Type 0} (result : Result T Stop) (world : World)
     → IfErr result IsOfTrace → IsFitFor ToRun world → TreeSays ToRun world (ending_of result)

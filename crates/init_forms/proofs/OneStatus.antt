@@ -6,15 +6,17 @@ use Rattle.init_machine.specs.declared.config.Pair.{Pair}
 use Rattle.init_machine.specs.declared.limit.Limit.{Limit}
 use Rattle.init_machine.specs.declared.limit.Limit.TheVariants as limits
 use Rattle.command_line.specs.declared.form.Form.{Form}
-use Rattle.command_line.specs.declared.form.Form.TheVariants.{Run, Race, Check, Audit, Soak}
+use Rattle.command_line.specs.declared.form.Form.TheVariants.{Run, Race, Check, Soak, Dispatch, Audit}
 use Rattle.job_reader.specs.Policy.{HasPolicy, IsBadLine, IsBadPolicyAt, IsPolicyTooLarge}
 use Rattle.job_reader.specs.Run.{Course, IsCourseOf}
-use Rattle.job_reader.specs.Script.{HasScript}
+use Rattle.job_reader.specs.Script.{HasScript, IsBadIn}
 use Rattle.job_reader.specs.Stops.{policy_stop, status_of}
 use Rattle.job_reader.specs.Store.{HasStore}
 use Rattle.job_reader.specs.Texts.{Tree, allow_text, contexts_text}
 use Rattle.job_reader.specs.Trace.{HasTrace, IsNoTrace, IsTraceTooLarge}
 use Rattle.job_reader.specs.Tree.{AreBuildFilesShort, AreBuildFilesTooLarge, IsLoadable, PassesLimit}
+use Rattle.job_reader.specs.declared.grammar.Grammar.{Grammar}
+use Rattle.job_reader.specs.declared.grammar.Grammar.TheVariants.{Whole, Sets}
 use Rattle.job_reader.specs.declared.status.Status.{Status}
 use Rattle.job_reader.specs.declared.status.Status.TheVariants as status
 use Rattle.persist_file.proofs.Determined.{not_both as store_or_line, unfit_read}
@@ -32,11 +34,12 @@ use Rattle.rc_import.specs.World.{World}
 use Rattle.rc_import.specs.declared.loaded.LoadRefusal.{LoadRefusal}
 use Rattle.rc_import.specs.declared.loaded.LoadRefusal.TheVariants as load
 use Rattle.rc_import.specs.declared.loaded.Loaded.{Loaded}
-use Rattle.script_lang.proofs.OneReading.{one_limit, one_line, script_or_line, within_no_limit}
-use Rattle.script_lang.specs.Refusal.{IsBadAt, IsTooLarge}
+use Rattle.script_lang.proofs.OneReading.{one_limit, within_no_limit}
+use Rattle.script_lang.specs.Refusal.{IsTooLarge}
 use Rattle.init_forms.specs.Outcome.{AuditRefused, CanBeRun, ComesTo, Ends, FilesRefuse, IsCut, Outcome, PassRcLimit, PolicyRefuses, RunRefused, ScriptRefuses, Shown, StoreRefuses, Told, TraceRefuses, status_of_outcome}
 use Rattle.init_forms.specs.Outcome.Outcome.{Checked, Judged, Raced, Ran, Refused, Soaked, Unformed}
 use Rattle.init_forms.proofs.Complete.{absent_is_refused, no_bad_line, none_long, ok_or_err}
+use Rattle.init_forms.proofs.Grammars.{bad_within, is_script, one_bad_line, script_or_bad}
 
 -- ---- readers one after another
 
@@ -62,40 +65,40 @@ same_large limit other number count e f = cc
 
 -- ---- the script
 
-abbrev ScriptCase : List ℕ → Status → Type 0
-ScriptCase bytes how =
-    ((line : ℕ) × (how ≡ status.BadScript line) × IsBadAt bytes line)
+abbrev ScriptCase : Grammar → List ℕ → Status → Type 0
+ScriptCase g bytes how =
+    ((line : ℕ) × (how ≡ status.BadScript line) × IsBadIn g bytes line)
     ⊎ ((limit : Limit) × (number : ℕ) × (how ≡ status.TooLarge limit number) × IsTooLarge bytes limit number)
 
-script_case : (bytes : List ℕ) (how : Status) → ScriptRefuses bytes how → ScriptCase bytes how
-script_case bytes status.Done h = absurd h
-script_case bytes status.Usage h = absurd h
-script_case bytes status.ReadFault h = absurd h
-script_case bytes status.WriteFault h = absurd h
-script_case bytes status.NoMemory h = absurd h
-script_case bytes (status.BadScript line) h = inl (line, refl, h)
-script_case bytes status.NoInit h = absurd h
-script_case bytes (status.TooLarge limit number) h = inr (limit, number, refl, h)
-script_case bytes (status.BadPolicy allow line) h = absurd h
-script_case bytes (status.BadStore line why) h = absurd h
-script_case bytes status.BadTrace h = absurd h
+script_case : (g : Grammar) (bytes : List ℕ) (how : Status) → ScriptRefuses g bytes how → ScriptCase g bytes how
+script_case g bytes status.Done h = absurd h
+script_case g bytes status.Usage h = absurd h
+script_case g bytes status.ReadFault h = absurd h
+script_case g bytes status.WriteFault h = absurd h
+script_case g bytes status.NoMemory h = absurd h
+script_case g bytes (status.BadScript line) h = inl (line, refl, h)
+script_case g bytes status.NoInit h = absurd h
+script_case g bytes (status.TooLarge limit number) h = inr (limit, number, refl, h)
+script_case g bytes (status.BadPolicy allow line) h = absurd h
+script_case g bytes (status.BadStore line why) h = absurd h
+script_case g bytes status.BadTrace h = absurd h
 
-script_same : (bytes : List ℕ) (s t : Status) → ScriptCase bytes s → ScriptCase bytes t → s ≡ t
-script_same bytes s t (inl a) (inl b) = a.1 ∙ ap (λ line. status.BadScript line) (one_line bytes a.0 b.0 a.2 b.2) ∙ sym b.1
-script_same bytes s t (inl a) (inr b) = absurd (within_no_limit bytes b.0 b.1 a.2.within b.3)
-script_same bytes s t (inr a) (inl b) = absurd (within_no_limit bytes a.0 a.1 b.2.within a.3)
-script_same bytes s t (inr a) (inr b) =
+script_same : (g : Grammar) (bytes : List ℕ) (s t : Status) → ScriptCase g bytes s → ScriptCase g bytes t → s ≡ t
+script_same g bytes s t (inl a) (inl b) = a.1 ∙ ap (λ line. status.BadScript line) (one_bad_line g bytes a.0 b.0 a.2 b.2) ∙ sym b.1
+script_same g bytes s t (inl a) (inr b) = absurd (within_no_limit bytes b.0 b.1 (bad_within g bytes a.0 a.2) b.3)
+script_same g bytes s t (inr a) (inl b) = absurd (within_no_limit bytes a.0 a.1 (bad_within g bytes b.0 b.2) a.3)
+script_same g bytes s t (inr a) (inr b) =
     let same = one_limit bytes a.0 b.0 a.1 b.1 a.3 b.3 in a.2 ∙ same_large a.0 b.0 a.1 b.1 same.0 same.1 ∙ sym b.2
 
-script_once : (bytes : List ℕ) (s t : Status) → ScriptRefuses bytes s → ScriptRefuses bytes t → s ≡ t
-script_once bytes s t h k = script_same bytes s t (script_case bytes s h) (script_case bytes t k)
+script_once : (g : Grammar) (bytes : List ℕ) (s t : Status) → ScriptRefuses g bytes s → ScriptRefuses g bytes t → s ≡ t
+script_once g bytes s t h k = script_same g bytes s t (script_case g bytes s h) (script_case g bytes t k)
 
-script_passes : (bytes : List ℕ) (s : Status) → HasScript bytes → ScriptCase bytes s → ⊥
-script_passes bytes s has (inl a) = script_or_line bytes has.0 a.0 has.1 a.2
-script_passes bytes s has (inr a) = within_no_limit bytes a.0 a.1 has.1.within a.3
+script_passes : (g : Grammar) (bytes : List ℕ) (s : Status) → HasScript g bytes → ScriptCase g bytes s → ⊥
+script_passes g bytes s has (inl a) = script_or_bad g bytes has.0 a.0 has.1 a.2
+script_passes g bytes s has (inr a) = within_no_limit bytes a.0 a.1 (is_script g bytes has.0 has.1).within a.3
 
-script_not : (bytes : List ℕ) (s : Status) → HasScript bytes → ScriptRefuses bytes s → ⊥
-script_not bytes s has h = script_passes bytes s has (script_case bytes s h)
+script_not : (g : Grammar) (bytes : List ℕ) (s : Status) → HasScript g bytes → ScriptRefuses g bytes s → ⊥
+script_not g bytes s has h = script_passes g bytes s has (script_case g bytes s h)
 
 -- ---- the policy
 
@@ -313,45 +316,47 @@ FilesOrStore told s = FilesRefuse told.world s ⊎ (IsLoadable told.world × Sto
 abbrev PolicyOrLater : Told → Status → Type 0
 PolicyOrLater told s = PolicyRefuses told.world.tree s ⊎ (HasPolicy told.world.tree × FilesOrStore told s)
 
-run_once : (told : Told) (s t : Status) → RunRefused told s → RunRefused told t → s ≡ t
-run_once told =
-    first_once (ScriptRefuses told.script) (PolicyOrLater told) (HasScript told.script) (script_once told.script) (script_not told.script)
+run_once : (g : Grammar) (told : Told) (s t : Status) → RunRefused g told s → RunRefused g told t → s ≡ t
+run_once g told =
+    first_once (ScriptRefuses g told.script) (PolicyOrLater told) (HasScript g told.script) (script_once g told.script) (script_not g told.script)
     (first_once (PolicyRefuses told.world.tree) (FilesOrStore told) (HasPolicy told.world.tree) (policy_once told.world.tree) (policy_not told.world.tree)
     (first_once (FilesRefuse told.world) (StoreRefuses told.held) (IsLoadable told.world) (files_once told.world) (files_not told.world)
     (store_once told.held)))
 
-run_not : (told : Told) (s : Status) → CanBeRun told → RunRefused told s → ⊥
-run_not told s can =
-    both_pass (ScriptRefuses told.script) (PolicyOrLater told) (HasScript told.script) (CanBeRun told) (script_not told.script)
-    (λ s can. both_pass (PolicyRefuses told.world.tree) (FilesOrStore told) (HasPolicy told.world.tree) (CanBeRun told) (policy_not told.world.tree)
+run_not : (g : Grammar) (told : Told) (s : Status) → CanBeRun g told → RunRefused g told s → ⊥
+run_not g told s can =
+    both_pass (ScriptRefuses g told.script) (PolicyOrLater told) (HasScript g told.script) (CanBeRun g told) (script_not g told.script)
+    (λ s can. both_pass (PolicyRefuses told.world.tree) (FilesOrStore told) (HasPolicy told.world.tree) (CanBeRun g told) (policy_not told.world.tree)
     (λ s can. both_pass (FilesRefuse told.world) (StoreRefuses told.held) (IsLoadable told.world) (HasStore told.held) (files_not told.world)
     (store_not told.held) s can.files can.store)
     s can.policy can)
     s can.script can
 
 audit_once : (told : Told) (s t : Status) → AuditRefused told s → AuditRefused told t → s ≡ t
-audit_once told = first_once (RunRefused told) (TraceRefuses told.trace) (CanBeRun told) (run_once told) (run_not told) (trace_once told.trace)
+audit_once told = first_once (RunRefused Whole told) (TraceRefuses told.trace) (CanBeRun Whole told) (run_once Whole told) (run_not Whole told) (trace_once told.trace)
 
-audit_not : (told : Told) (s : Status) → CanBeRun told → HasTrace told.trace → AuditRefused told s → ⊥
-audit_not told = both_pass (RunRefused told) (TraceRefuses told.trace) (CanBeRun told) (HasTrace told.trace) (run_not told) (trace_not told.trace)
+audit_not : (told : Told) (s : Status) → CanBeRun Whole told → HasTrace told.trace → AuditRefused told s → ⊥
+audit_not told = both_pass (RunRefused Whole told) (TraceRefuses told.trace) (CanBeRun Whole told) (HasTrace told.trace) (run_not Whole told) (trace_not told.trace)
 
 -- ---- each form
 
 abbrev FormRefuses : Option Form → Told → Status → Type 0
 FormRefuses None told s = ⊥
-FormRefuses (Some Run) told s = RunRefused told s
-FormRefuses (Some Race) told s = RunRefused told s
+FormRefuses (Some Run) told s = RunRefused Whole told s
+FormRefuses (Some Race) told s = RunRefused Whole told s
+FormRefuses (Some Dispatch) told s = RunRefused Sets told s
 FormRefuses (Some Check) told s = FilesRefuse told.world s
 FormRefuses (Some Audit) told s = AuditRefused told s
-FormRefuses (Some (Soak services)) told s = RunRefused told s
+FormRefuses (Some (Soak services)) told s = RunRefused Whole told s
 
 abbrev FormPasses : Option Form → Told → Type 0
 FormPasses None told = ⊤
-FormPasses (Some Run) told = CanBeRun told
-FormPasses (Some Race) told = CanBeRun told
+FormPasses (Some Run) told = CanBeRun Whole told
+FormPasses (Some Race) told = CanBeRun Whole told
+FormPasses (Some Dispatch) told = CanBeRun Sets told
 FormPasses (Some Check) told = IsLoadable told.world
-FormPasses (Some Audit) told = CanBeRun told × HasTrace told.trace
-FormPasses (Some (Soak services)) told = CanBeRun told
+FormPasses (Some Audit) told = CanBeRun Whole told × HasTrace told.trace
+FormPasses (Some (Soak services)) told = CanBeRun Whole told
 
 abbrev done_of : Option Form → Status
 done_of None = status.Usage
@@ -359,22 +364,24 @@ done_of (Some form) = status.Done
 
 form_once : (asked : Option Form) (told : Told) (s t : Status) → FormRefuses asked told s → FormRefuses asked told t → s ≡ t
 form_once None told s t h k = absurd h
-form_once (Some Run) told s t h k = run_once told s t h k
-form_once (Some Race) told s t h k = run_once told s t h k
+form_once (Some Run) told s t h k = run_once Whole told s t h k
+form_once (Some Race) told s t h k = run_once Whole told s t h k
+form_once (Some Dispatch) told s t h k = run_once Sets told s t h k
 form_once (Some Check) told s t h k = files_once told.world s t h k
 form_once (Some Audit) told s t h k = audit_once told s t h k
-form_once (Some (Soak services)) told s t h k = run_once told s t h k
+form_once (Some (Soak services)) told s t h k = run_once Whole told s t h k
 
 form_not : (asked : Option Form) (told : Told) (s : Status) → FormPasses asked told → FormRefuses asked told s → ⊥
 form_not None told s passes h = h
-form_not (Some Run) told s passes h = run_not told s passes h
-form_not (Some Race) told s passes h = run_not told s passes h
+form_not (Some Run) told s passes h = run_not Whole told s passes h
+form_not (Some Race) told s passes h = run_not Whole told s passes h
+form_not (Some Dispatch) told s passes h = run_not Sets told s passes h
 form_not (Some Check) told s passes h = files_not told.world s passes h
 form_not (Some Audit) told s passes h = audit_not told s passes.0 passes.1 h
-form_not (Some (Soak services)) told s passes h = run_not told s passes h
+form_not (Some (Soak services)) told s passes h = run_not Whole told s passes h
 
-course_can : (told : Told) (course : Course) → IsCourseOf told.script told.world told.held course → CanBeRun told
-course_can told course is = record {
+course_can : (g : Grammar) (told : Told) (course : Course) → IsCourseOf g told.script told.world told.held course → CanBeRun g told
+course_can g told course is = record {
   script = (course.script, is.script_is);
   policy = (course.opening.policy, is.opened.policy);
   files = (is.opened.load.short, (is.opened.load.loaded, is.opened.load.rc_files));
@@ -396,7 +403,7 @@ comes None told (Soaked given course) h = absurd h
 comes (Some Run) told Unformed h = absurd h
 comes (Some Run) told (Refused why) h = inl h
 comes (Some Run) told (Checked diagnostics) h = absurd h
-comes (Some Run) told (Ran course) h = inr (course_can told course h, refl)
+comes (Some Run) told (Ran course) h = inr (course_can Whole told course h, refl)
 comes (Some Run) told (Raced course report) h = absurd h
 comes (Some Run) told (Judged verdict) h = absurd h
 comes (Some Run) told (Soaked given course) h = absurd h
@@ -404,9 +411,16 @@ comes (Some Race) told Unformed h = absurd h
 comes (Some Race) told (Refused why) h = inl h
 comes (Some Race) told (Checked diagnostics) h = absurd h
 comes (Some Race) told (Ran course) h = absurd h
-comes (Some Race) told (Raced course report) h = inr (course_can told course h.course_is, refl)
+comes (Some Race) told (Raced course report) h = inr (course_can Whole told course h.course_is, refl)
 comes (Some Race) told (Judged verdict) h = absurd h
 comes (Some Race) told (Soaked given course) h = absurd h
+comes (Some Dispatch) told Unformed h = absurd h
+comes (Some Dispatch) told (Refused why) h = inl h
+comes (Some Dispatch) told (Checked diagnostics) h = absurd h
+comes (Some Dispatch) told (Ran course) h = absurd h
+comes (Some Dispatch) told (Raced course report) h = inr (course_can Sets told course h.course_is, refl)
+comes (Some Dispatch) told (Judged verdict) h = absurd h
+comes (Some Dispatch) told (Soaked given course) h = absurd h
 comes (Some Check) told Unformed h = absurd h
 comes (Some Check) told (Refused why) h = inl h
 comes (Some Check) told (Checked diagnostics) h = inr ((h.1.short, (h.1.loaded, h.1.rc_files)), refl)
@@ -419,7 +433,7 @@ comes (Some Audit) told (Refused why) h = inl h
 comes (Some Audit) told (Checked diagnostics) h = absurd h
 comes (Some Audit) told (Ran course) h = absurd h
 comes (Some Audit) told (Raced course report) h = absurd h
-comes (Some Audit) told (Judged verdict) h = inr ((course_can told h.course h.course_is, (h.said.report, h.said.report_is)), refl)
+comes (Some Audit) told (Judged verdict) h = inr ((course_can Whole told h.course h.course_is, (h.said.report, h.said.report_is)), refl)
 comes (Some Audit) told (Soaked given course) h = absurd h
 comes (Some (Soak services)) told Unformed h = absurd h
 comes (Some (Soak services)) told (Refused why) h = inl h
@@ -427,7 +441,7 @@ comes (Some (Soak services)) told (Checked diagnostics) h = absurd h
 comes (Some (Soak services)) told (Ran course) h = absurd h
 comes (Some (Soak services)) told (Raced course report) h = absurd h
 comes (Some (Soak services)) told (Judged verdict) h = absurd h
-comes (Some (Soak services)) told (Soaked given course) h = inr (course_can told course h.1, refl)
+comes (Some (Soak services)) told (Soaked given course) h = inr (course_can Whole told course h.1, refl)
 
 same_status : (asked : Option Form) (told : Told) (one other : Outcome) → Comes asked told one → Comes asked told other → status_of_outcome one ≡ status_of_outcome other
 same_status asked told one other (inl h) (inl k) = form_once asked told (status_of_outcome one) (status_of_outcome other) h k

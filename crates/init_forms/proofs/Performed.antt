@@ -7,14 +7,15 @@ use Rattle.job_reader.specs.Counts.{AreCounted, Counts, counts_of}
 use Rattle.job_reader.specs.Endings.{IsRunStatus}
 use Rattle.job_reader.specs.Prepared.{IsFit, IsSetupOf, Performs, course_of}
 use Rattle.job_reader.specs.Run.{Course, IsCourseOf}
+use Rattle.job_reader.specs.Script.{IsScriptIn}
 use Rattle.job_reader.specs.Store.{IsStoreOf}
 use Rattle.job_reader.specs.Tree.{IsFitFor, TreeSays}
 use Rattle.job_reader.specs.Tree.Purpose.{ToRun}
 use Rattle.job_reader.specs.declared.preparing.Job.{Job}
+use Rattle.job_reader.specs.declared.grammar.Grammar.{Grammar}
 use Rattle.job_reader.specs.declared.status.Status.{Status}
 use Rattle.job_reader.specs.declared.status.Status.TheVariants as status
 use Rattle.rc_import.specs.World.{World}
-use Rattle.script_lang.specs.Script.{IsScript}
 use Rattle.init_forms.specs.Top.{IsAsBefore}
 
 -- ---- what it says
@@ -36,10 +37,10 @@ performed_tree job old new keeper kept (status.BadPolicy allow line) world perfo
 performed_tree job old new keeper kept (status.BadStore line why) world performs is = setup_fits world job is
 performed_tree job old new keeper kept status.BadTrace world performs is = absurd performs
 
-pub course_is : (job : Job) (bytes : List ℕ) (world : World) (held : List ℕ)
-    → IsFit job → IsScript bytes job.script → IsSetupOf world job.setup → IsStoreOf held job.setup.config.saved
-    → IsCourseOf bytes world held (course_of job)
-course_is job bytes world held fit script setup store = record {
+pub course_is : (g : Grammar) (job : Job) (bytes : List ℕ) (world : World) (held : List ℕ)
+    → IsFit job → IsScriptIn g bytes job.script → IsSetupOf world job.setup → IsStoreOf held job.setup.config.saved
+    → IsCourseOf g bytes world held (course_of job)
+course_is g job bytes world held fit script setup store = record {
   script_is = script;
   opened = record {
     policy = setup.policy;

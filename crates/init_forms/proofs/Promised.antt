@@ -2,13 +2,14 @@
 use Rattle.std.proofs.Common.{◌≡◌, ◌↔◌, ℕ, Option, Some, None, refl, sym, subst, inl}
 use Rattle.std.specs.Prelude.{⊤, IfSome}
 use Rattle.command_line.specs.declared.form.Form.{Form}
-use Rattle.command_line.specs.declared.form.Form.TheVariants.{Run, Race, Check, Audit, Soak}
+use Rattle.command_line.specs.declared.form.Form.TheVariants.{Run, Race, Check, Soak, Dispatch, Audit}
 use Rattle.job_reader.specs.Check.{IsCheckStatus}
 use Rattle.job_reader.specs.Counts.{AreCounted, IsDoneUnlessRisen}
 use Rattle.job_reader.specs.Endings.{IsAuditStatus, IsRunStatus}
 use Rattle.job_reader.specs.Script.{ScriptSays}
 use Rattle.job_reader.specs.Trace.{TraceSays}
 use Rattle.job_reader.specs.Tree.{IsWorldOf}
+use Rattle.job_reader.specs.declared.grammar.Grammar.TheVariants.{Whole}
 use Rattle.job_reader.specs.declared.status.Status.{Status}
 use Rattle.job_reader.specs.declared.status.Status.TheVariants as status
 use Rattle.property_area.specs.Seats.{Seated}
@@ -16,7 +17,7 @@ use Rattle.rc_import.specs.World.{World}
 use Rattle.init_forms.specs.Outcome.{Ends, Tell, Told}
 use Rattle.init_forms.specs.Promise.{Objects, Promise, shown_by, told_by}
 use Rattle.init_forms.specs.Seats.{GivesSeat, Records}
-use Rattle.init_forms.specs.Top.{CanBeDone, CanSoak, IsAsBefore, ReadsScript}
+use Rattle.init_forms.specs.Top.{CanBeDone, CanSoak, IsAsBefore, ReadsScript, grammar_of}
 use Rattle.init_forms.proofs.Ends.{left_alone, usage_ends}
 use Rattle.init_forms.proofs.OneStatus.{only_status}
 
@@ -35,6 +36,7 @@ always (Some x) P h = h x
 abbrev pub Runs : Form → Type 0
 Runs Run = ⊤
 Runs Race = ⊤
+Runs Dispatch = ⊤
 Runs Check = ⊥
 Runs Audit = ⊥
 Runs (Soak services) = ⊤
@@ -42,6 +44,7 @@ Runs (Soak services) = ⊤
 no_audit : (form : Form) → Runs form → Some form ≡ Some Audit → ⊥
 no_audit Run runs e = cc
 no_audit Race runs e = cc
+no_audit Dispatch runs e = cc
 no_audit Check runs e = runs
 no_audit Audit runs e = runs
 no_audit (Soak services) runs e = cc
@@ -49,6 +52,7 @@ no_audit (Soak services) runs e = cc
 no_check : (form : Form) → Runs form → Some form ≡ Some Check → ⊥
 no_check Run runs e = cc
 no_check Race runs e = cc
+no_check Dispatch runs e = cc
 no_check Check runs e = runs
 no_check Audit runs e = runs
 no_check (Soak services) runs e = cc
@@ -59,11 +63,14 @@ run_is_no_soak services e = cc
 pub race_is_no_soak : (services : ℕ) → Some Race ≡ Some (Soak services) → ⊥
 race_is_no_soak services e = cc
 
+pub dispatch_is_no_soak : (services : ℕ) → Some Dispatch ≡ Some (Soak services) → ⊥
+dispatch_is_no_soak services e = cc
+
 module _ (before after : Objects) (how : Status) (seat : Option Seated) where
   -- what a call that runs a script says of its objects
   pub record Said (form : Form) : Type 0 where
     pub ends : (told : Told) → Tell (Some form) (told_by before) told → Ends (Some form) told how (shown_by before after)
-    pub read : ReadsScript (Some form) → IfSome before.script (λ bytes. ScriptSays bytes after.script how)
+    pub read : ReadsScript (Some form) → IfSome before.script (λ bytes. ScriptSays (grammar_of (Some form)) bytes after.script how)
     pub gives : GivesSeat (Some form) how seat
     pub records : (told : Told) → Tell (Some form) (told_by before) told → Records (Some form) told how (shown_by before after) seat
     pub faults : AreCounted how before.counts after.counts
@@ -90,6 +97,7 @@ module _ (before after : Objects) (how : Status) (seat : Option Seated) where
     of_check = λ e. absurd (no_check form runs e);
     of_run = λ e. said.formed;
     of_race = λ e. said.formed;
+    of_dispatch = λ e. said.formed;
     of_soak = λ services e. said.formed;
     complete = said.complete;
     soaked = said.soaked;
@@ -119,6 +127,7 @@ check_promised before after how ends faults unwritten unkept formed complete = r
   of_check = λ e. formed;
   of_run = λ e. absurd (unrun e);
   of_race = λ e. absurd (unraced e);
+  of_dispatch = λ e. absurd (undispatched e);
   of_soak = λ services e. absurd (unsoaked services e);
   complete = complete;
   soaked = λ services e can. absurd (unsoaked services e);
@@ -133,13 +142,16 @@ check_promised before after how ends faults unwritten unkept formed complete = r
     unraced : Some Check ≡ Some Race → ⊥
     unraced e = cc
 
+    undispatched : Some Check ≡ Some Dispatch → ⊥
+    undispatched e = cc
+
     unsoaked : (services : ℕ) → Some Check ≡ Some (Soak services) → ⊥
     unsoaked services e = cc
 
 -- an audit
 pub audit_promised : (before after : Objects) (how : Status)
     → ((told : Told) → Tell (Some Audit) (told_by before) told → Ends (Some Audit) told how (shown_by before after))
-    → IfSome before.script (λ bytes. ScriptSays bytes after.script how)
+    → IfSome before.script (λ bytes. ScriptSays Whole bytes after.script how)
     → IfSome before.trace (λ bytes. TraceSays bytes after.trace how)
     → AreCounted how before.counts after.counts
     → IsAsBefore before.taken after.taken how before.counts.keeper after.counts.keeper
@@ -163,6 +175,7 @@ audit_promised before after how ends read traced faults unwritten unkept held fo
   of_check = λ e. absurd (unchecked e);
   of_run = λ e. absurd (unrun e);
   of_race = λ e. absurd (unraced e);
+  of_dispatch = λ e. absurd (undispatched e);
   of_soak = λ services e. absurd (unsoaked services e);
   complete = complete;
   soaked = λ services e can. absurd (unsoaked services e);
@@ -176,6 +189,9 @@ audit_promised before after how ends read traced faults unwritten unkept held fo
 
     unraced : Some Audit ≡ Some Race → ⊥
     unraced e = cc
+
+    undispatched : Some Audit ≡ Some Dispatch → ⊥
+    undispatched e = cc
 
     unsoaked : (services : ℕ) → Some Audit ≡ Some (Soak services) → ⊥
     unsoaked services e = cc
@@ -197,6 +213,7 @@ usage_promised objects = record {
   of_check = λ e. absurd (some_not_none Check (sym e));
   of_run = λ e. absurd (some_not_none Run (sym e));
   of_race = λ e. absurd (some_not_none Race (sym e));
+  of_dispatch = λ e. absurd (some_not_none Dispatch (sym e));
   of_soak = λ services e. absurd (some_not_none (Soak services) (sym e));
   complete = λ world is can. absurd can;
   soaked = λ services e can. absurd (some_not_none (Soak services) (sym e));
@@ -219,6 +236,7 @@ memory_promised asked objects formed = record {
   of_check = λ e. tt;
   of_run = λ e. tt;
   of_race = λ e. tt;
+  of_dispatch = λ e. tt;
   of_soak = λ services e. tt;
   complete = λ world is can. tt;
   soaked = λ services e can. tt;
@@ -228,6 +246,7 @@ memory_promised asked objects formed = record {
     none_given None = refl
     none_given (Some Run) = refl
     none_given (Some Race) = refl
+    none_given (Some Dispatch) = refl
     none_given (Some Check) = refl
     none_given (Some Audit) = refl
     none_given (Some (Soak services)) = refl
@@ -236,6 +255,7 @@ memory_promised asked objects formed = record {
     none_recorded None told = tt
     none_recorded (Some Run) told = tt
     none_recorded (Some Race) told = tt
+    none_recorded (Some Dispatch) told = tt
     none_recorded (Some Check) told = tt
     none_recorded (Some Audit) told = tt
     none_recorded (Some (Soak services)) told = tt

@@ -9,6 +9,7 @@ use Rattle.init_trace.specs.Report.{TextOf}
 use Rattle.command_line.specs.declared.form.Form.TheVariants.{Race, Run}
 use Rattle.job_reader.specs.Prepared.{Performs, WritesText}
 use Rattle.job_reader.specs.Run.{Course, IsCourseOf}
+use Rattle.job_reader.specs.declared.grammar.Grammar.TheVariants.{Whole}
 use Rattle.job_reader.specs.declared.status.Status.{Status}
 use Rattle.job_reader.specs.declared.status.Status.TheVariants as status
 use Rattle.property_area.specs.Seats.{Seated}
@@ -36,7 +37,7 @@ run_given course (status.BadStore line why) seat gives = gives
 run_given course status.BadTrace seat gives = gives
 
 pub run_records : (course : Course) (told : Told) (old new : Option (List ℕ)) (a b c : KeeperView) (how : Status) (seat : Option Seated)
-    → IsCourseOf told.script told.world told.held course → Performs course old new b c how → RunGives course how seat
+    → IsCourseOf Whole told.script told.world told.held course → Performs course old new b c how → RunGives course how seat
     → Records (Some Run) told how (shown_as old new a c) seat
 run_records course told old new a b c status.Done seat is h gives = (course, is, h.0, gives)
 run_records course told old new a b c status.Usage seat is h gives = tt
@@ -85,7 +86,7 @@ race_is_given course shown status.BadTrace seat gives = gives
 
 -- behind a keeper that was asked for its text
 pub race_records : (course : Course) (told : Told) (old new : Option (List ℕ)) (a b c : KeeperView) (how : Status) (seat : Option Seated) → Took a b []
-    → IsCourseOf told.script told.world told.held course → RaceGives course (shown_as old new b c) how seat
+    → IsCourseOf Whole told.script told.world told.held course → RaceGives course (shown_as old new b c) how seat
     → Records (Some Race) told how (shown_as old new a c) seat
 race_records course told old new a b c status.Done seat asked is gives = (
   course,

@@ -3,14 +3,20 @@ use Rattle.std.proofs.Common.{◌≡◌, ℕ, ◌≤◌, Bool, true, false, ◌&
 use Rattle.std.specs.Prelude.{if◌then◌else◌, option_map}
 use Rattle.std.specs.Char.{is_ascii_digit}
 use Rattle.std.specs.List.{list_all}
+use Rattle.std.specs.Option.{option_map_or}
 use Rattle.std.specs.Str.Parse.{digits_value}
 use Rattle.std.proofs.lemmas.Bool.{leb-true}
 use Rattle.init_driver.proofs.Keepers.{took_nothing}
 use Rattle.init_driver.specs.Keeper.{KeeperView}
 use Rattle.init_driver.specs.Run.{report_of}
-use Rattle.command_line.specs.Form.{form_of}
+use Rattle.command_line.specs.Form.{form_of, form_with}
+use Rattle.command_line.specs.FormName.{form_named}
 use Rattle.command_line.specs.Services.{begins_number, services_in}
-use Rattle.command_line.specs.declared.form.Form.TheVariants.{Run, Race, Check, Audit, Soak}
+use Rattle.command_line.specs.declared.form.Form.{Form}
+use Rattle.command_line.specs.declared.form.Form.TheVariants as form
+use Rattle.command_line.specs.declared.form.Form.TheVariants.{Soak}
+use Rattle.command_line.specs.declared.form_name.FormName.{FormName}
+use Rattle.command_line.specs.declared.form_name.FormName.TheVariants as name
 use Rattle.job_reader.specs.Counts.{AreCounted, Counts, IsDoneUnlessRisen, counts_of}
 use Rattle.job_reader.specs.Endings.{IsRunStatus}
 use Rattle.job_reader.specs.Prepared.{IsFit, IsSetupOf, WritesText, course_of}
@@ -22,6 +28,7 @@ use Rattle.job_reader.specs.Texts.{Tree}
 use Rattle.job_reader.specs.Tree.{IsWorldOf, TreeSays}
 use Rattle.job_reader.specs.Tree.Purpose.{ToRun}
 use Rattle.job_reader.specs.declared.preparing.Job.{Job}
+use Rattle.job_reader.specs.declared.grammar.Grammar.TheVariants.{Whole}
 use Rattle.job_reader.specs.declared.status.Status.{Status}
 use Rattle.job_reader.specs.declared.status.Status.TheVariants as status
 use Rattle.job_reader.specs.declared.stop.Stop.{Stop}
@@ -75,7 +82,7 @@ soak_records services told old new a status.BadTrace seat h = tt
 
 -- a soak that isn't begun
 pub soak_refused : (why : Stop) (services : ℕ) (told : Told) (left old : Option (List ℕ)) → (why ≡ stop.ReadFault → ⊥) → IsRunStatus (status_of why)
-    → ScriptSays told.script left (status_of why) → TreeSays ToRun told.world (status_of why) → StoreSays told.held (status_of why)
+    → ScriptSays Whole told.script left (status_of why) → TreeSays ToRun told.world (status_of why) → StoreSays told.held (status_of why)
     → EndsSoak services told old old (status_of why) None
 soak_refused stop.ReadFault services told left old steady is script tree store = absurd (steady refl)
 soak_refused stop.NoMemory services told left old steady is script tree store = inl refl
@@ -83,7 +90,7 @@ soak_refused (stop.BadScript line) services told left old steady is script tree 
 soak_refused stop.NoInit services told left old steady is script tree store =
     (inr (script.0, inr (tree.policy, inl (tree.build_files, tree.absent))), refl)
 soak_refused (stop.TooLarge limit number) services told left old steady is script tree store =
-    (limit_refused told left limit number is script tree store, refl)
+    (limit_refused Whole told left limit number is script tree store, refl)
 soak_refused (stop.BadPolicy allow line) services told left old steady is script tree store = (inr (script.0, inl tree), refl)
 soak_refused (stop.BadStore line why) services told left old steady is script tree store =
     (inr (script.0, inr (tree.0, inr (tree.1, store))), refl)
@@ -99,7 +106,7 @@ summary_written services course tally old new how same writes =
 
 -- a course whose report was counted
 pub soak_performed : (services : ℕ) (course : Course) (told : Told) (old new : Option (List ℕ)) (how : Status) (seat : Option Seated)
-    → IsCourseOf told.script told.world told.held course → WritesText (soak_text services course) old new how → RunGives course how seat
+    → IsCourseOf Whole told.script told.world told.held course → WritesText (soak_text services course) old new how → RunGives course how seat
     → EndsSoak services told old new how seat
 soak_performed services course told old new status.Done seat is writes gives = (course, is, writes, gives)
 soak_performed services course told old new status.WriteFault seat is writes gives = (course, is, writes)
@@ -144,22 +151,22 @@ module _ (services : ℕ) (files : Tree) (bytes held : List ℕ) (left : Option 
       → (told : Told) → TellRun (generated_sources services) told → EndsSoak services told old new how seat
   boot_performed job old new how seat script setup store fit writes gives told tells =
       soak_performed services (course_of job) told old new how seat
-      (course_is job told.script told.world told.held fit (subst (λ (b : List ℕ). IsScript b job.script) (told_script told tells) script)
+      (course_is Whole job told.script told.world told.held fit (subst (λ (b : List ℕ). IsScript b job.script) (told_script told tells) script)
       (setup told.world (told_world told tells)) (subst (λ (h : List ℕ). IsStoreOf h job.setup.config.saved) (told_store told tells) store))
       writes gives
 
-  pub boot_refused : (why : Stop) (old : Option (List ℕ)) → (why ≡ stop.ReadFault → ⊥) → IsRunStatus (status_of why) → ScriptSays bytes left (status_of why)
+  pub boot_refused : (why : Stop) (old : Option (List ℕ)) → (why ≡ stop.ReadFault → ⊥) → IsRunStatus (status_of why) → ScriptSays Whole bytes left (status_of why)
       → ((world : World) → IsWorldOf (Some files) world → TreeSays ToRun world (status_of why)) → StoreSays held (status_of why)
       → (told : Told) → TellRun (generated_sources services) told → EndsSoak services told old old (status_of why) None
   boot_refused why old steady is script tree store told tells =
-      soak_refused why services told left old steady is (subst (λ (b : List ℕ). ScriptSays b left (status_of why)) (told_script told tells) script)
+      soak_refused why services told left old steady is (subst (λ (b : List ℕ). ScriptSays Whole b left (status_of why)) (told_script told tells) script)
       (tree told.world (told_world told tells)) (subst (λ (h : List ℕ). StoreSays h (status_of why)) (told_store told tells) store)
 
   -- a generated boot that can be run isn't refused
-  pub boot_done : (how : Status) (before now : Counts) → IsRunStatus how → ScriptSays bytes left how → ((world : World) → IsWorldOf (Some files) world → TreeSays ToRun world how)
+  pub boot_done : (how : Status) (before now : Counts) → IsRunStatus how → ScriptSays Whole bytes left how → ((world : World) → IsWorldOf (Some files) world → TreeSays ToRun world how)
       → StoreSays held how → AreCounted how before now → CanSoak services → IsDoneUnlessRisen how before now
   boot_done how before now is script tree store counted can =
-      complete_run how (generated_sources services) left can.world before now is (subst (λ (b : List ℕ). ScriptSays b left how) bytes_are script)
+      complete_run Whole how (generated_sources services) left can.world before now is (subst (λ (b : List ℕ). ScriptSays Whole b left how) bytes_are script)
       (tree can.world (subst (λ (t : Tree). IsWorldOf (Some t) can.world) (sym files_are) can.world_is)) (subst (λ (h : List ℕ). StoreSays h how) held_is store) counted can.can
 
 -- what is written of it is done, unless the sink's count rose
@@ -190,26 +197,53 @@ in_range : (word : List ℕ) (n : ℕ) → services_in word ≡ Some n → (1 �
 in_range word n e =
     numbered (begins_number word && list_all is_ascii_digit word) (nat_le 1 (digits_value 10 word)) (nat_le (digits_value 10 word) 1000) (digits_value 10 word) n refl refl e
 
-soak_found : (check soak : Bool) (found : Option ℕ) (n : ℕ) → (if check then Some Check else (if soak then option_map Soak found else None)) ≡ Some (Soak n) → found ≡ Some n
-soak_found true soak found n e = cc
-soak_found false true (Some m) n e = let same : m ≡ n = cc in ap (λ k. Some k) same
-soak_found false true None n e = cc
-soak_found false false found n e = cc
+soak_found : (b : Bool) (found : Option ℕ) (n : ℕ) → (if b then option_map Soak found else None) ≡ Some (Soak n) → found ≡ Some n
+soak_found true (Some m) n e = let same : m ≡ n = cc in ap (λ k. Some k) same
+soak_found true None n e = cc
+soak_found false found n e = cc
 
-no_soak : (run race : Bool) (n : ℕ) → (if run then Some Run else (if race then Some Race else None)) ≡ Some (Soak n) → ⊥
-no_soak true race n e = cc
-no_soak false true n e = cc
-no_soak false false n e = cc
+no_soak : (b : Bool) (form : Form) (n : ℕ) → (form ≡ Soak n → ⊥) → (if b then Some form else None) ≡ Some (Soak n) → ⊥
+no_soak true form n other e = other (cc e)
+no_soak false form n other e = cc
 
-no_soak_alone : (audit : Bool) (n : ℕ) → (if audit then Some Audit else None) ≡ Some (Soak n) → ⊥
-no_soak_alone true n e = cc
-no_soak_alone false n e = cc
+-- the words after the name of the form `soak` are such a number
+in_words : (name : FormName) (words : List (List ℕ)) (n : ℕ) → form_with words name ≡ Some (Soak n) → (1 ≤ n) × (n ≤ 1000)
+in_words name.Run [] n e = cc
+in_words name.Run (root ∷ []) n e = cc
+in_words name.Run (root ∷ script ∷ []) n e = absurd (no_soak _ form.Run n (λ d. cc) e)
+in_words name.Run (root ∷ script ∷ trace ∷ []) n e = cc
+in_words name.Run (root ∷ script ∷ trace ∷ more ∷ rest) n e = cc
+in_words name.Race [] n e = cc
+in_words name.Race (root ∷ []) n e = cc
+in_words name.Race (root ∷ script ∷ []) n e = absurd (no_soak _ form.Race n (λ d. cc) e)
+in_words name.Race (root ∷ script ∷ trace ∷ []) n e = cc
+in_words name.Race (root ∷ script ∷ trace ∷ more ∷ rest) n e = cc
+in_words name.Check [] n e = cc
+in_words name.Check (root ∷ []) n e = absurd (no_soak _ form.Check n (λ d. cc) e)
+in_words name.Check (root ∷ script ∷ []) n e = cc
+in_words name.Check (root ∷ script ∷ trace ∷ []) n e = cc
+in_words name.Check (root ∷ script ∷ trace ∷ more ∷ rest) n e = cc
+in_words name.Soak [] n e = cc
+in_words name.Soak (root ∷ []) n e = in_range root n (soak_found _ (services_in root) n e)
+in_words name.Soak (root ∷ script ∷ []) n e = cc
+in_words name.Soak (root ∷ script ∷ trace ∷ []) n e = cc
+in_words name.Soak (root ∷ script ∷ trace ∷ more ∷ rest) n e = cc
+in_words name.Dispatch [] n e = cc
+in_words name.Dispatch (root ∷ []) n e = cc
+in_words name.Dispatch (root ∷ script ∷ []) n e = absurd (no_soak _ form.Dispatch n (λ d. cc) e)
+in_words name.Dispatch (root ∷ script ∷ trace ∷ []) n e = cc
+in_words name.Dispatch (root ∷ script ∷ trace ∷ more ∷ rest) n e = cc
+in_words name.Audit [] n e = cc
+in_words name.Audit (root ∷ []) n e = cc
+in_words name.Audit (root ∷ script ∷ []) n e = cc
+in_words name.Audit (root ∷ script ∷ trace ∷ []) n e = absurd (no_soak _ form.Audit n (λ d. cc) e)
+in_words name.Audit (root ∷ script ∷ trace ∷ more ∷ rest) n e = cc
+
+in_named : (found : Option FormName) (words : List (List ℕ)) (n : ℕ) → option_map_or (form_with words) found None ≡ Some (Soak n) → (1 ≤ n) × (n ≤ 1000)
+in_named None words n e = cc
+in_named (Some name) words n e = in_words name words n e
 
 -- words of the form `soak` have such a number
 pub soak_in_range : (words : List (List ℕ)) (n : ℕ) → form_of words ≡ Some (Soak n) → (1 ≤ n) × (n ≤ 1000)
 soak_in_range [] n e = cc
-soak_in_range (word ∷ []) n e = cc
-soak_in_range (word ∷ given ∷ []) n e = in_range given n (soak_found _ _ (services_in given) n e)
-soak_in_range (word ∷ root ∷ script ∷ []) n e = absurd (no_soak _ _ n e)
-soak_in_range (word ∷ root ∷ script ∷ trace ∷ []) n e = absurd (no_soak_alone _ n e)
-soak_in_range (word ∷ root ∷ script ∷ trace ∷ more ∷ rest) n e = cc
+soak_in_range (word ∷ words) n e = in_named (form_named word) words n e

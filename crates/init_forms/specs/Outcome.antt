@@ -17,11 +17,13 @@ use Rattle.command_line.specs.declared.form.Form.{Form}
 use Rattle.command_line.specs.declared.form.Form.TheVariants as form
 use Rattle.job_reader.specs.Policy.{HasPolicy, IsBadPolicyAt, IsPolicyTooLarge}
 use Rattle.job_reader.specs.Run.{Course, IsCourseOf, due_of_course, run_text}
-use Rattle.job_reader.specs.Script.{HasScript}
+use Rattle.job_reader.specs.Script.{HasScript, IsBadIn}
 use Rattle.job_reader.specs.Store.{HasStore}
 use Rattle.job_reader.specs.Texts.{Tree}
 use Rattle.job_reader.specs.Trace.{IsNoTrace, IsTraceTooLarge}
 use Rattle.job_reader.specs.Tree.{AreBuildFilesShort, AreBuildFilesTooLarge, IsLoadOf, IsLoadable, IsWorldOf, PassesLimit}
+use Rattle.job_reader.specs.declared.grammar.Grammar.{Grammar}
+use Rattle.job_reader.specs.declared.grammar.Grammar.TheVariants.{Whole, Sets}
 use Rattle.job_reader.specs.declared.status.Status.{Status}
 use Rattle.job_reader.specs.declared.status.Status.TheVariants as status
 use Rattle.persist_file.specs.Causes.{IsUnfitAt}
@@ -29,9 +31,9 @@ use Rattle.rc_import.specs.Limits.{loaded as rc_files_of}
 use Rattle.rc_import.specs.Order.{root_file}
 use Rattle.rc_import.specs.World.{World}
 use Rattle.rc_import.specs.declared.loaded.LoadRefusal.{LoadRefusal}
-use Rattle.script_lang.specs.Refusal.{IsBadAt, IsTooLarge}
+use Rattle.script_lang.specs.Refusal.{IsTooLarge}
 use Rattle.trace_audit.specs.declared.verdict.Verdict.{Verdict}
-use Rattle.init_forms.specs.Racing.{CutsRace, IsAudited, WritesRace}
+use Rattle.init_forms.specs.Racing.{CutsRace, IsAudited, IsRelayedReport, WritesRace}
 use Rattle.init_forms.specs.Soaking.{generated_script, generated_tree, soak_text}
 use Rattle.init_forms.specs.Verdict.{IsVerdictOn, verdict_text}
 
@@ -63,22 +65,23 @@ pub record TellRun (sources : Sources) (told : Told) : Type 0 where
 abbrev pub generated_sources : ℕ → Sources
 generated_sources services = sources_of (Some (generated_script services)) (Some (generated_tree services)) (Some []) None
 
--- They tell what a form reads: a race what a run does, a check the tree alone, an audit what a run does and the trace, and words
+-- They tell what a form reads: a race and a dispatch what a run does, a check the tree alone, an audit what a run does and the trace, and words
 -- of no form nothing. What a soak reads is generated.
 abbrev pub Tell : Option Form → Sources → Told → Type 0
 Tell None sources told = ⊤
 Tell (Some form.Run) sources told = TellRun sources told
 Tell (Some form.Race) sources told = TellRun sources told
+Tell (Some form.Dispatch) sources told = TellRun sources told
 Tell (Some form.Check) sources told = IsWorldOf sources.tree told.world
 Tell (Some form.Audit) sources told = TellRun sources told × (sources.trace ≡ Some told.trace)
 Tell (Some (form.Soak services)) sources told = TellRun (generated_sources services) told
 
 -- ---- what each reader refuses, and with which status
 
-abbrev pub ScriptRefuses : List ℕ → Status → Type 0
-ScriptRefuses bytes (status.BadScript line) = IsBadAt bytes line
-ScriptRefuses bytes (status.TooLarge limit number) = IsTooLarge bytes limit number
-ScriptRefuses bytes _ = ⊥
+abbrev pub ScriptRefuses : Grammar → List ℕ → Status → Type 0
+ScriptRefuses g bytes (status.BadScript line) = IsBadIn g bytes line
+ScriptRefuses g bytes (status.TooLarge limit number) = IsTooLarge bytes limit number
+ScriptRefuses g bytes _ = ⊥
 
 abbrev pub PolicyRefuses : Tree → Status → Type 0
 PolicyRefuses tree (status.BadPolicy allow line) = IsBadPolicyAt tree allow line
@@ -103,11 +106,11 @@ StoreRefuses held (status.BadStore line why) = (length held ≤ 33554432) × IsU
 StoreRefuses held (status.TooLarge limit number) = (limit ≡ limits.StoreBytes) × (33554432 < length held) × (number ≡ 33554433)
 StoreRefuses held _ = ⊥
 
--- a run reads the script, the policy, the files and the store, and the first refusal ends it
-abbrev pub RunRefused : Told → Status → Type 0
-RunRefused told why =
-    ScriptRefuses told.script why
-    ⊎ (HasScript told.script × (PolicyRefuses told.world.tree why
+-- a run reads the script, by a grammar, the policy, the files and the store, and the first refusal ends it
+abbrev pub RunRefused : Grammar → Told → Status → Type 0
+RunRefused g told why =
+    ScriptRefuses g told.script why
+    ⊎ (HasScript g told.script × (PolicyRefuses told.world.tree why
     ⊎ (HasPolicy told.world.tree × (FilesRefuse told.world why
     ⊎ (IsLoadable told.world × StoreRefuses told.held why)))))
 
@@ -117,31 +120,36 @@ TraceRefuses trace (status.TooLarge limit number) = (limit ≡ limits.TraceBytes
 TraceRefuses trace _ = ⊥
 
 -- nothing of what a run reads is refused
-pub record CanBeRun (told : Told) : Type 0 where
-  pub script : HasScript told.script
+pub record CanBeRun (g : Grammar) (told : Told) : Type 0 where
+  pub script : HasScript g told.script
   pub policy : HasPolicy told.world.tree
   pub files : IsLoadable told.world
   pub store : HasStore told.held
 
 -- an audit reads what a run does, and then the trace
 abbrev pub AuditRefused : Told → Status → Type 0
-AuditRefused told why = RunRefused told why ⊎ (CanBeRun told × TraceRefuses told.trace why)
+AuditRefused told why = RunRefused Whole told why ⊎ (CanBeRun Whole told × TraceRefuses told.trace why)
 
 -- a verdict on the trace, by the course that is told
 pub record IsJudged (told : Told) (verdict : Verdict) : Type 0 where
   pub course : Course
-  pub course_is : IsCourseOf told.script told.world told.held course
+  pub course_is : IsCourseOf Whole told.script told.world told.held course
   pub said : IsVerdictOn course told.trace verdict
 
 -- the course that is told, and a report of it that the audit of traces answers Yes to
 pub record IsRaced (told : Told) (course : Course) (report : Report) : Type 0 where
-  pub course_is : IsCourseOf told.script told.world told.held course
+  pub course_is : IsCourseOf Whole told.script told.world told.held course
   pub audited : IsAudited course report
+
+-- the course that is told, of a script whose clients only set, and a report of it that one worker may have left
+pub record IsDispatched (told : Told) (course : Course) (report : Report) : Type 0 where
+  pub course_is : IsCourseOf Sets told.script told.world told.held course
+  pub relayed : IsRelayedReport course report
 
 -- ---- the outcome
 
 -- The words have no form; or nothing is begun, with this status; or these diagnostics are told; or this course is run; or it is
--- raced, with this report; or this is the verdict on the trace; or this course of a generated boot of so many services is run.
+-- raced or dispatched, with this report; or this is the verdict on the trace; or this course of a generated boot of so many services is run.
 pub data Outcome : Type 0 where
   Unformed : Outcome
   Refused : Status → Outcome
@@ -151,19 +159,22 @@ pub data Outcome : Type 0 where
   Judged : Verdict → Outcome
   Soaked : ℕ → Course → Outcome
 
--- What the words of a form come to, or words of none. A race comes to one of the reports that the order of its clients allows.
+-- What the words of a form come to, or words of none. A race, as a dispatch, comes to one of the reports that the order of its clients
+-- allows.
 abbrev pub ComesTo : Option Form → Told → Outcome → Type 0
 ComesTo None told Unformed = ⊤
-ComesTo (Some form.Run) told (Refused why) = RunRefused told why
-ComesTo (Some form.Run) told (Ran course) = IsCourseOf told.script told.world told.held course
-ComesTo (Some form.Race) told (Refused why) = RunRefused told why
+ComesTo (Some form.Run) told (Refused why) = RunRefused Whole told why
+ComesTo (Some form.Run) told (Ran course) = IsCourseOf Whole told.script told.world told.held course
+ComesTo (Some form.Race) told (Refused why) = RunRefused Whole told why
 ComesTo (Some form.Race) told (Raced course report) = IsRaced told course report
+ComesTo (Some form.Dispatch) told (Refused why) = RunRefused Sets told why
+ComesTo (Some form.Dispatch) told (Raced course report) = IsDispatched told course report
 ComesTo (Some form.Check) told (Refused why) = FilesRefuse told.world why
 ComesTo (Some form.Check) told (Checked diagnostics) = (config : Config) × IsLoadOf told.world config diagnostics
 ComesTo (Some form.Audit) told (Refused why) = AuditRefused told why
 ComesTo (Some form.Audit) told (Judged verdict) = IsJudged told verdict
-ComesTo (Some (form.Soak services)) told (Refused why) = RunRefused told why
-ComesTo (Some (form.Soak services)) told (Soaked given course) = (given ≡ services) × IsCourseOf told.script told.world told.held course
+ComesTo (Some (form.Soak services)) told (Refused why) = RunRefused Whole told why
+ComesTo (Some (form.Soak services)) told (Soaked given course) = (given ≡ services) × IsCourseOf Whole told.script told.world told.held course
 ComesTo form told outcome = ⊥
 
 abbrev pub status_of_outcome : Outcome → Status

@@ -16,7 +16,7 @@ use Rattle.property_area.specs.Seats.{Seated}
 use Rattle.rc_import.specs.World.{World}
 use Rattle.init_forms.specs.Outcome.{ComesTo, Ends, IsCut, Outcome, Shown, Sources, Tell, Told, shown_as, sources_of, status_of_outcome}
 use Rattle.init_forms.specs.Seats.{GivesSeat, Records}
-use Rattle.init_forms.specs.Top.{CanBeDone, CanSoak, IsAsBefore, ReadsScript}
+use Rattle.init_forms.specs.Top.{CanBeDone, CanSoak, IsAsBefore, ReadsScript, grammar_of}
 
 -- what the objects of a call show: the tree, what is left of the script and of the trace, the keeper, what the sink took, and the
 -- counts of faults of all of them
@@ -49,7 +49,7 @@ pub record Promise (asked : Option Form) (before after : Objects) (how : Status)
   -- and unless it was cut, its status is that of each outcome: a refusal comes exactly where its reader is the first that refuses
   pub only : (told : Told) → Tell asked (told_by before) told → (outcome : Outcome) → ComesTo asked told outcome
       → IsCut how ⊎ (how ≡ status_of_outcome outcome)
-  pub read : ReadsScript asked → IfSome before.script (λ bytes. ScriptSays bytes after.script how)
+  pub read : ReadsScript asked → IfSome before.script (λ bytes. ScriptSays (grammar_of asked) bytes after.script how)
   pub traced : asked ≡ Some form.Audit → IfSome before.trace (λ bytes. TraceSays bytes after.trace how)
   -- a run, a race or a soak that is done gives the seat of the area's writer, and no other call does; what the writer has recorded is
   -- the report that was written, or whose summary was
@@ -66,6 +66,7 @@ pub record Promise (asked : Option Form) (before after : Objects) (how : Status)
   pub of_check : asked ≡ Some form.Check → IsCheckStatus how
   pub of_run : asked ≡ Some form.Run → IsRunStatus how
   pub of_race : asked ≡ Some form.Race → IsRunStatus how
+  pub of_dispatch : asked ≡ Some form.Dispatch → IsRunStatus how
   pub of_soak : (services : ℕ) → asked ≡ Some (form.Soak services) → IsRunStatus how
   -- what is told and can be done is done, or memory runs out, unless a count rose
   pub complete : (world : World) → IsWorldOf before.tree world → CanBeDone asked (told_by before) world

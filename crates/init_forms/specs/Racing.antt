@@ -5,6 +5,7 @@ use Rattle.init_driver.specs.Keeper.{KeeperView, Risks, Took}
 use Rattle.init_driver.specs.declared.refusal.DriveRefusal.{DriveRefusal}
 use Rattle.init_driver.specs.declared.refusal.DriveRefusal.TheVariants as refusal
 use Rattle.init_machine.specs.declared.report.Report.{Report}
+use Rattle.init_dispatch.specs.Dispatched.{IsDispatched as IsDispatchedBy}
 use Rattle.init_race.specs.Race.{race_given}
 use Rattle.init_trace.specs.Report.{TextOf}
 use Rattle.init_trace.specs.Written.{TakesFront}
@@ -16,6 +17,10 @@ use Rattle.trace_audit.specs.Audited.{Audited}
 -- a report that the audit of traces answers Yes to
 abbrev pub IsAudited : Course → Report → Type 0
 IsAudited course report = Audited course.opening course.diagnostics course.script report
+
+-- a report that one worker may have left, behind which the sessions' sets stand in the order in which it took them
+abbrev pub IsRelayedReport : Course → Report → Type 0
+IsRelayedReport course report = IsDispatchedBy course.opening course.diagnostics course.script report
 
 -- the report's text is written whole, and the keeper took what the race gives it
 abbrev pub WritesRace : Course → Report → Option (List ℕ) → Option (List ℕ) → KeeperView → KeeperView → Type 0
@@ -39,15 +44,16 @@ CutsRace refusal.Write course report old new keeper kept = WritesFront course re
 CutsRace refusal.NoMemory course report old new keeper kept =
     WritesFront course report old new keeper kept ⊎ WritesNothing course report old new keeper kept
 
--- What the race of a course leaves: in the sink, and with the keeper. Memory may run out before there is a report.
-abbrev pub PerformsRace : Course → Option (List ℕ) → Option (List ℕ) → KeeperView → KeeperView → Status → Type 0
-PerformsRace course old new keeper kept status.Done =
-    (report : Report) × IsAudited course report × WritesRace course report old new keeper kept
-PerformsRace course old new keeper kept status.WriteFault =
-    (report : Report) × IsAudited course report × CutsRace refusal.Write course report old new keeper kept
-PerformsRace course old new keeper kept status.ReadFault =
-    (report : Report) × IsAudited course report × CutsRace refusal.Keeper course report old new keeper kept
-PerformsRace course old new keeper kept status.NoMemory =
+-- What a race or a dispatch of a course leaves, in the sink and with the keeper, by what a report of it is. Memory may run out before there
+-- is a report.
+abbrev pub PerformsRace : (Course → Report → Type 0) → Course → Option (List ℕ) → Option (List ℕ) → KeeperView → KeeperView → Status → Type 0
+PerformsRace Is course old new keeper kept status.Done =
+    (report : Report) × Is course report × WritesRace course report old new keeper kept
+PerformsRace Is course old new keeper kept status.WriteFault =
+    (report : Report) × Is course report × CutsRace refusal.Write course report old new keeper kept
+PerformsRace Is course old new keeper kept status.ReadFault =
+    (report : Report) × Is course report × CutsRace refusal.Keeper course report old new keeper kept
+PerformsRace Is course old new keeper kept status.NoMemory =
     ((new ≡ old) × Took keeper kept [])
-    ⊎ ((report : Report) × IsAudited course report × CutsRace refusal.NoMemory course report old new keeper kept)
-PerformsRace course old new keeper kept _ = ⊥
+    ⊎ ((report : Report) × Is course report × CutsRace refusal.NoMemory course report old new keeper kept)
+PerformsRace Is course old new keeper kept _ = ⊥

@@ -9,6 +9,7 @@ use Rattle.init_race.specs.Race.{HasRecorded as HasRecordedRace}
 use Rattle.command_line.specs.declared.form.Form.{Form}
 use Rattle.command_line.specs.declared.form.Form.TheVariants as form
 use Rattle.job_reader.specs.Run.{Course, IsCourseOf, run_text}
+use Rattle.job_reader.specs.declared.grammar.Grammar.TheVariants.{Whole}
 use Rattle.job_reader.specs.declared.status.Status.{Status}
 use Rattle.job_reader.specs.declared.status.Status.TheVariants as status
 use Rattle.property_area.specs.Seats.{Seated}
@@ -57,12 +58,12 @@ RaceGives course shown how seat = seat ≡ None
 -- the course that is told was run: its report is written, and recorded
 abbrev pub WritesRecorded : Told → Shown → Option Seated → Type 0
 WritesRecorded told shown seat =
-    (course : Course) × IsCourseOf told.script told.world told.held course × (shown.new ≡ append_known shown.old (run_text course)) × RecordsRun course seat
+    (course : Course) × IsCourseOf Whole told.script told.world told.held course × (shown.new ≡ append_known shown.old (run_text course)) × RecordsRun course seat
 
 -- the course of the generated boot was run: the summary of its report is written, and its report is recorded
 abbrev pub WritesSummary : ℕ → Told → Shown → Option Seated → Type 0
 WritesSummary services told shown seat =
-    (course : Course) × IsCourseOf told.script told.world told.held course × (shown.new ≡ append_known shown.old (soak_text services course))
+    (course : Course) × IsCourseOf Whole told.script told.world told.held course × (shown.new ≡ append_known shown.old (soak_text services course))
     × RecordsRun course seat
 
 -- the course that is told was raced: a report is written that the audit answers Yes to, and it is the one that is recorded

@@ -8,6 +8,8 @@ use Rattle.job_reader.specs.Store.{HasStore}
 use Rattle.job_reader.specs.Trace.{HasTrace}
 use Rattle.job_reader.specs.Tree.{IsFitFor, IsWorldOf}
 use Rattle.job_reader.specs.Tree.Purpose.{ToRun, ToCheck}
+use Rattle.job_reader.specs.declared.grammar.Grammar.{Grammar}
+use Rattle.job_reader.specs.declared.grammar.Grammar.TheVariants.{Whole, Sets}
 use Rattle.job_reader.specs.declared.status.Status.{Status}
 use Rattle.job_reader.specs.declared.status.Status.TheVariants as status
 use Rattle.rc_import.specs.World.{World}
@@ -28,9 +30,9 @@ IsAsBefore old new (status.BadPolicy allow line) before now = new ≡ old
 IsAsBefore old new (status.BadStore line why) before now = new ≡ old
 IsAsBefore old new status.BadTrace before now = new ≡ old
 
--- What is told can be run: the script's bytes are a script, the world can be run, and the text that the keeper holds is a store.
-pub record CanRun (sources : Sources) (world : World) : Type 0 where
-  pub script : IsSomeAnd sources.script HasScript
+-- What is told can be run: the script's bytes are a script by a grammar, the world can be run, and the text that the keeper holds is a store.
+pub record CanRun (g : Grammar) (sources : Sources) (world : World) : Type 0 where
+  pub script : IsSomeAnd sources.script (HasScript g)
   pub world_is_fit : IsFitFor ToRun world
   pub store : IsSomeAnd sources.held HasStore
 
@@ -38,16 +40,17 @@ pub record CanRun (sources : Sources) (world : World) : Type 0 where
 pub record CanSoak (services : ℕ) : Type 0 where
   pub world : World
   pub world_is : IsWorldOf (Some (generated_tree services)) world
-  pub can : CanRun (generated_sources services) world
+  pub can : CanRun Whole (generated_sources services) world
 
--- What is told can be done. A check asks for the world alone, a race for what a run does, and an audit for that and for a trace. A soak
+-- What is told can be done. A check asks for the world alone, a race for what a run does, a dispatch for that by a script whose clients only set, and an audit for that and for a trace. A soak
 -- reads nothing that is told.
 abbrev pub CanBeDone : Option Form → Sources → World → Type 0
 CanBeDone None sources world = ⊥
-CanBeDone (Some form.Run) sources world = CanRun sources world
-CanBeDone (Some form.Race) sources world = CanRun sources world
+CanBeDone (Some form.Run) sources world = CanRun Whole sources world
+CanBeDone (Some form.Race) sources world = CanRun Whole sources world
+CanBeDone (Some form.Dispatch) sources world = CanRun Sets sources world
 CanBeDone (Some form.Check) sources world = IsFitFor ToCheck world
-CanBeDone (Some form.Audit) sources world = CanRun sources world × IsSomeAnd sources.trace HasTrace
+CanBeDone (Some form.Audit) sources world = CanRun Whole sources world × IsSomeAnd sources.trace HasTrace
 CanBeDone (Some (form.Soak services)) sources world = ⊥
 
 -- a form that reads a script
@@ -55,6 +58,12 @@ abbrev pub ReadsScript : Option Form → Type 0
 ReadsScript None = ⊥
 ReadsScript (Some form.Run) = ⊤
 ReadsScript (Some form.Race) = ⊤
+ReadsScript (Some form.Dispatch) = ⊤
 ReadsScript (Some form.Check) = ⊥
 ReadsScript (Some form.Audit) = ⊤
 ReadsScript (Some (form.Soak services)) = ⊥
+
+-- the grammar of the script that a form reads
+abbrev pub grammar_of : Option Form → Grammar
+grammar_of (Some form.Dispatch) = Sets
+grammar_of asked = Whole

@@ -17,12 +17,13 @@ ghost use Rattle.job_reader.specs.Store.{StoreSays};
 ghost use Rattle.job_reader.specs.Trace.{TraceSays};
 ghost use Rattle.job_reader.specs.Tree.{IsWorldOf, TreeSays};
 ghost use Rattle.job_reader.specs.Tree.Purpose.{ToRun};
+ghost use Rattle.job_reader.specs.declared.grammar.Grammar.TheVariants.{Whole};
 ghost use Rattle.rc_import.specs.World.{World};
 
 use crate::verdict::write_verdict;
 use init_base::{Files, Keeper, Sink, Source};
 use init_driver::Setup;
-use job_reader::{Job, Status, Stop, prepare, read_trace};
+use job_reader::{Grammar, Job, Status, Stop, prepare, read_trace};
 use std::alloc::Global;
 use trace_audit::{Verdict, audit_text};
 
@@ -62,7 +63,7 @@ fn judge<F: Files, S: Source, T: Source, P: Keeper>(
     trace: &mut T,
     keeper: &mut P,
 ) -> Result<Verdict, Stop>
-    ensures script { IfSome (S.left script.old) (λ bytes. ScriptSays bytes (S.left script.new) (ending_of result)) }
+    ensures script { IfSome (S.left script.old) (λ bytes. ScriptSays Whole bytes (S.left script.new) (ending_of result)) }
     ensures tree { (world : World) → IsWorldOf (F.tree files.old) world → TreeSays ToRun world (ending_of result) }
     ensures store { IfSome (P.held keeper.old) (λ held. StoreSays held (ending_of result)) }
     ensures trace { IfSome (T.left trace.old) (λ bytes. TraceSays bytes (T.left trace.new) (ending_of result)) }
@@ -75,7 +76,7 @@ fn judge<F: Files, S: Source, T: Source, P: Keeper>(
         (counts_of (F.fault_count files.old) (S.fault_count script.old) (T.fault_count trace.old) (P.fault_count keeper.old) out)
         (counts_of (F.fault_count files.new) (S.fault_count script.new) (T.fault_count trace.new) (P.fault_count keeper.new) out) }
 {
-    let job = prepare(alloc, files, script, keeper)?;
+    let job = prepare(alloc, Grammar::Whole, files, script, keeper)?;
     judge_trace(alloc, job, trace)
 }
 
@@ -88,7 +89,7 @@ pub fn audit_trace<F: Files, S: Source, T: Source, P: Keeper, K: Sink>(
     keeper: &mut P,
     out: &mut K,
 ) -> Status
-    ensures script { IfSome (S.left script.old) (λ bytes. ScriptSays bytes (S.left script.new) result) }
+    ensures script { IfSome (S.left script.old) (λ bytes. ScriptSays Whole bytes (S.left script.new) result) }
     ensures tree { (world : World) → IsWorldOf (F.tree files.old) world → TreeSays ToRun world result }
     ensures store { IfSome (P.held keeper.old) (λ held. StoreSays held result) }
     ensures trace { IfSome (T.left trace.old) (λ bytes. TraceSays bytes (T.left trace.new) result) }

@@ -5,7 +5,7 @@ ghost use Rattle.init_driver.specs.Keeper.{seen_by};
 ghost use Rattle.init_trace.specs.Report.{TextOf};
 ghost use Rattle.command_line.specs.declared.form.Form.TheVariants as Form;
 ghost use Rattle.init_forms.specs.Outcome.{Ends, TellRun, Told, shown_as, sources_of};
-ghost use Rattle.init_forms.specs.Racing.{PerformsRace};
+ghost use Rattle.init_forms.specs.Racing.{IsAudited, PerformsRace};
 ghost use Rattle.init_forms.specs.Seats.{GivesOwn, GivesSeat, RaceGives, Records};
 ghost use Rattle.init_forms.specs.Top.{IsAsBefore};
 ghost use Rattle.job_reader.specs.Counts.{AreCounted, counts_of};
@@ -15,31 +15,17 @@ ghost use Rattle.job_reader.specs.Script.{ScriptSays};
 ghost use Rattle.job_reader.specs.Store.{StoreSays};
 ghost use Rattle.job_reader.specs.Tree.{IsWorldOf, TreeSays};
 ghost use Rattle.job_reader.specs.Tree.Purpose.{ToRun};
+ghost use Rattle.job_reader.specs.declared.grammar.Grammar.TheVariants.{Whole};
 ghost use Rattle.rc_import.specs.World.{World};
 
-use init_base::{Files, IoRefusal, Keeper, Sink, Source};
-use init_machine::Report;
+use crate::reports::write_report;
+use init_base::{Files, Keeper, Sink, Source};
 use init_race::{Gate, RaceRefusal, Raced, race};
-use init_trace::print;
-use job_reader::{Job, Status, prepare};
+use job_reader::{Grammar, Job, Status, prepare};
 use property_area::WriterSeat;
 use std::alloc::Global;
 use std::sync::Wait;
 use std::thread::Threads;
-
-/// Writes the text of a report.
-fn write_report<K: Sink>(alloc: Global, report: &Report, out: &mut K) -> Status
-    ensures writes { WritesText (TextOf report.now) (K.taken out.old) (K.taken out.new) result }
-    ensures counts { (files script trace keeper : ℕ) → AreCounted result
-        (counts_of files script trace keeper (K.fault_count out.old))
-        (counts_of files script trace keeper (K.fault_count out.new)) }
-{
-    match print(alloc, report, out) {
-        Ok(()) => Status::Done,
-        Err(IoRefusal::Failed) => Status::WriteFault,
-        Err(IoRefusal::NoMemory) => Status::NoMemory,
-    }
-}
 
 /// Writes the report of a race, and gives the seat of its area's writer where it is written whole.
 fn write_raced<K: Sink>(alloc: Global, raced: Raced, out: &mut K) -> (Status, Option<WriterSeat>)
@@ -67,7 +53,7 @@ fn perform_race<R: Threads + Wait + Sync, P: Keeper, K: Sink, G: Gate>(
 ) -> (Status, Option<WriterSeat>)
     requires { IsFit job }
     ensures leaves { let seen = seen_by P.held P.TellsCrash P.moment P.MayLeave in
-        PerformsRace (course_of job) (K.taken out.old) (K.taken out.new) (seen keeper.old) (seen keeper.new) result.0 }
+        PerformsRace IsAudited (course_of job) (K.taken out.old) (K.taken out.new) (seen keeper.old) (seen keeper.new) result.0 }
     ensures seat { let seen = seen_by P.held P.TellsCrash P.moment P.MayLeave in
         RaceGives (course_of job) (shown_as (K.taken out.old) (K.taken out.new) (seen keeper.old) (seen keeper.new)) result.0 result.1 }
     ensures counts { (files script trace : ℕ) → AreCounted result.0
@@ -92,7 +78,7 @@ pub fn race_script<R: Threads + Wait + Sync, F: Files, S: Source, P: Keeper, K: 
     out: &mut K,
     gate: &G,
 ) -> (Status, Option<WriterSeat>)
-    ensures script { IfSome (S.left script.old) (λ bytes. ScriptSays bytes (S.left script.new) result.0) }
+    ensures script { IfSome (S.left script.old) (λ bytes. ScriptSays Whole bytes (S.left script.new) result.0) }
     ensures tree { (world : World) → IsWorldOf (F.tree files.old) world → TreeSays ToRun world result.0 }
     ensures store { IfSome (P.held keeper.old) (λ held. StoreSays held result.0) }
     ensures ends { let seen = seen_by P.held P.TellsCrash P.moment P.MayLeave in
@@ -111,7 +97,7 @@ pub fn race_script<R: Threads + Wait + Sync, F: Files, S: Source, P: Keeper, K: 
     ensures unkept { IsAsBefore (P.held keeper.old) (P.held keeper.new) result.0 (P.fault_count keeper.old) (P.fault_count keeper.new) }
     ensures formed { IsRunStatus result.0 }
 {
-    match prepare(alloc, files, script, keeper) {
+    match prepare(alloc, Grammar::Whole, files, script, keeper) {
         Ok(job) => perform_race(rt, alloc, job, keeper, out, gate),
         Err(stop) => (stop.status(), None),
     }

@@ -18,7 +18,7 @@ ghost use Rattle.soak_summary.specs.Summary.{SummaryText};
 use init_base::{IoRefusal, List, NoMemory, Sink, SteadyFiles, SteadyKeeper, SteadySource, Text};
 use init_driver::count;
 use init_trace::send;
-use job_reader::{Job, Status, prepare};
+use job_reader::{Grammar, Job, Status, prepare};
 use property_area::WriterSeat;
 use script_lang::{Generated, generate};
 use soak_summary::Summary;
@@ -147,7 +147,7 @@ fn soak_boot<K: Sink>(
         (counts_of files script trace keeper (K.fault_count out.old))
         (counts_of files script trace keeper (K.fault_count out.new)) }
 {
-    match prepare(alloc, &mut boot.files, &mut boot.script, &mut boot.keeper) {
+    match prepare(alloc, Grammar::Whole, &mut boot.files, &mut boot.script, &mut boot.keeper) {
         Ok(job) => perform_soak(alloc, services, job, out),
         Err(stop) => (stop.status(), None),
     }

@@ -17,9 +17,11 @@ ghost use Rattle.job_reader.specs.Script.{ScriptSays};
 ghost use Rattle.job_reader.specs.Store.{StoreSays};
 ghost use Rattle.job_reader.specs.Tree.{IsWorldOf, TreeSays};
 ghost use Rattle.job_reader.specs.Tree.Purpose.{ToCheck, ToRun};
+ghost use Rattle.job_reader.specs.declared.grammar.Grammar.TheVariants.{Whole};
 ghost use Rattle.rc_import.specs.World.{World};
 
 use crate::auditing::audit_trace;
+use crate::dispatching::dispatch_script;
 use crate::racing::race_script;
 use crate::soaking::soak;
 use command_line::{Form, WordsRefusal, read_words};
@@ -28,7 +30,7 @@ use init_driver::{DriveRefusal, run};
 use init_machine::Diagnostic;
 use init_race::Gate;
 use init_trace::print_diagnostics;
-use job_reader::{Job, Status, diagnose, prepare};
+use job_reader::{Grammar, Job, Status, diagnose, prepare};
 use property_area::WriterSeat;
 use std::alloc::Global;
 use std::sync::Wait;
@@ -65,7 +67,7 @@ fn run_script<F: Files, S: Source, P: Keeper, K: Sink>(
     keeper: &mut P,
     out: &mut K,
 ) -> (Status, Option<WriterSeat>)
-    ensures script { IfSome (S.left script.old) (λ bytes. ScriptSays bytes (S.left script.new) result.0) }
+    ensures script { IfSome (S.left script.old) (λ bytes. ScriptSays Whole bytes (S.left script.new) result.0) }
     ensures tree { (world : World) → IsWorldOf (F.tree files.old) world → TreeSays ToRun world result.0 }
     ensures store { IfSome (P.held keeper.old) (λ held. StoreSays held result.0) }
     ensures ends { let seen = seen_by P.held P.TellsCrash P.moment P.MayLeave in
@@ -84,7 +86,7 @@ fn run_script<F: Files, S: Source, P: Keeper, K: Sink>(
     ensures unkept { IsAsBefore (P.held keeper.old) (P.held keeper.new) result.0 (P.fault_count keeper.old) (P.fault_count keeper.new) }
     ensures formed { IsRunStatus result.0 }
 {
-    match prepare(alloc, files, script, keeper) {
+    match prepare(alloc, Grammar::Whole, files, script, keeper) {
         Ok(job) => perform(alloc, job, keeper, out),
         Err(stop) => (stop.status(), None),
     }
@@ -128,24 +130,26 @@ fn check<F: Files, K: Sink>(alloc: Global, files: &mut F, out: &mut K) -> Status
 /// the first refusal ends it. Then it runs the documented machine, and writes the text of the report entry by entry: the
 /// diagnostics of the tree, the one legal history of the script's inputs, and what the clients read. `race ROOT SCRIPT` reads
 /// the same, and runs the machine with the main actor and each client on a thread of its own. Then it writes the text of a
-/// report that the audit answers Yes to: some order of all requests, which keeps each actor's own, is its history. `check ROOT`
+/// report that the audit answers Yes to: some order of all requests, which keeps each actor's own, is its history. `dispatch ROOT SCRIPT` reads the same, of a script whose clients
+/// only set. The machine takes the boot and the main actor's inputs, and then one worker serves all clients' sets, which sessions on threads
+/// push into a queue; its report is so too, with the main actor's entries first. `check ROOT`
 /// reads the build files and the rc files alone, and writes their diagnostics. `audit ROOT SCRIPT TRACE` reads what a run
 /// reads, and then the trace, and writes whether the machine can have written it, or what is wrong in it first. `soak N` reads
 /// nothing: it generates a tree and a script of so many services, runs them as `run` does with a store that isn't kept, and writes
 /// the summary of the report in its place.
 ///
 /// How the call ends is said of what is told: the status, what the sink took, and what the keeper holds, or may leave after a
-/// crash, are those of an outcome that words, script, tree, store and trace come to, the only one but with `race`; unless a
+/// crash, are those of an outcome that words, script, tree, store and trace come to, the only one but with `race` and `dispatch`; unless a
 /// count of faults rose, or memory ran out: then nothing is written, or a prefix of the outcome's text, and the keeper stands
-/// as at the last entry that is written whole, or at the next one. In a race the keeper is given its text before anything is
+/// as at the last entry that is written whole, or at the next one. In a race, as in a dispatch, the keeper is given its text before anything is
 /// written, so nothing is where it fails. A refusal is that of a reader which refuses what is told, where those before it don't.
 /// (`Promise` of `specs/Promise.antt` has these sentences, and what holds where nothing is told.)
 ///
 /// A run, a race or a soak that is done gives the seat of the area's writer, which has recorded the report that was written, or whose
 /// summary was. A check leaves the script and the keeper alone, and a soak all but the sink; no form but `audit` touches the trace.
 ///
-/// With `race` alone the call may wait, and the clauses hold if it returns. `rt` makes its threads, and each actor passes `gate`
-/// before and after each of its inputs and requests. The parameters are all that the program has of the system, each by itself, so
+/// With `race` and `dispatch` alone the call may wait, and the clauses hold if it returns. `rt` makes its threads, and each actor of a
+/// race passes `gate` before and after each of its inputs and requests. The parameters are all that the program has of the system, each by itself, so
 /// that the clauses say of each what it gave or took.
 pub fn initsim<
     R: Threads + Wait + Sync,
@@ -183,6 +187,7 @@ pub fn initsim<
     match read_words(alloc, words) {
         Ok(Form::Run) => run_script(alloc, files, script, keeper, out),
         Ok(Form::Race) => race_script(rt, alloc, files, script, keeper, out, gate),
+        Ok(Form::Dispatch) => (dispatch_script(rt, alloc, files, script, keeper, out), None),
         Ok(Form::Check) => (check(alloc, files, out), None),
         Ok(Form::Audit) => (audit_trace(alloc, files, script, trace, keeper, out), None),
         Ok(Form::Soak { services }) => soak(alloc, services, out),

@@ -8,7 +8,8 @@ use Rattle.init_machine.specs.declared.report.ClientPart.{ClientPart}
 use Rattle.property_area.specs.Seats.{Seated}
 use Rattle.property_service.specs.Ending.{HasItsPart, HasReader}
 use Rattle.script_lang.specs.declared.script.Script.{Script}
-use Rattle.init_race.specs.internal.Ended.{AreAll, ComeBack, readers_of}
+use Rattle.init_race.specs.internal.Ended.{ComeBack, readers_of}
+use Rattle.init_race.specs.Race.{AreAll}
 use Rattle.init_race.specs.Seating.{AllSeated, EachSeated}
 use Rattle.init_race.specs.Threads.{EachThrough}
 use Rattle.init_race.specs.declared.actors.Acted.{Acted}

@@ -13,5 +13,6 @@ mod threads;
 
 pub use actors::{Acted, Stage};
 pub use gate::{Gate, OpenGate, Point};
-pub use racing::{Raced, race};
+pub use racing::{Ended, Raced, end_with, leave, race};
 pub use refusal::RaceRefusal;
+pub use seating::boot;

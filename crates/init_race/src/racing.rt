@@ -5,16 +5,18 @@ ghost use Rattle.init_base.specs.Faults.{Counted};
 ghost use Rattle.init_core.specs.Core.{opening_of};
 ghost use Rattle.init_driver.specs.Keeper.{seen_by};
 ghost use Rattle.init_driver.specs.Run.{AsksAreMet};
+ghost use Rattle.init_machine.specs.State.{Opening};
 ghost use Rattle.init_machine.specs.WellFormed.{IsWellFormed};
-ghost use Rattle.init_race.specs.internal.Ended.{AreAll, ComeBack, next_part, readers_of, told_to};
+ghost use Rattle.init_race.specs.internal.Ended.{ComeBack, next_part, readers_of, told_to};
 ghost use Rattle.init_race.specs.Keeping.{Gives, given_behind, has_failed, stored_in};
-ghost use Rattle.init_race.specs.Race.{AreRaced, HasEnded, HasRecorded, KeepsRace};
+ghost use Rattle.init_race.specs.Race.{AreAll, AreRaced, HasEnded, HasRecorded, IsReportOf, KeepsRace, KeepsReport};
 ghost use Rattle.init_race.specs.Threads.{MayAct};
 ghost use Rattle.machine_laws.specs.Saved.{has_stored};
 ghost use Rattle.machine_laws.specs.Saved as spec;
 ghost use Rattle.persist_file.specs.Store.{are_saved, are_typed, store_text};
 ghost use Rattle.property_area.specs.Area.{begins};
 ghost use Rattle.property_area.specs.Seats.{Seated};
+ghost use Rattle.script_lang.specs.declared.script.Script.{Script as Acts};
 ghost use Rattle.trace_audit.specs.Audited.{Audited};
 
 use crate::actors::{Acted, Stage};
@@ -44,9 +46,9 @@ pub struct Raced {
 
 /// What the actors leave.
 #[derive(Drop)]
-struct Ended {
-    finished: Finished,
-    parts: List<ClientPart>,
+pub struct Ended {
+    pub finished: Finished,
+    pub parts: List<ClientPart>,
 }
 
 /// Takes the actors apart: the readers of all, and what each client was told.
@@ -92,7 +94,8 @@ fn part_off(
 fn end<N: AreaName>(service: Service<'_, N>, readers: List<Reader>) -> Result<Finished, NoMemory>
     requires area { All (λ (reader : Seated). reader.table ≡ N.area) readers }
     requires all { AreAll readers }
-    ensures { IfOk result (HasEnded readers) }
+    ensures ended { IfOk result (HasEnded readers) }
+    ensures history { IfOk result (λ finished. finished.history ≡ service.entry.history) }
 {
     match service.finish(readers) {
         Ok(finished) => Ok(finished),
@@ -155,13 +158,14 @@ fn run_actors<N: AreaName + Send + Sync, R: Threads + Wait + Sync, G: Gate>(
 }
 
 /// The service ends, once the actors came back.
-fn end_with<N: AreaName>(
+pub fn end_with<N: AreaName>(
     service: Service<'_, N>,
     came: Result<(List<Reader>, List<ClientPart>), NoMemory>,
 ) -> Result<Ended, NoMemory>
     requires area { IfOk came (λ back. All (λ (reader : Seated). reader.table ≡ N.area) back.0) }
     requires all { IfOk came (λ back. AreAll back.0) }
-    ensures { IfOk result (λ ended. IsOkAnd came (λ back. HasEnded back.0 ended.finished × (ended.parts ≡ back.1))) }
+    ensures ended { IfOk result (λ ended. IsOkAnd came (λ back. HasEnded back.0 ended.finished × (ended.parts ≡ back.1))) }
+    ensures history { IfOk result (λ ended. ended.finished.history ≡ service.entry.history) }
 {
     match came {
         Ok((readers, parts)) => {
@@ -299,6 +303,36 @@ fn is_stored(output: &Output) -> bool
     matches!(output, Output::Stored { .. })
 }
 
+/// What is left once the service has ended. If a property was stored, the keeper is given the text of the saved pairs, and then the
+/// report is made. `Keeper` comes only if the keeper's count of faults rose.
+pub fn leave<P: Keeper>(
+    alloc: Global,
+    found: List<Diagnostic>,
+    ended: Result<Ended, NoMemory>,
+    keeper: &mut P,
+) -> Result<Raced, RaceRefusal>
+    requires { (o : Opening) × (script : Acts) × IsWellFormed o.config × IfOk ended (λ e. AreRaced o script e.finished e.parts) }
+    ensures report { IfOk result (λ raced. IsReportOf found ended raced.report) }
+    ensures raced { (o : Opening) (script : Acts) → IfOk ended (λ e. AreRaced o script e.finished e.parts)
+        → IfOk result (λ raced. Audited o found script raced.report) }
+    ensures seat { (o : Opening) (script : Acts) → IfOk ended (λ e. AreRaced o script e.finished e.parts)
+        → IfOk result (λ raced. HasRecorded o raced.report.history raced.report.clients raced.seat.view) }
+    ensures kept { (o : Opening) (script : Acts) → IfOk ended (λ e. AreRaced o script e.finished e.parts)
+        → let seen = seen_by P.held P.TellsCrash P.moment P.MayLeave in
+        KeepsReport o (λ report. IsReportOf found ended report) result (seen keeper.old) (seen keeper.new) }
+    ensures cause { Counted (has_failed result) (P.fault_count keeper.old) (P.fault_count keeper.new) }
+{
+    let (found, ended) = both(found, ended)?;
+    match keep(alloc, &ended.finished, keeper) {
+        Ok(()) => Ok(raced_of(found, ended)),
+        Err(why) => {
+            drop(found);
+            drop(ended);
+            Err(why)
+        }
+    }
+}
+
 /// Runs a script with its main actor and each client on a thread of its own, beside each other: takes the boot, and then
 /// whatever comes first of what the actors ask, each actor's inputs and requests in its own order.
 ///
@@ -331,13 +365,5 @@ pub fn race<R: Threads + Wait + Sync, P: Keeper, G: Gate>(
         diagnostics,
     } = setup;
     let ended = run_in_area(rt, alloc, (config, policy), script, gate);
-    let (diagnostics, ended) = both(diagnostics, ended)?;
-    match keep(alloc, &ended.finished, keeper) {
-        Ok(()) => Ok(raced_of(diagnostics, ended)),
-        Err(why) => {
-            drop(diagnostics);
-            drop(ended);
-            Err(why)
-        }
-    }
+    leave(alloc, diagnostics, ended, keeper)
 }

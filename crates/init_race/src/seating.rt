@@ -1,6 +1,7 @@
 //! The actors get their readers.
 
-ghost use Rattle.std.specs.Prelude.{◌≡◌, ◌≤◌, ◌+◌, ◌==◌, ℕ, [], IfOk, OnOk, length, false};
+ghost use Rattle.std.specs.Prelude.{◌≡◌, ◌≤◌, ◌+◌, ◌==◌, ◌∷◌, ℕ, [], IfOk, OnOk, length, false};
+ghost use Rattle.init_machine.specs.History.{inputs_of};
 ghost use Rattle.init_race.specs.Seating.{AllSeated, AreSeated, EachSeated, IsBooted};
 ghost use Rattle.property_service.specs.Service.{has_seat};
 
@@ -12,10 +13,11 @@ use script_lang::Client;
 use std::alloc::Global;
 
 /// The main actor's reader, with which the boot was asked first of all.
-pub(crate) fn boot<N: AreaName>(service: &mut Service<'_, N>) -> Result<Reader, NoMemory>
+pub fn boot<N: AreaName>(service: &mut Service<'_, N>) -> Result<Reader, NoMemory>
     requires nobody { (who : ℕ) → has_seat service.old.seat who ≡ false }
     requires empty { service.old.history ≡ [] }
     ensures opening { OnOk result (service.new.opening ≡ service.old.opening) }
+    ensures history { OnOk result (inputs_of service.new.history ≡ Input.Boot ∷ []) }
     ensures seats { OnOk result ((who : ℕ) → has_seat service.new.seat who ≡ (0 == who)) }
     ensures reader { IfOk result (λ reader. (reader.table ≡ N.area) × IsBooted service.old.opening reader.view) }
 {

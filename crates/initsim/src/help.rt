@@ -22,15 +22,20 @@ Runs Android's init over a modelled kernel, and writes command by command what i
     writes          the mistakes to standard output
     for example     initsim check examples/diagnostics/tree
 
-  audit ROOT SCRIPT TRACE   says whether a run of the tree and SCRIPT can have written TRACE, and if not, what is wrong first
-    reads           what run reads, and TRACE
-    writes          yes, or no WHY NUMBER, to standard output
-    for example     initsim audit examples/device/tree examples/device/script examples/device/stdout
-
   soak N            boots a made-up tree of N services, from 1 to 1000, and does what a made-up script says: to try the program
     reads           nothing
     writes          how much there was to do, to standard output
     for example     initsim soak 3
+
+  dispatch ROOT SCRIPT   the same as run, with init's part first, and then one worker that serves all clients' sets
+    reads           what run reads; the clients of SCRIPT may only set
+    writes          what race writes, without readings
+    for example     initsim dispatch examples/dispatch/tree examples/dispatch/script
+
+  audit ROOT SCRIPT TRACE   says whether a run of the tree and SCRIPT can have written TRACE, and if not, what is wrong first
+    reads           what run reads, and TRACE
+    writes          yes, or no WHY NUMBER, to standard output
+    for example     initsim audit examples/device/tree examples/device/script examples/device/stdout
 
 ROOT is the folder that holds system/etc/init/hw/init.rc; tools/take-product makes one from a product's build.
 The rc files are those of /system, /system_ext, /vendor, /odm and /product (etc/init) with what they import, the

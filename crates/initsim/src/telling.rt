@@ -21,7 +21,7 @@ fn tell_status(rt: &HostRuntime, status: Status) -> std::io::Result<()> {
     match status {
         Status::Done => Ok(()),
         Status::Usage => eprintln!(rt;
-            "initsim: usage: run ROOT SCRIPT | race ROOT SCRIPT | check ROOT | soak N | audit ROOT SCRIPT TRACE"
+            "initsim: usage: run ROOT SCRIPT | race ROOT SCRIPT | check ROOT | soak N | dispatch ROOT SCRIPT | audit ROOT SCRIPT TRACE"
         ),
         Status::ReadFault => eprintln!(rt; "initsim: read fault"),
         Status::WriteFault => eprintln!(rt; "initsim: write fault"),
@@ -98,8 +98,9 @@ fn tell_count(rt: &HostRuntime, form: FormName, given: usize) -> std::io::Result
         FormName::Run => "run takes 2 words",
         FormName::Race => "race takes 2 words",
         FormName::Check => "check takes 1 word",
-        FormName::Audit => "audit takes 3 words",
         FormName::Soak => "soak takes 1 word",
+        FormName::Dispatch => "dispatch takes 2 words",
+        FormName::Audit => "audit takes 3 words",
     };
     match given {
         0 => eprintln!(rt; "initsim: {taken}, and none is given"),

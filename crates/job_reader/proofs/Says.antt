@@ -12,6 +12,7 @@ use Rattle.job_reader.specs.Store.{HasStore, StoreLimitSays, StoreSays}
 use Rattle.job_reader.specs.Trace.{TraceLimitSays, TraceSays}
 use Rattle.job_reader.specs.Tree.{AreRcFilesTooLarge, HasNoRoot, IsFitFor, IsTreeTooLarge, Purpose, TreeLimitSays, TreeSays}
 use Rattle.job_reader.specs.Tree.Purpose.{ToRun, ToCheck}
+use Rattle.job_reader.specs.declared.grammar.Grammar.{Grammar}
 use Rattle.job_reader.specs.declared.stop.Stop.{Stop}
 use Rattle.job_reader.specs.declared.stop.Stop.TheVariants as stop
 
@@ -71,28 +72,28 @@ of_check (stop.BadPolicy allow line) is = tt
 of_check (stop.BadStore line why) is = absurd is
 of_check stop.BadTrace is = absurd is
 
-tree_limit_script : (bytes : List ℕ) (left : Option (List ℕ)) (limit : Limit) (number : ℕ)
-    → IsTreeLimit limit → IsReadWhole bytes left → ScriptLimitSays bytes left limit number
-tree_limit_script bytes left limits.ScriptBytes number is read = absurd is
-tree_limit_script bytes left limits.ScriptLines number is read = absurd is
-tree_limit_script bytes left limits.Steps number is read = absurd is
-tree_limit_script bytes left limits.FileBytes number is read = read
-tree_limit_script bytes left limits.Files number is read = read
-tree_limit_script bytes left limits.Names number is read = read
-tree_limit_script bytes left limits.RcBytes number is read = read
-tree_limit_script bytes left limits.StoreBytes number is read = absurd is
-tree_limit_script bytes left limits.TraceBytes number is read = absurd is
+tree_limit_script : (g : Grammar) (bytes : List ℕ) (left : Option (List ℕ)) (limit : Limit) (number : ℕ)
+    → IsTreeLimit limit → IsReadWhole g bytes left → ScriptLimitSays g bytes left limit number
+tree_limit_script g bytes left limits.ScriptBytes number is read = absurd is
+tree_limit_script g bytes left limits.ScriptLines number is read = absurd is
+tree_limit_script g bytes left limits.Steps number is read = absurd is
+tree_limit_script g bytes left limits.FileBytes number is read = read
+tree_limit_script g bytes left limits.Files number is read = read
+tree_limit_script g bytes left limits.Names number is read = read
+tree_limit_script g bytes left limits.RcBytes number is read = read
+tree_limit_script g bytes left limits.StoreBytes number is read = absurd is
+tree_limit_script g bytes left limits.TraceBytes number is read = absurd is
 
-pub tree_stop_script : (bytes : List ℕ) (left : Option (List ℕ)) (why : Stop)
-    → IsOfTree why → IsReadWhole bytes left → ScriptSays bytes left (status_of why)
-tree_stop_script bytes left stop.ReadFault is read = tt
-tree_stop_script bytes left stop.NoMemory is read = tt
-tree_stop_script bytes left (stop.BadScript line) is read = absurd is
-tree_stop_script bytes left stop.NoInit is read = read
-tree_stop_script bytes left (stop.TooLarge limit number) is read = tree_limit_script bytes left limit number is read
-tree_stop_script bytes left (stop.BadPolicy allow line) is read = read
-tree_stop_script bytes left (stop.BadStore line why) is read = absurd is
-tree_stop_script bytes left stop.BadTrace is read = absurd is
+pub tree_stop_script : (g : Grammar) (bytes : List ℕ) (left : Option (List ℕ)) (why : Stop)
+    → IsOfTree why → IsReadWhole g bytes left → ScriptSays g bytes left (status_of why)
+tree_stop_script g bytes left stop.ReadFault is read = tt
+tree_stop_script g bytes left stop.NoMemory is read = tt
+tree_stop_script g bytes left (stop.BadScript line) is read = absurd is
+tree_stop_script g bytes left stop.NoInit is read = read
+tree_stop_script g bytes left (stop.TooLarge limit number) is read = tree_limit_script g bytes left limit number is read
+tree_stop_script g bytes left (stop.BadPolicy allow line) is read = read
+tree_stop_script g bytes left (stop.BadStore line why) is read = absurd is
+tree_stop_script g bytes left stop.BadTrace is read = absurd is
 
 tree_limit_store : (held : List ℕ) (limit : Limit) (number : ℕ) → IsTreeLimit limit → StoreLimitSays held limit number
 tree_limit_store held limits.ScriptBytes number is = absurd is
@@ -117,28 +118,28 @@ tree_stop_store held stop.BadTrace is = absurd is
 
 -- ---- the store's
 
-store_limit_script : (bytes : List ℕ) (left : Option (List ℕ)) (limit : Limit) (number : ℕ)
-    → IsStoreLimit limit → IsReadWhole bytes left → ScriptLimitSays bytes left limit number
-store_limit_script bytes left limits.ScriptBytes number is read = absurd is
-store_limit_script bytes left limits.ScriptLines number is read = absurd is
-store_limit_script bytes left limits.Steps number is read = absurd is
-store_limit_script bytes left limits.FileBytes number is read = absurd is
-store_limit_script bytes left limits.Files number is read = absurd is
-store_limit_script bytes left limits.Names number is read = absurd is
-store_limit_script bytes left limits.RcBytes number is read = absurd is
-store_limit_script bytes left limits.StoreBytes number is read = read
-store_limit_script bytes left limits.TraceBytes number is read = absurd is
+store_limit_script : (g : Grammar) (bytes : List ℕ) (left : Option (List ℕ)) (limit : Limit) (number : ℕ)
+    → IsStoreLimit limit → IsReadWhole g bytes left → ScriptLimitSays g bytes left limit number
+store_limit_script g bytes left limits.ScriptBytes number is read = absurd is
+store_limit_script g bytes left limits.ScriptLines number is read = absurd is
+store_limit_script g bytes left limits.Steps number is read = absurd is
+store_limit_script g bytes left limits.FileBytes number is read = absurd is
+store_limit_script g bytes left limits.Files number is read = absurd is
+store_limit_script g bytes left limits.Names number is read = absurd is
+store_limit_script g bytes left limits.RcBytes number is read = absurd is
+store_limit_script g bytes left limits.StoreBytes number is read = read
+store_limit_script g bytes left limits.TraceBytes number is read = absurd is
 
-pub store_stop_script : (bytes : List ℕ) (left : Option (List ℕ)) (why : Stop)
-    → IsOfStore why → IsReadWhole bytes left → ScriptSays bytes left (status_of why)
-store_stop_script bytes left stop.ReadFault is read = tt
-store_stop_script bytes left stop.NoMemory is read = tt
-store_stop_script bytes left (stop.BadScript line) is read = absurd is
-store_stop_script bytes left stop.NoInit is read = absurd is
-store_stop_script bytes left (stop.TooLarge limit number) is read = store_limit_script bytes left limit number is read
-store_stop_script bytes left (stop.BadPolicy allow line) is read = absurd is
-store_stop_script bytes left (stop.BadStore line why) is read = read
-store_stop_script bytes left stop.BadTrace is read = absurd is
+pub store_stop_script : (g : Grammar) (bytes : List ℕ) (left : Option (List ℕ)) (why : Stop)
+    → IsOfStore why → IsReadWhole g bytes left → ScriptSays g bytes left (status_of why)
+store_stop_script g bytes left stop.ReadFault is read = tt
+store_stop_script g bytes left stop.NoMemory is read = tt
+store_stop_script g bytes left (stop.BadScript line) is read = absurd is
+store_stop_script g bytes left stop.NoInit is read = absurd is
+store_stop_script g bytes left (stop.TooLarge limit number) is read = store_limit_script g bytes left limit number is read
+store_stop_script g bytes left (stop.BadPolicy allow line) is read = absurd is
+store_stop_script g bytes left (stop.BadStore line why) is read = read
+store_stop_script g bytes left stop.BadTrace is read = absurd is
 
 store_limit_tree : (purpose : Purpose) (world : World) (limit : Limit) (number : ℕ)
     → IsStoreLimit limit → IsFitFor purpose world → TreeLimitSays purpose world limit number
@@ -165,26 +166,26 @@ store_stop_tree purpose world stop.BadTrace is fit = absurd is
 
 -- ---- the trace's
 
-trace_limit_script : (bytes : List ℕ) (left : Option (List ℕ)) (limit : Limit) (number : ℕ) → IsTraceLimit limit → IsReadWhole bytes left → ScriptLimitSays bytes left limit number
-trace_limit_script bytes left limits.ScriptBytes number is read = absurd is
-trace_limit_script bytes left limits.ScriptLines number is read = absurd is
-trace_limit_script bytes left limits.Steps number is read = absurd is
-trace_limit_script bytes left limits.FileBytes number is read = absurd is
-trace_limit_script bytes left limits.Files number is read = absurd is
-trace_limit_script bytes left limits.Names number is read = absurd is
-trace_limit_script bytes left limits.RcBytes number is read = absurd is
-trace_limit_script bytes left limits.StoreBytes number is read = absurd is
-trace_limit_script bytes left limits.TraceBytes number is read = read
+trace_limit_script : (g : Grammar) (bytes : List ℕ) (left : Option (List ℕ)) (limit : Limit) (number : ℕ) → IsTraceLimit limit → IsReadWhole g bytes left → ScriptLimitSays g bytes left limit number
+trace_limit_script g bytes left limits.ScriptBytes number is read = absurd is
+trace_limit_script g bytes left limits.ScriptLines number is read = absurd is
+trace_limit_script g bytes left limits.Steps number is read = absurd is
+trace_limit_script g bytes left limits.FileBytes number is read = absurd is
+trace_limit_script g bytes left limits.Files number is read = absurd is
+trace_limit_script g bytes left limits.Names number is read = absurd is
+trace_limit_script g bytes left limits.RcBytes number is read = absurd is
+trace_limit_script g bytes left limits.StoreBytes number is read = absurd is
+trace_limit_script g bytes left limits.TraceBytes number is read = read
 
-pub trace_stop_script : (bytes : List ℕ) (left : Option (List ℕ)) (why : Stop) → IsOfTrace why → IsReadWhole bytes left → ScriptSays bytes left (status_of why)
-trace_stop_script bytes left stop.ReadFault is read = tt
-trace_stop_script bytes left stop.NoMemory is read = tt
-trace_stop_script bytes left (stop.BadScript line) is read = absurd is
-trace_stop_script bytes left stop.NoInit is read = absurd is
-trace_stop_script bytes left (stop.TooLarge limit number) is read = trace_limit_script bytes left limit number is read
-trace_stop_script bytes left (stop.BadPolicy allow line) is read = absurd is
-trace_stop_script bytes left (stop.BadStore line why) is read = absurd is
-trace_stop_script bytes left stop.BadTrace is read = read
+pub trace_stop_script : (g : Grammar) (bytes : List ℕ) (left : Option (List ℕ)) (why : Stop) → IsOfTrace why → IsReadWhole g bytes left → ScriptSays g bytes left (status_of why)
+trace_stop_script g bytes left stop.ReadFault is read = tt
+trace_stop_script g bytes left stop.NoMemory is read = tt
+trace_stop_script g bytes left (stop.BadScript line) is read = absurd is
+trace_stop_script g bytes left stop.NoInit is read = absurd is
+trace_stop_script g bytes left (stop.TooLarge limit number) is read = trace_limit_script g bytes left limit number is read
+trace_stop_script g bytes left (stop.BadPolicy allow line) is read = absurd is
+trace_stop_script g bytes left (stop.BadStore line why) is read = absurd is
+trace_stop_script g bytes left stop.BadTrace is read = read
 
 trace_limit_tree : (purpose : Purpose) (world : World) (limit : Limit) (number : ℕ) → IsTraceLimit limit → IsFitFor purpose world → TreeLimitSays purpose world limit number
 trace_limit_tree purpose world limits.ScriptBytes number is fit = absurd is

@@ -10,16 +10,16 @@ use Rattle.init_machine.specs.declared.config.Pair.{Pair}
 use Rattle.init_trace.specs.Written.{TakesFront}
 use Rattle.rc_import.specs.World.{World}
 use Rattle.script_lang.specs.Laws.{MeetsConditions}
-use Rattle.script_lang.specs.Script.{IsScript}
 use Rattle.script_lang.specs.declared.script.Script.{Script}
 use Rattle.job_reader.specs.Counts.{AreCounted, Counts}
 use Rattle.job_reader.specs.Policy.{IsPolicyOf}
 use Rattle.job_reader.specs.Run.{Course, due_of_course, run_text}
-use Rattle.job_reader.specs.Script.{ScriptSays}
+use Rattle.job_reader.specs.Script.{IsScriptIn, ScriptSays}
 use Rattle.job_reader.specs.Stops.{status_of}
 use Rattle.job_reader.specs.Store.{IsStoreOf, StoreSays}
 use Rattle.job_reader.specs.Tree.{IsLoadOf, TreeSays}
 use Rattle.job_reader.specs.Tree.Purpose.{ToRun}
+use Rattle.job_reader.specs.declared.grammar.Grammar.{Grammar}
 use Rattle.job_reader.specs.declared.preparing.Job.{Job}
 use Rattle.job_reader.specs.declared.preparing.TreeParts.{TreeParts}
 use Rattle.job_reader.specs.declared.status.Status.{Status}
@@ -59,9 +59,9 @@ pub record IsSetupOf (world : World) (setup : Setup) : Type 0 where
   pub policy : IsPolicyOf world.tree setup.policy
   pub load : IsLoadOf world setup.config setup.diagnostics
 
-abbrev pub ScriptOfJob : List ℕ → Option (List ℕ) → Result Job Stop → Type 0
-ScriptOfJob bytes left (Ok job) = IsScript bytes job.script × (left ≡ Some [])
-ScriptOfJob bytes left (Err why) = ScriptSays bytes left (status_of why)
+abbrev pub ScriptOfJob : Grammar → List ℕ → Option (List ℕ) → Result Job Stop → Type 0
+ScriptOfJob g bytes left (Ok job) = IsScriptIn g bytes job.script × (left ≡ Some [])
+ScriptOfJob g bytes left (Err why) = ScriptSays g bytes left (status_of why)
 
 abbrev pub GivesSetup : World → Result Job Stop → Type 0
 GivesSetup world (Ok job) = IsSetupOf world job.setup

@@ -5,11 +5,12 @@ use Rattle.init_machine.specs.State.{Opening}
 use Rattle.init_machine.specs.declared.diagnostic.Diagnostic.{Diagnostic}
 use Rattle.init_trace.specs.Report.{TextOf}
 use Rattle.rc_import.specs.World.{World}
-use Rattle.script_lang.specs.Script.{IsScript}
 use Rattle.script_lang.specs.declared.script.Script.{Script}
 use Rattle.job_reader.specs.Policy.{IsPolicyOf}
+use Rattle.job_reader.specs.Script.{IsScriptIn}
 use Rattle.job_reader.specs.Store.{IsStoreOf}
 use Rattle.job_reader.specs.Tree.{IsLoadOf}
+use Rattle.job_reader.specs.declared.grammar.Grammar.{Grammar}
 
 -- What a run goes by: the machine's opening, the diagnostics of the tree, and the script.
 pub record Course : Type 0 where
@@ -28,9 +29,9 @@ pub record IsOpened (script : Script) (world : World) (held : List ℕ) (diagnos
   pub domains : opening.config.domains ≡ map (λ client. client.domain) script.clients
   pub capacity : opening.capacity ≡ script.words
 
--- the course of a script's bytes, a world and the text that a keeper holds
-pub record IsCourseOf (bytes : List ℕ) (world : World) (held : List ℕ) (course : Course) : Type 0 where
-  pub script_is : IsScript bytes course.script
+-- the course of a script's bytes, by a grammar, of a world, and of the text that a keeper holds
+pub record IsCourseOf (g : Grammar) (bytes : List ℕ) (world : World) (held : List ℕ) (course : Course) : Type 0 where
+  pub script_is : IsScriptIn g bytes course.script
   pub opened : IsOpened course.script world held course.diagnostics course.opening
 
 -- the text of a run: that of its report

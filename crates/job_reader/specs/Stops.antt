@@ -18,7 +18,6 @@ use Rattle.rc_import.specs.World.{World}
 use Rattle.rc_import.specs.declared.loaded.LoadRefusal.{LoadRefusal}
 use Rattle.rc_import.specs.declared.loaded.LoadRefusal.TheVariants as load
 use Rattle.rc_import.specs.declared.loaded.Loaded.{Loaded}
-use Rattle.script_lang.specs.Script.{IsScript}
 use Rattle.script_lang.specs.declared.fault.Fault.{Fault}
 use Rattle.script_lang.specs.declared.fault.Fault.TheVariants as fault
 use Rattle.script_lang.specs.declared.refusal.ScriptRefusal.{ScriptRefusal}
@@ -26,12 +25,13 @@ use Rattle.script_lang.specs.declared.refusal.ScriptRefusal.TheVariants as scrip
 use Rattle.script_lang.specs.declared.script.Script.{Script}
 use Rattle.job_reader.specs.Check.{IsTreeLimit}
 use Rattle.job_reader.specs.Policy.{IsPolicyOf}
-use Rattle.job_reader.specs.Script.{ScriptSays}
+use Rattle.job_reader.specs.Script.{IsScriptIn, ScriptSays}
 use Rattle.job_reader.specs.Store.{IsStoreOf, StoreSays}
 use Rattle.job_reader.specs.Texts.{Tree, faults_of, pairs_of}
 use Rattle.job_reader.specs.Trace.{TraceSays}
 use Rattle.job_reader.specs.Tree.{AreBuildFilesShort, AreBuildFilesTooLarge, IsLoadOf, TreeSays, limit_of}
 use Rattle.job_reader.specs.Tree.Purpose.{ToRun, ToCheck}
+use Rattle.job_reader.specs.declared.grammar.Grammar.{Grammar}
 use Rattle.job_reader.specs.declared.status.Status.{Status}
 use Rattle.job_reader.specs.declared.status.Status.TheVariants as status
 use Rattle.job_reader.specs.declared.stop.Stop.{Stop}
@@ -97,9 +97,9 @@ abbrev pub has_read_fault : {T : Type 0} → Result T Stop → Bool
 has_read_fault (Ok value) = false
 has_read_fault (Err why) = is_read_fault why
 
-abbrev pub GivesScript : List ℕ → Option (List ℕ) → Result Script Stop → Type 0
-GivesScript bytes left (Ok script) = IsScript bytes script × (left ≡ Some [])
-GivesScript bytes left (Err why) = ScriptSays bytes left (status_of why)
+abbrev pub GivesScript : Grammar → List ℕ → Option (List ℕ) → Result Script Stop → Type 0
+GivesScript g bytes left (Ok script) = IsScriptIn g bytes script × (left ≡ Some [])
+GivesScript g bytes left (Err why) = ScriptSays g bytes left (status_of why)
 
 -- a text within the limit of 1,048,576 bytes
 abbrev pub GivesText : List ℕ → Result (List ℕ) Stop → Type 0

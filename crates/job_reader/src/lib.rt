@@ -5,6 +5,7 @@
 //! at a read that fails, or for want of memory. `specs/Stops.antt` says when each comes; the status of the program tells it.
 #![tactic(auto)]
 
+mod grammar;
 mod loading;
 mod preparing;
 mod reading;
@@ -12,8 +13,9 @@ mod status;
 mod stop;
 mod texts;
 
+pub use grammar::Grammar;
 pub use loading::diagnose;
-pub use preparing::{Job, prepare};
+pub use preparing::{Job, prepare, prepare_with};
 pub use reading::read_trace;
 pub use status::Status;
 pub use stop::Stop;

@@ -1,17 +1,20 @@
 //! What is to be run or raced, or what a trace is held against: the script, the tree and the store are read, in this order, and the
 //! first refusal ends it.
 
-ghost use Rattle.std.specs.Prelude.{◌≡◌, ℕ, map, IfErr, IfOk, IfSome};
+ghost use Rattle.std.specs.Prelude.{◌≡◌, ◌⊎◌, ℕ, map, IfErr, IfOk, IfSome};
 ghost use Rattle.init_base.specs.Faults.{Counted};
 ghost use Rattle.init_driver.specs.Keeper.{seen_by};
 ghost use Rattle.init_machine.specs.WellFormed.{IsWellFormed};
 ghost use Rattle.job_reader.specs.Counts.{counts_of};
 ghost use Rattle.job_reader.specs.Endings.{IsRunStatus};
 ghost use Rattle.job_reader.specs.Prepared.{ArePrepared, GivesSaved, GivesSetup, GivesTree, IsAsked, IsFit, IsJobFor, ScriptOfJob};
-ghost use Rattle.job_reader.specs.Stops.{IsOfTree, has_read_fault, status_of};
+ghost use Rattle.job_reader.specs.Script.{ArePermitted};
+ghost use Rattle.job_reader.specs.Stops.{IsOfStore, IsOfTree, has_read_fault, status_of};
 ghost use Rattle.job_reader.specs.Tree.{IsWorldOf};
 ghost use Rattle.rc_import.specs.World.{World};
+ghost use Rattle.script_lang.specs.Laws.{MeetsConditions};
 
+use crate::grammar::Grammar;
 use crate::loading::load;
 use crate::reading::{read_script, read_store};
 use crate::stop::Stop;
@@ -103,14 +106,16 @@ fn given_by(alloc: Global, script: &Script) -> Result<(List<Plan>, List<Text>), 
     both(plans, domains_of(alloc, script.clients.items()))
 }
 
-/// Reads the script, the tree and the store.
+/// Reads the script by a grammar, the tree and the store.
 pub fn prepare<F: Files, S: Source, P: Keeper>(
     alloc: Global,
+    grammar: Grammar,
     files: &mut F,
     source: &mut S,
     keeper: &mut P,
 ) -> Result<Job, Stop>
-    ensures script { IfSome (S.left source.old) (λ bytes. ScriptOfJob bytes (S.left source.new) result) }
+    ensures script { IfSome (S.left source.old) (λ bytes. ScriptOfJob grammar bytes (S.left source.new) result) }
+    ensures permitted { IfOk result (λ job. ArePermitted grammar job.script) }
     ensures tree { (world : World) → IsWorldOf (F.tree files.old) world → GivesSetup world result }
     ensures store { IfSome (P.held keeper.old) (λ held. GivesSaved held result) }
     ensures fit { IfOk result IsFit }
@@ -121,7 +126,29 @@ pub fn prepare<F: Files, S: Source, P: Keeper>(
         (counts_of (F.fault_count files.old) (S.fault_count source.old) trace (P.fault_count keeper.old) out)
         (counts_of (F.fault_count files.new) (S.fault_count source.new) trace (P.fault_count keeper.new) out) }
 {
-    let script = read_script(alloc, source)?;
+    let script = read_script(alloc, grammar, source)?;
+    prepare_with(alloc, script, files, keeper)
+}
+
+/// Reads the tree and the store, for a script that is given.
+pub fn prepare_with<F: Files, P: Keeper>(
+    alloc: Global,
+    script: Script,
+    files: &mut F,
+    keeper: &mut P,
+) -> Result<Job, Stop>
+    requires conditions { MeetsConditions script }
+    ensures script { IfOk result (λ job. job.script ≡ script) }
+    ensures tree { (world : World) → IsWorldOf (F.tree files.old) world → GivesSetup world result }
+    ensures store { IfSome (P.held keeper.old) (λ held. GivesSaved held result) }
+    ensures fit { IfOk result IsFit }
+    ensures held { P.held keeper.new ≡ P.held keeper.old }
+    ensures asked { let seen = seen_by P.held P.TellsCrash P.moment P.MayLeave in IsAsked result (seen keeper.old) (seen keeper.new) }
+    ensures kind { IfErr result (λ why. IsOfTree why ⊎ IsOfStore why) }
+    ensures counts { (script trace out : ℕ) → ArePrepared result
+        (counts_of (F.fault_count files.old) script trace (P.fault_count keeper.old) out)
+        (counts_of (F.fault_count files.new) script trace (P.fault_count keeper.new) out) }
+{
     let parts = match read_tree(alloc, files) {
         Ok(parts) => parts,
         Err(why) => {

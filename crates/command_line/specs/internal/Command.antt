@@ -25,13 +25,17 @@ race_app = with_rule (with_rule (new_app (codes "race")) (path_rule (codes "ROOT
 abbrev pub check_app : App
 check_app = with_rule (new_app (codes "check")) (path_rule (codes "ROOT"))
 
--- `audit ROOT SCRIPT TRACE`
-abbrev pub audit_app : App
-audit_app = with_rule (with_rule (with_rule (new_app (codes "audit")) (path_rule (codes "ROOT"))) (path_rule (codes "SCRIPT"))) (path_rule (codes "TRACE"))
-
 -- `soak N`
 abbrev pub soak_app : App
 soak_app = with_rule (new_app (codes "soak")) (path_rule (codes "N"))
+
+-- `dispatch ROOT SCRIPT`
+abbrev pub dispatch_app : App
+dispatch_app = with_rule (with_rule (new_app (codes "dispatch")) (path_rule (codes "ROOT"))) (path_rule (codes "SCRIPT"))
+
+-- `audit ROOT SCRIPT TRACE`
+abbrev pub audit_app : App
+audit_app = with_rule (with_rule (with_rule (new_app (codes "audit")) (path_rule (codes "ROOT"))) (path_rule (codes "SCRIPT"))) (path_rule (codes "TRACE"))
 
 -- what holds of all: no program's name stands before the words, one of them is named, and there is neither help nor
 -- version
@@ -49,5 +53,7 @@ bare_of a = record a {
 abbrev pub app : App
 app =
     with_subcommand
-    (with_subcommand (with_subcommand (with_subcommand (with_subcommand (bare_of (new_app (codes "initsim"))) run_app.top) race_app.top) check_app.top) audit_app.top)
-    soak_app.top
+    (with_subcommand
+    (with_subcommand (with_subcommand (with_subcommand (with_subcommand (bare_of (new_app (codes "initsim"))) run_app.top) race_app.top) check_app.top) soak_app.top)
+    dispatch_app.top)
+    audit_app.top

@@ -1,5 +1,5 @@
 -- What a service that has ended says of the actors that are through.
-use Rattle.std.specs.Prelude.{◌≡◌, ◌≤◌, ℕ, ◌+◌, ⊤, All, List, [], ◌∷◌, length, map, Option, Some, None}
+use Rattle.std.specs.Prelude.{◌≡◌, ℕ, ◌+◌, ⊤, List, [], ◌∷◌, map, Option, Some, None}
 use Rattle.std.specs.List.{flat_map}
 use Rattle.init_machine.specs.declared.client.ClientItem.{ClientItem}
 use Rattle.init_machine.specs.declared.client.ClientItem.TheVariants.{Asked}
@@ -7,7 +7,7 @@ use Rattle.init_machine.specs.declared.client.ClientRequest.{ClientRequest}
 use Rattle.init_machine.specs.declared.input.Input.TheVariants as input
 use Rattle.init_machine.specs.declared.report.ClientPart.{ClientPart}
 use Rattle.property_area.specs.Seats.{Seated}
-use Rattle.property_service.specs.Ending.{HasItsPart, HasReader}
+use Rattle.property_service.specs.Ending.{HasItsPart}
 use Rattle.property_service.specs.Service.{ServiceView}
 use Rattle.script_lang.specs.Inputs.{main_inputs}
 use Rattle.script_lang.specs.declared.script.Client.{Client}
@@ -70,8 +70,3 @@ pub record ComeBack (script : Script) (readers back : List Seated) (parts : List
   pub through : EachThrough script readers acted
   pub back_is : back ≡ readers_of acted
   pub parts_are : parts ≡ told_to script.clients acted
-
--- whatever service these readers have their parts of, the main actor and each of its clients has one of them
-abbrev pub AreAll : List Seated → Type 0
-AreAll readers =
-    (s : ServiceView) → All (HasItsPart s) readers → (who : ℕ) → who ≤ length s.opening.config.domains → HasReader readers who

@@ -2,6 +2,7 @@ use Rattle.std.proofs.Common.{refl}
 use Rattle.init_driver.specs.Keeper.{seen_by}
 use Rattle.job_reader.specs.Endings.{IsAuditStatus}
 use Rattle.job_reader.specs.Script.{ScriptSays}
+use Rattle.job_reader.specs.declared.grammar.Grammar.TheVariants.{Whole}
 use Rattle.job_reader.specs.Store.{StoreSays}
 use Rattle.job_reader.specs.Trace.{TraceSays}
 use Rattle.job_reader.specs.Tree.{TreeSays}
@@ -16,7 +17,7 @@ pub returns-in-Ok-clause-script : goal.returns-in-Ok-clause-script
 returns-in-Ok-clause-script g c =
     if_told _ _ (λ bytes is.
     let read = told_of _ _ bytes is c.in-Ok.ensures.script in
-    written_status (λ how. ScriptSays bytes (g.S.Source.left c.judge.new.script) how) _ _ _ c.write_verdict.result c.write_verdict.ensures.writes read read tt)
+    written_status (λ how. ScriptSays Whole bytes (g.S.Source.left c.judge.new.script) how) _ _ _ c.write_verdict.result c.write_verdict.ensures.writes read read tt)
 
 pub returns-in-Ok-clause-tree : goal.returns-in-Ok-clause-tree
 returns-in-Ok-clause-tree g c = λ world is.

@@ -3,6 +3,7 @@ use Rattle.std.proofs.lemmas.Result.{IfOk-weaker}
 use Rattle.init_driver.specs.Keeper.{seen_by}
 use Rattle.job_reader.proofs.Says.{run_stop_trace}
 use Rattle.job_reader.specs.Prepared.{GivesSaved, ScriptOfJob, course_of}
+use Rattle.job_reader.specs.declared.grammar.Grammar.TheVariants.{Whole}
 use Rattle.job_reader.specs.Trace.{TraceSays}
 use Rattle.rc_import.proofs.Outcomes.{err_is, if_told, told as told_of}
 use Rattle.init_forms.specs.internal.Judging.{ending_of}
@@ -18,7 +19,7 @@ returns-in_err-job-clause-trace g c =
 pub returns-clause-script : goal.returns-clause-script
 returns-clause-script g c =
     if_told _ _ (λ bytes is.
-    let script : ScriptOfJob bytes (g.S.Source.left c.prepare.new.source) (Ok c.in_ok-job.job) = told_of _ _ bytes is c.in_ok-job.ensures.script in
+    let script : ScriptOfJob Whole bytes (g.S.Source.left c.prepare.new.source) (Ok c.in_ok-job.job) = told_of _ _ bytes is c.in_ok-job.ensures.script in
     judged_script c.judge_trace.result bytes _ c.judge_trace.ensures.last ((c.in_ok-job.job.script, script.0), script.1))
 
 pub returns-clause-tree : goal.returns-clause-tree
@@ -33,9 +34,9 @@ returns-clause-store g c =
 
 pub returns-clause-judged : goal.returns-clause-judged
 returns-clause-judged g c = λ told tells trace_is.
-    let script : ScriptOfJob told.script (g.S.Source.left c.prepare.new.source) (Ok c.in_ok-job.job) = told_of _ _ told.script tells.script_is c.in_ok-job.ensures.script in
+    let script : ScriptOfJob Whole told.script (g.S.Source.left c.prepare.new.source) (Ok c.in_ok-job.job) = told_of _ _ told.script tells.script_is c.in_ok-job.ensures.script in
     let store : GivesSaved told.held (Ok c.in_ok-job.job) = told_of _ _ told.held tells.held_is c.in_ok-job.ensures.store in
-    let course = course_is c.in_ok-job.job told.script told.world told.held c.in_ok-job.ensures.fit script.0 (c.in_ok-job.ensures.tree told.world tells.world_is) store in
+    let course = course_is Whole c.in_ok-job.job told.script told.world told.held c.in_ok-job.ensures.fit script.0 (c.in_ok-job.ensures.tree told.world tells.world_is) store in
     IfOk-weaker c.judge_trace.result _ _ (λ verdict said. record { course = course_of c.in_ok-job.job; course_is = course; said = said })
     (told_of _ _ told.trace trace_is c.judge_trace.ensures.said)
 

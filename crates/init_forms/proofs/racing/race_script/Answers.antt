@@ -4,40 +4,42 @@ use Rattle.command_line.specs.declared.form.Form.TheVariants.{Race}
 use Rattle.job_reader.specs.Counts.{Counts}
 use Rattle.job_reader.specs.Endings.{IsRunStatus}
 use Rattle.job_reader.specs.Prepared.{GivesSaved, ScriptOfJob, course_of}
+use Rattle.job_reader.specs.declared.grammar.Grammar.TheVariants.{Whole}
 use Rattle.rc_import.proofs.Outcomes.{told as told_of}
 use Rattle.init_forms.proofs.Ends.{stop_ends}
 use Rattle.init_forms.proofs.Performed.{counts_after, course_is, setup_fits}
-use Rattle.init_forms.proofs.Raced.{raced_as_before, raced_ends, raced_status, raced_tree}
+use Rattle.init_forms.proofs.Raced.{race_ends, raced_as_before, raced_status, raced_tree}
+use Rattle.init_forms.specs.Racing.{IsAudited}
 use Rattle.init_forms.proofs.Seated.{race_is_given, race_records}
 use Rattle.init_forms.proofs.racing.race_script.Goals as goal
 
 pub returns-in-Ok-clause-tree : goal.returns-in-Ok-clause-tree
 returns-in-Ok-clause-tree g c = λ world is.
     let seen = seen_by g.P.Keeper.held g.P.Keeper.TellsCrash g.P.Keeper.moment g.P.Keeper.MayLeave in
-    raced_tree (course_of c.in-Ok.job) (g.K.Sink.taken c.args.out.now) (g.K.Sink.taken c.perform_race.new.out) (seen c.prepare.new.keeper) (seen c.perform_race.new.keeper)
+    raced_tree IsAudited (course_of c.in-Ok.job) (g.K.Sink.taken c.args.out.now) (g.K.Sink.taken c.perform_race.new.out) (seen c.prepare.new.keeper) (seen c.perform_race.new.keeper)
     c.perform_race.result.0 world c.perform_race.ensures.leaves (setup_fits world c.in-Ok.job (c.in-Ok.ensures.tree world is))
 
 pub returns-in-Ok-clause-ends : goal.returns-in-Ok-clause-ends
 returns-in-Ok-clause-ends g c = λ trace told tells.
     let seen = seen_by g.P.Keeper.held g.P.Keeper.TellsCrash g.P.Keeper.moment g.P.Keeper.MayLeave in
-    let script : ScriptOfJob told.script (g.S.Source.left c.prepare.new.source) (Ok c.in-Ok.job) = told_of _ _ told.script tells.script_is c.in-Ok.ensures.script in
+    let script : ScriptOfJob Whole told.script (g.S.Source.left c.prepare.new.source) (Ok c.in-Ok.job) = told_of _ _ told.script tells.script_is c.in-Ok.ensures.script in
     let store : GivesSaved told.held (Ok c.in-Ok.job) = told_of _ _ told.held tells.held_is c.in-Ok.ensures.store in
-    raced_ends (course_of c.in-Ok.job) told (g.K.Sink.taken c.args.out.now) (g.K.Sink.taken c.perform_race.new.out) (seen c.args.keeper.now) (seen c.prepare.new.keeper) (seen c.perform_race.new.keeper)
+    race_ends (course_of c.in-Ok.job) told (g.K.Sink.taken c.args.out.now) (g.K.Sink.taken c.perform_race.new.out) (seen c.args.keeper.now) (seen c.prepare.new.keeper) (seen c.perform_race.new.keeper)
     c.perform_race.result.0 c.in-Ok.ensures.asked tells.held_is
-    (course_is c.in-Ok.job told.script told.world told.held c.in-Ok.ensures.fit script.0 (c.in-Ok.ensures.tree told.world tells.world_is) store)
+    (course_is Whole c.in-Ok.job told.script told.world told.held c.in-Ok.ensures.fit script.0 (c.in-Ok.ensures.tree told.world tells.world_is) store)
     c.perform_race.ensures.leaves
 
 pub returns-in-Ok-clause-unwritten : goal.returns-in-Ok-clause-unwritten
 returns-in-Ok-clause-unwritten g c =
     let seen = seen_by g.P.Keeper.held g.P.Keeper.TellsCrash g.P.Keeper.moment g.P.Keeper.MayLeave in
-    raced_as_before (course_of c.in-Ok.job) (g.K.Sink.taken c.args.out.now) (g.K.Sink.taken c.perform_race.new.out) (seen c.prepare.new.keeper) (seen c.perform_race.new.keeper)
+    raced_as_before IsAudited (course_of c.in-Ok.job) (g.K.Sink.taken c.args.out.now) (g.K.Sink.taken c.perform_race.new.out) (seen c.prepare.new.keeper) (seen c.perform_race.new.keeper)
     c.perform_race.result.0 _ (g.P.Keeper.fault_count c.prepare.new.keeper) _ (g.K.Sink.fault_count c.args.out.now) (g.K.Sink.fault_count c.perform_race.new.out) _ _ c.perform_race.ensures.leaves
     (ap (λ (counts : Counts). counts.keeper) (c.in-Ok.ensures.counts 0 0)) (c.perform_race.ensures.counts 0 0 0)
 
 pub returns-in-Ok-clause-unkept : goal.returns-in-Ok-clause-unkept
 returns-in-Ok-clause-unkept g c =
     let seen = seen_by g.P.Keeper.held g.P.Keeper.TellsCrash g.P.Keeper.moment g.P.Keeper.MayLeave in
-    raced_as_before (course_of c.in-Ok.job) (g.K.Sink.taken c.args.out.now) (g.K.Sink.taken c.perform_race.new.out) (seen c.prepare.new.keeper) (seen c.perform_race.new.keeper)
+    raced_as_before IsAudited (course_of c.in-Ok.job) (g.K.Sink.taken c.args.out.now) (g.K.Sink.taken c.perform_race.new.out) (seen c.prepare.new.keeper) (seen c.perform_race.new.keeper)
     c.perform_race.result.0 _ (g.P.Keeper.fault_count c.prepare.new.keeper) _ (g.K.Sink.fault_count c.args.out.now) (g.K.Sink.fault_count c.perform_race.new.out) _ _ c.perform_race.ensures.leaves
     (ap (λ (counts : Counts). counts.keeper) (c.in-Ok.ensures.counts 0 0)) (c.perform_race.ensures.counts 0 0 0)
 
@@ -45,14 +47,14 @@ pub returns-in-Err-clause-ends : goal.returns-in-Err-clause-ends
 returns-in-Err-clause-ends g c = λ trace told tells.
     let seen = seen_by g.P.Keeper.held g.P.Keeper.TellsCrash g.P.Keeper.moment g.P.Keeper.MayLeave in
     rw c.status.ensures
-    (stop_ends c.in-Err.stop Race told (g.S.Source.left c.prepare.new.source) (g.K.Sink.taken c.args.out.now) (seen c.args.keeper.now) (seen c.prepare.new.keeper)
+    (stop_ends Whole c.in-Err.stop Race told (g.S.Source.left c.prepare.new.source) (g.K.Sink.taken c.args.out.now) (seen c.args.keeper.now) (seen c.prepare.new.keeper)
     (λ how is. is) c.in-Err.ensures.kind (told_of _ _ told.script tells.script_is c.in-Err.ensures.script) (c.in-Err.ensures.tree told.world tells.world_is) (told_of _ _ told.held tells.held_is c.in-Err.ensures.store)
     c.in-Err.ensures.asked.0 c.in-Err.ensures.asked.1)
 
 pub returns-in-Ok-clause-formed : goal.returns-in-Ok-clause-formed
 returns-in-Ok-clause-formed g c =
     let seen = seen_by g.P.Keeper.held g.P.Keeper.TellsCrash g.P.Keeper.moment g.P.Keeper.MayLeave in
-    raced_status IsRunStatus (course_of c.in-Ok.job) (g.K.Sink.taken c.args.out.now) (g.K.Sink.taken c.perform_race.new.out) (seen c.prepare.new.keeper) (seen c.perform_race.new.keeper)
+    raced_status IsAudited IsRunStatus (course_of c.in-Ok.job) (g.K.Sink.taken c.args.out.now) (g.K.Sink.taken c.perform_race.new.out) (seen c.prepare.new.keeper) (seen c.perform_race.new.keeper)
     c.perform_race.result.0 c.perform_race.ensures.leaves tt tt tt tt
 
 pub returns-in-Ok-clause-counts : goal.returns-in-Ok-clause-counts
@@ -72,9 +74,9 @@ returns-in-Ok-clause-seat g c = race_is_given (course_of c.in-Ok.job) _ c.perfor
 pub returns-in-Ok-clause-recorded : goal.returns-in-Ok-clause-recorded
 returns-in-Ok-clause-recorded g c = λ trace told tells.
     let seen = seen_by g.P.Keeper.held g.P.Keeper.TellsCrash g.P.Keeper.moment g.P.Keeper.MayLeave in
-    let script : ScriptOfJob told.script (g.S.Source.left c.prepare.new.source) (Ok c.in-Ok.job) = told_of _ _ told.script tells.script_is c.in-Ok.ensures.script in
+    let script : ScriptOfJob Whole told.script (g.S.Source.left c.prepare.new.source) (Ok c.in-Ok.job) = told_of _ _ told.script tells.script_is c.in-Ok.ensures.script in
     let store : GivesSaved told.held (Ok c.in-Ok.job) = told_of _ _ told.held tells.held_is c.in-Ok.ensures.store in
     race_records (course_of c.in-Ok.job) told (g.K.Sink.taken c.args.out.now) (g.K.Sink.taken c.perform_race.new.out) (seen c.args.keeper.now) (seen c.prepare.new.keeper) (seen c.perform_race.new.keeper)
     c.perform_race.result.0 c.perform_race.result.1 c.in-Ok.ensures.asked
-    (course_is c.in-Ok.job told.script told.world told.held c.in-Ok.ensures.fit script.0 (c.in-Ok.ensures.tree told.world tells.world_is) store)
+    (course_is Whole c.in-Ok.job told.script told.world told.held c.in-Ok.ensures.fit script.0 (c.in-Ok.ensures.tree told.world tells.world_is) store)
     c.perform_race.ensures.seat

@@ -2,16 +2,17 @@ use Rattle.std.proofs.Common.{◌≡◌, Option, Some, None, refl, subst, sym}
 use Rattle.init_driver.specs.Keeper.{seen_by}
 use Rattle.command_line.specs.Form.{form_of}
 use Rattle.command_line.specs.declared.form.Form.{Form}
-use Rattle.command_line.specs.declared.form.Form.TheVariants.{Run, Race, Check, Audit, Soak}
+use Rattle.command_line.specs.declared.form.Form.TheVariants.{Run, Race, Check, Soak, Dispatch, Audit}
 use Rattle.command_line.specs.declared.reading.WordsRefusal.TheVariants as why
 use Rattle.job_reader.specs.Counts.{counts_of}
+use Rattle.job_reader.specs.declared.grammar.Grammar.TheVariants.{Whole, Sets}
 use Rattle.job_reader.specs.declared.status.Status.TheVariants as status
 use Rattle.init_forms.specs.Promise.{Promise, objects_of, told_by}
 use Rattle.init_forms.specs.Top.{CanSoak}
 use Rattle.init_forms.proofs.Complete.{complete_audit, complete_check, complete_run}
 use Rattle.init_forms.proofs.Ends.{check_ends}
 use Rattle.init_forms.proofs.Judged.{same_as_before}
-use Rattle.init_forms.proofs.Promised.{audit_promised, check_promised, memory_promised, race_is_no_soak, run_is_no_soak, run_promised, usage_promised}
+use Rattle.init_forms.proofs.Promised.{audit_promised, check_promised, dispatch_is_no_soak, memory_promised, race_is_no_soak, run_is_no_soak, run_promised, usage_promised}
 use Rattle.init_forms.proofs.Soaked.{soak_ends, soak_in_range, soak_records}
 use Rattle.init_forms.proofs.top.initsim.Goals as goal
 
@@ -35,7 +36,7 @@ returns-in-Ok-Run-clause-promise g c =
       unwritten = c.run_script.ensures.unwritten;
       unkept = c.run_script.ensures.unkept;
       formed = c.run_script.ensures.formed;
-      complete = λ world is can. complete_run c.run_script.result.0 (told_by before) _ world _ _ c.run_script.ensures.formed c.run_script.ensures.script
+      complete = λ world is can. complete_run Whole c.run_script.result.0 (told_by before) _ world _ _ c.run_script.ensures.formed c.run_script.ensures.script
           (c.run_script.ensures.tree world is) c.run_script.ensures.store (c.run_script.ensures.counts count) can;
       soaked = λ services e can. absurd (run_is_no_soak services e);
     })
@@ -60,9 +61,34 @@ returns-in-Ok-Race-clause-promise g c =
       unwritten = c.race_script.ensures.unwritten;
       unkept = c.race_script.ensures.unkept;
       formed = c.race_script.ensures.formed;
-      complete = λ world is can. complete_run c.race_script.result.0 (told_by before) _ world _ _ c.race_script.ensures.formed c.race_script.ensures.script
+      complete = λ world is can. complete_run Whole c.race_script.result.0 (told_by before) _ world _ _ c.race_script.ensures.formed c.race_script.ensures.script
           (c.race_script.ensures.tree world is) c.race_script.ensures.store (c.race_script.ensures.counts count) can;
       soaked = λ services e can. absurd (race_is_no_soak services e);
+    })
+
+pub returns-in-Ok-Dispatch-clause-promise : goal.returns-in-Ok-Dispatch-clause-promise
+returns-in-Ok-Dispatch-clause-promise g c =
+    let form : form_of c.args.words.now ≡ Some Dispatch = cc c.in-Ok-Dispatch.ensures.ok in
+    let seen = seen_by g.P.Keeper.held g.P.Keeper.TellsCrash g.P.Keeper.moment g.P.Keeper.MayLeave in
+    let trace = g.T.Source.left c.args.trace.now in
+    let count = g.T.Source.fault_count c.args.trace.now in
+    let before = objects_of (g.F.Files.tree c.args.files.now) (g.S.Source.left c.args.script.now) trace (seen c.args.keeper.now) (g.K.Sink.taken c.args.out.now)
+    (counts_of (g.F.Files.fault_count c.args.files.now) (g.S.Source.fault_count c.args.script.now) count (g.P.Keeper.fault_count c.args.keeper.now) (g.K.Sink.fault_count c.args.out.now)) in
+    let after = objects_of (g.F.Files.tree c.dispatch_script.new.files) (g.S.Source.left c.dispatch_script.new.script) trace (seen c.dispatch_script.new.keeper) (g.K.Sink.taken c.dispatch_script.new.out)
+    (counts_of (g.F.Files.fault_count c.dispatch_script.new.files) (g.S.Source.fault_count c.dispatch_script.new.script) count (g.P.Keeper.fault_count c.dispatch_script.new.keeper) (g.K.Sink.fault_count c.dispatch_script.new.out)) in
+    subst (λ (f : Option Form). Promise f before after c.dispatch_script.result None) (sym form)
+    (run_promised before after c.dispatch_script.result None Dispatch tt record {
+      ends = c.dispatch_script.ensures.ends trace;
+      read = λ reads. c.dispatch_script.ensures.script;
+      gives = refl;
+      records = λ told tells. tt;
+      faults = c.dispatch_script.ensures.counts count;
+      unwritten = c.dispatch_script.ensures.unwritten;
+      unkept = c.dispatch_script.ensures.unkept;
+      formed = c.dispatch_script.ensures.formed;
+      complete = λ world is can. complete_run Sets c.dispatch_script.result (told_by before) _ world _ _ c.dispatch_script.ensures.formed c.dispatch_script.ensures.script
+          (c.dispatch_script.ensures.tree world is) c.dispatch_script.ensures.store (c.dispatch_script.ensures.counts count) can;
+      soaked = λ services e can. absurd (dispatch_is_no_soak services e);
     })
 
 pub returns-in-Ok-Check-clause-promise : goal.returns-in-Ok-Check-clause-promise

@@ -3,6 +3,7 @@ use Rattle.init_driver.specs.Keeper.{seen_by}
 use Rattle.command_line.specs.declared.form.Form.TheVariants.{Run}
 use Rattle.job_reader.specs.Counts.{Counts}
 use Rattle.job_reader.specs.Prepared.{GivesSaved, ScriptOfJob, course_of}
+use Rattle.job_reader.specs.declared.grammar.Grammar.TheVariants.{Whole}
 use Rattle.rc_import.proofs.Outcomes.{told as told_of}
 use Rattle.init_forms.proofs.Ends.{performed_ends, stop_ends}
 use Rattle.init_forms.proofs.Performed.{counts_after, course_is, performed_as_before, performed_status, performed_tree}
@@ -18,11 +19,11 @@ returns-in-Ok-clause-tree g c = λ world is.
 pub returns-in-Ok-clause-ends : goal.returns-in-Ok-clause-ends
 returns-in-Ok-clause-ends g c = λ trace told tells.
     let seen = seen_by g.P.Keeper.held g.P.Keeper.TellsCrash g.P.Keeper.moment g.P.Keeper.MayLeave in
-    let script : ScriptOfJob told.script (g.S.Source.left c.prepare.new.source) (Ok c.in-Ok.job) = told_of _ _ told.script tells.script_is c.in-Ok.ensures.script in
+    let script : ScriptOfJob Whole told.script (g.S.Source.left c.prepare.new.source) (Ok c.in-Ok.job) = told_of _ _ told.script tells.script_is c.in-Ok.ensures.script in
     let store : GivesSaved told.held (Ok c.in-Ok.job) = told_of _ _ told.held tells.held_is c.in-Ok.ensures.store in
     performed_ends (course_of c.in-Ok.job) told (g.K.Sink.taken c.args.out.now) (g.K.Sink.taken c.perform.new.out) (seen c.args.keeper.now) (seen c.prepare.new.keeper) (seen c.perform.new.keeper)
     c.perform.result.0 c.in-Ok.ensures.asked
-    (course_is c.in-Ok.job told.script told.world told.held c.in-Ok.ensures.fit script.0 (c.in-Ok.ensures.tree told.world tells.world_is) store)
+    (course_is Whole c.in-Ok.job told.script told.world told.held c.in-Ok.ensures.fit script.0 (c.in-Ok.ensures.tree told.world tells.world_is) store)
     c.perform.ensures.leaves
 
 pub returns-in-Ok-clause-unwritten : goal.returns-in-Ok-clause-unwritten
@@ -43,7 +44,7 @@ pub returns-in-Err-clause-ends : goal.returns-in-Err-clause-ends
 returns-in-Err-clause-ends g c = λ trace told tells.
     let seen = seen_by g.P.Keeper.held g.P.Keeper.TellsCrash g.P.Keeper.moment g.P.Keeper.MayLeave in
     rw c.status.ensures
-    (stop_ends c.in-Err.stop Run told (g.S.Source.left c.prepare.new.source) (g.K.Sink.taken c.args.out.now) (seen c.args.keeper.now) (seen c.prepare.new.keeper)
+    (stop_ends Whole c.in-Err.stop Run told (g.S.Source.left c.prepare.new.source) (g.K.Sink.taken c.args.out.now) (seen c.args.keeper.now) (seen c.prepare.new.keeper)
     (λ how is. is) c.in-Err.ensures.kind (told_of _ _ told.script tells.script_is c.in-Err.ensures.script) (c.in-Err.ensures.tree told.world tells.world_is) (told_of _ _ told.held tells.held_is c.in-Err.ensures.store)
     c.in-Err.ensures.asked.0 c.in-Err.ensures.asked.1)
 
@@ -70,9 +71,9 @@ returns-in-Ok-clause-seat g c = run_given (course_of c.in-Ok.job) c.perform.resu
 pub returns-in-Ok-clause-recorded : goal.returns-in-Ok-clause-recorded
 returns-in-Ok-clause-recorded g c = λ trace told tells.
     let seen = seen_by g.P.Keeper.held g.P.Keeper.TellsCrash g.P.Keeper.moment g.P.Keeper.MayLeave in
-    let script : ScriptOfJob told.script (g.S.Source.left c.prepare.new.source) (Ok c.in-Ok.job) = told_of _ _ told.script tells.script_is c.in-Ok.ensures.script in
+    let script : ScriptOfJob Whole told.script (g.S.Source.left c.prepare.new.source) (Ok c.in-Ok.job) = told_of _ _ told.script tells.script_is c.in-Ok.ensures.script in
     let store : GivesSaved told.held (Ok c.in-Ok.job) = told_of _ _ told.held tells.held_is c.in-Ok.ensures.store in
     run_records (course_of c.in-Ok.job) told (g.K.Sink.taken c.args.out.now) (g.K.Sink.taken c.perform.new.out) (seen c.args.keeper.now) (seen c.prepare.new.keeper) (seen c.perform.new.keeper)
     c.perform.result.0 c.perform.result.1
-    (course_is c.in-Ok.job told.script told.world told.held c.in-Ok.ensures.fit script.0 (c.in-Ok.ensures.tree told.world tells.world_is) store)
+    (course_is Whole c.in-Ok.job told.script told.world told.held c.in-Ok.ensures.fit script.0 (c.in-Ok.ensures.tree told.world tells.world_is) store)
     c.perform.ensures.leaves c.perform.ensures.seat

@@ -32,4 +32,4 @@ pub returns : goal.returns
 returns g c =
     let seated = subst (λ (these : List Client). AllSeated g.N.AreaName.area c.args.service.opening (length these) c.in-Ok.readers.items) c.items.ensures c.in-Ok.ensures in
     ended_raced g.N.AreaName.area c.args.service.opening c.args.script.now c.in-Ok.readers.items c.act_at-came.result c.end_with.result
-    c.requires.asks c.requires.domains seated c.act_at-came.ensures c.end_with.ensures
+    c.requires.asks c.requires.domains seated c.act_at-came.ensures c.end_with.ensures.ended

@@ -2,10 +2,8 @@ use Rattle.std.specs.Prelude.{IfErr}
 use Rattle.rc_import.proofs.Outcomes.{err_is}
 use Rattle.job_reader.specs.Endings.{IsRunStatus}
 use Rattle.job_reader.specs.Stops.{status_of}
-use Rattle.job_reader.specs.Tree.Purpose.{ToRun}
-use Rattle.job_reader.proofs.Prepared.{setup_of_job, tree_fits}
-use Rattle.job_reader.proofs.Says.{script_stop_of_run, store_stop_tree}
-use Rattle.job_reader.proofs.WellFormed.{job_is_fit}
+use Rattle.job_reader.proofs.Prepared.{permitted_in_job, prepared_script, rest_of_run, script_of_rest}
+use Rattle.job_reader.proofs.Says.{script_stop_of_run}
 use Rattle.job_reader.proofs.preparing.prepare.Goals as goal
 
 pub returns-in_err-script-clause-kind : goal.returns-in_err-script-clause-kind
@@ -13,14 +11,17 @@ returns-in_err-script-clause-kind g c =
     err_is (λ r. IfErr r (λ why. IsRunStatus (status_of why))) _ _ c.from_residual.ensures
     (script_stop_of_run c.in_err-script.field-0.0 c.in_err-script.ensures.early)
 
-pub returns-in-Err-read_store-clause-tree : goal.returns-in-Err-read_store-clause-tree
-returns-in-Err-read_store-clause-tree g c = λ world is.
-    store_stop_tree ToRun world c.in-Err-read_store.why c.in-Err-read_store.ensures.late (tree_fits world _ (c.in-Ok.ensures.tree world is))
+pub returns-clause-script : goal.returns-clause-script
+returns-clause-script g c =
+    script_of_rest c.args.grammar (g.S.Source.left c.args.source.now) _ c.in_ok-script.script c.prepare_with.result
+    c.in_ok-script.ensures.script c.prepare_with.ensures.script c.prepare_with.ensures.kind
 
-pub returns-clause-tree : goal.returns-clause-tree
-returns-clause-tree g c = λ world is.
-    setup_of_job world _ _ _ _ (c.in-Ok.ensures.tree world is) c.in_ok-job_of.ensures
+pub returns-clause-permitted : goal.returns-clause-permitted
+returns-clause-permitted g c = permitted_in_job c.args.grammar c.in_ok-script.script c.prepare_with.result c.in_ok-script.ensures.permitted c.prepare_with.ensures.script
 
-pub returns-clause-fit : goal.returns-clause-fit
-returns-clause-fit g c =
-    job_is_fit _ _ _ _ c.in_ok-job_of.ensures c.in-Ok.ensures.well_formed c.in_ok-script.ensures.conditions c.in-Ok-read_store.ensures.saved
+pub returns-clause-kind : goal.returns-clause-kind
+returns-clause-kind g c = rest_of_run c.prepare_with.result c.prepare_with.ensures.kind
+
+pub returns-clause-counts : goal.returns-clause-counts
+returns-clause-counts g c = λ trace out.
+    prepared_script c.prepare_with.result _ _ _ _ trace _ _ out c.in_ok-script.ensures.cause c.prepare_with.ensures.counts

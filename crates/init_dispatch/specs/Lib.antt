@@ -1,0 +1,2 @@
+pub mod Dispatched
+pub mod internal

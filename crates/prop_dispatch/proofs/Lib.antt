@@ -1,0 +1,9 @@
+pub mod Requests
+pub mod Moves
+pub mod Passes
+pub mod Lists
+pub mod Clients
+pub mod Entries
+pub mod Serving
+pub mod InTurn
+pub mod Ended

@@ -1,0 +1,3 @@
+pub mod Relayed
+pub mod Clients
+pub mod internal

@@ -1,0 +1,5 @@
+-- What private functions say of themselves. No promise of the crate cites it, and a reader needn't believe it.
+pub mod Views
+pub mod Rule
+pub mod Passing
+pub mod Serving
