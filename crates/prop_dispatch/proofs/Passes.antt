@@ -122,3 +122,12 @@ module _ {Q A : Type 0} (line : Slotted (Option Item) (Doing Item View) Q A) whe
   as_many_seated number [] (x ∷ senders) each = absurd each
   as_many_seated number (s ∷ sessions) [] each = absurd each
   as_many_seated number (s ∷ sessions) (x ∷ senders) each = omega (arith, as_many_seated (number + 1) sessions senders each.3)
+
+-- so it is of the same queue and the same senders
+pub same_pushed : {T E Q A : Type 0} (r : Result T E) (items : T → List (Pass Item View)) (line line' : Slotted (Option Item) (Doing Item View) Q A)
+    (senders senders' : List Sender) → line ≡ line' → senders ≡ senders' → IfOk r (λ passes. EachPushed line senders (items passes))
+    → IfOk r (λ passes. EachPushed line' senders' (items passes))
+same_pushed {Q = Q} {A = A} (Ok passes) items line line' senders senders' queue same each =
+    subst (λ (s : List Sender). EachPushed line' s (items passes)) same
+    (subst (λ (l : Slotted (Option Item) (Doing Item View) Q A). EachPushed l senders (items passes)) queue each)
+same_pushed {Q = Q} {A = A} (Err e) items line line' senders senders' queue same each = tt

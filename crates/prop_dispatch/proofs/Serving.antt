@@ -1,5 +1,5 @@
 -- The worker serves one more request.
-use Rattle.std.proofs.Common.{◌≡◌, ◌≢◌, ⊎_elim, ℕ, suc, ◌+◌, ◌<◌, ◌≤◌, ◌==◌, ◌||◌, Bool, true, false, List, [], ◌∷◌, ◌++◌, length, map, set, slice_get, All, take, is_err, OnOk, Ok, Err, true≢false, Option, Some, None, IfSome, IsSomeAnd, Result, refl, sym, ap, ◌∙◌, subst, arith, append_assoc, append-nil, length-append}
+use Rattle.std.proofs.Common.{◌≡◌, ◌≢◌, ⊎_elim, ℕ, suc, ◌+◌, ◌<◌, ◌≤◌, ◌==◌, ◌||◌, Bool, true, false, List, [], ◌∷◌, ◌++◌, length, map, set, slice_get, All, take, is_err, OnOk, Ok, Err, true≢false, Option, Some, None, IfOk, IfSome, IsSomeAnd, Result, refl, sym, ap, ◌∙◌, subst, arith, append_assoc, append-nil, length-append}
 use Rattle.std.proofs.lemmas.List.{length-set, map-append}
 use Rattle.std.proofs.lemmas.List.Folds.{list_any-append}
 use Rattle.std.proofs.lemmas.Option.{slice_get_within}
@@ -277,3 +277,8 @@ pub is_fresh : (area : TableId) (old : ServiceView) (sessions : List Session) (k
 is_fresh area old sessions k s now seats different fresh h at =
     let was = all_at (λ (x : Session). has_seat old.seat x.who.0 ≡ false) sessions k s fresh at in
     h.entered s.who.0 ∙ ap (λ (b : Bool). b || is_client_of (take k sessions) s.who.0) was ∙ not_before sessions different k s at
+
+-- what a call that ends well has done
+pub then_ok : {T E : Type 0} (r : Result T E) (Fine : Type 0) (Was Is : T → Type 0) → OnOk r Fine → IfOk r Was → (Fine → (x : T) → Was x → Is x) → IfOk r Is
+then_ok (Ok x) Fine Was Is fine was step = step fine x was
+then_ok (Err e) Fine Was Is fine was step = tt
