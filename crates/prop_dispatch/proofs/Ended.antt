@@ -1,9 +1,8 @@
 -- What is left of the worker, once all is served.
-use Rattle.std.proofs.Common.{◌≡◌, ℕ, zero, suc, Bool, false, List, [], ◌∷◌, map, slice_get, slice_index_or, All, Option, Some, refl, sym, ap, ◌∙◌, subst}
+use Rattle.std.proofs.Common.{◌≡◌, ℕ, zero, suc, false, List, [], ◌∷◌, map, slice_get, slice_index_or, Some, sym, ap, ◌∙◌, subst}
 use Rattle.std.specs.List.{AllZip}
 use Rattle.atomic_table.specs.Seated.{TableId}
 use Rattle.init_machine.specs.declared.config.Pair.{Pair}
-use Rattle.init_machine.specs.declared.report.Entry.{Entry}
 use Rattle.property_area.specs.Seats.{Seated}
 use Rattle.property_service.specs.Service.{Agrees, ServiceView}
 use Rattle.prop_dispatch.specs.Relayed.{AreServed, HasAsked}

@@ -7,7 +7,7 @@ use Rattle.std.proofs.lemmas.Bool.Decides.{nat_tests}
 use mathlib.Core.Option.{some, some-injective, some-ne-none}
 use lib.ListN.{get_elem?}
 use Rattle.crossbeam_queue.specs.Fifo.{Pushes, Pops, Forks, Merges, Learns}
-use Rattle.crossbeam_queue.proofs.Lists.{at_set, at_snoc}
+use Rattle.crossbeam_queue.proofs.Lists.{at_set}
 use Rattle.init_machine.specs.declared.config.Pair.{Pair}
 use Rattle.prop_dispatch.specs.internal.Rule.{pairs_of, FitsSession, FitsWorker, KeepsOrder, Accounts}
 use Rattle.prop_dispatch.specs.internal.Views.{session_view, worker_view, spent_view}

@@ -1,12 +1,12 @@
 -- What sessions have and give back, one after another.
-use Rattle.std.proofs.Common.{◌≡◌, ℕ, zero, suc, ◌+◌, ◌<◌, List, [], ◌∷◌, ◌++◌, length, get_or, map, Option, Result, Ok, Err, IfOk, refl, sym, ap, ◌∙◌, subst, arith, append_assoc, length-append}
+use Rattle.std.proofs.Common.{◌≡◌, ℕ, zero, suc, ◌+◌, ◌<◌, List, [], ◌∷◌, ◌++◌, length, get_or, Option, Result, Ok, Err, IfOk, refl, sym, ap, ◌∙◌, subst, arith, append_assoc}
 use Rattle.std.specs.Prelude.{All}
 use Rattle.crossbeam_queue.specs.Passes.{Pass, view, IsPassOf}
 use Rattle.crossbeam_queue.specs.declared.array_queue.Doing.{Doing}
 use Rattle.crossbeam_queue.specs.declared.array_queue.Slotted.{Slotted}
 use Rattle.init_machine.specs.declared.config.Pair.{Pair}
 use Rattle.prop_dispatch.specs.internal.Passing.{MayPush, HasPushed, EachFrom, EachSeated, EachPushed, lists_of, puts_of}
-use Rattle.std.specs.Prelude.{nat_lt, slice_index_or, true, false, Bool, ◌≤◌}
+use Rattle.std.specs.Prelude.{nat_lt, slice_index_or, true, false, Bool}
 use Rattle.std.proofs.lemmas.Bool.Decides.{nat_tests}
 use Rattle.std.proofs.lemmas.List.{get_or_past, append-nil}
 use Rattle.prop_dispatch.specs.internal.Rule.{Accounts, pairs_of}

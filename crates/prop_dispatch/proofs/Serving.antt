@@ -1,5 +1,5 @@
 -- The worker serves one more request.
-use Rattle.std.proofs.Common.{◌≡◌, ◌≢◌, ⊎_elim, ℕ, suc, ◌+◌, ◌<◌, ◌≤◌, ◌==◌, ◌||◌, Bool, true, false, List, [], ◌∷◌, ◌++◌, length, map, set, slice_get, All, take, is_err, OnOk, Ok, Err, true≢false, Option, Some, None, IfOk, IfSome, IsSomeAnd, Result, refl, sym, ap, ◌∙◌, subst, arith, append_assoc, append-nil, length-append}
+use Rattle.std.proofs.Common.{◌≡◌, ◌≢◌, ⊎_elim, ℕ, ◌≤◌, ◌==◌, ◌||◌, Bool, true, false, List, [], ◌∷◌, ◌++◌, length, map, set, slice_get, take, is_err, OnOk, Ok, Err, true≢false, Option, Some, None, IfOk, IfSome, Result, refl, sym, ap, ◌∙◌, subst, arith, append_assoc, append-nil, length-append}
 use Rattle.std.proofs.lemmas.List.{length-set, map-append}
 use Rattle.std.proofs.lemmas.List.Folds.{list_any-append}
 use Rattle.std.proofs.lemmas.Option.{slice_get_within}
@@ -19,14 +19,14 @@ use Rattle.property_area.specs.Readers.{asker_of, last_of}
 use Rattle.property_area.specs.Seats.{Seated}
 use Rattle.property_area.specs.declared.view.LogOpening.{LogOpening}
 use Rattle.property_service.specs.Back.{ComesBackFrom, has_entry, request_behind}
-use Rattle.property_service.specs.Record.{log_of, recorded}
+use Rattle.property_service.specs.Record.{log_of}
 use Rattle.property_service.specs.Service.{DeclaredIn, ServiceView, has_seat, set_by}
 use Rattle.property_service.specs.Settings.{HasSet, set_entry}
 use Rattle.property_service.specs.declared.answer.Accepted.{Accepted}
 use Rattle.prop_dispatch.specs.Clients.{AreDifferent, AreOfClients, HaveNotEntered}
 use Rattle.prop_dispatch.specs.Relayed.{AreServed, HasAsked, IsSetOf, answer_in, entries_of, is_client_of, last_lines, line_for, sets_for}
 use Rattle.prop_dispatch.specs.internal.Rule.{pairs_of}
-use Rattle.prop_dispatch.specs.internal.Serving.{HasEntered, HasServed, HaveEntered, IsNew, IsServed, IsServing, MaySet, Served, Serves}
+use Rattle.prop_dispatch.specs.internal.Serving.{HasEntered, HasServed, HaveEntered, IsNew, IsServed, MaySet, Serves}
 use Rattle.prop_dispatch.specs.declared.protocol.Item.{Item}
 use Rattle.prop_dispatch.specs.declared.seat.Seat.{Seat}
 use Rattle.prop_dispatch.specs.declared.session.Session.{Session}

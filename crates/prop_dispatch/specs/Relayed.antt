@@ -1,5 +1,5 @@
 -- What a dispatch leaves: each session's requests in the history, its verdicts, and its client's reader.
-use Rattle.std.specs.Prelude.{◌≡◌, ℕ, ◌==◌, Bool, true, List, ◌++◌, ◌∷◌, map, All, Option, Some, Result, Ok, Err}
+use Rattle.std.specs.Prelude.{◌≡◌, ℕ, ◌==◌, Bool, true, List, ◌++◌, map, All, Option, Some, Result, Ok, Err}
 use Rattle.std.specs.List.{AllZip, filter, list_any}
 use Rattle.atomic_table.specs.Seated.{TableId}
 use Rattle.init_machine.specs.History.{inputs_of}

@@ -1,5 +1,5 @@
 -- What the worker has served.
-use Rattle.std.specs.Prelude.{◌≡◌, ℕ, ◌+◌, ◌||◌, ◌==◌, Bool, true, false, List, [], ◌∷◌, ◌++◌, length, map, All, Option, Some, slice_get, slice_index_or}
+use Rattle.std.specs.Prelude.{◌≡◌, ℕ, ◌+◌, ◌||◌, ◌==◌, Bool, true, false, List, [], ◌∷◌, ◌++◌, length, map, All, Some, slice_get, slice_index_or}
 use Rattle.atomic_table.specs.Seated.{TableId}
 use Rattle.init_machine.specs.State.{Opening}
 use Rattle.init_machine.specs.declared.config.Pair.{Pair}

@@ -1,4 +1,4 @@
-use Rattle.std.proofs.Common.{◌≡◌, ◌∙◌, List, [], ap, sym, subst, length}
+use Rattle.std.proofs.Common.{◌≡◌, ◌∙◌, List, ap, sym, subst, length}
 use Rattle.crossbeam_queue.specs.Passes.{view}
 use Rattle.prop_dispatch.specs.internal.Passing.{EachPushed, lists_of}
 use Rattle.prop_dispatch.specs.internal.Serving.{Served}

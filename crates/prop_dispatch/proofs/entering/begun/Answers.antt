@@ -1,4 +1,4 @@
-use Rattle.std.proofs.Common.{sym, ◌∙◌, ap, subst, List}
+use Rattle.std.proofs.Common.{sym, ◌∙◌, subst, List}
 use Rattle.prop_dispatch.specs.internal.Serving.{HaveEntered}
 use Rattle.prop_dispatch.specs.declared.session.Session.{Session}
 use Rattle.prop_dispatch.proofs.Serving.{given_ok, serves_none}

@@ -1,4 +1,4 @@
-use Rattle.std.proofs.Common.{◌≡◌, ◌++◌, ◌∷◌, [], List, refl, sym, subst, append-nil, rules}
+use Rattle.std.proofs.Common.{◌++◌, ◌∷◌, [], List, refl, sym, subst, append-nil, rules}
 use Rattle.prop_dispatch.specs.internal.Serving.{Served, items_for}
 use Rattle.prop_dispatch.specs.declared.protocol.Item.{Item}
 use Rattle.prop_dispatch.proofs.InTurn.{item_next}

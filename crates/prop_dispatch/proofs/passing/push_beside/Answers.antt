@@ -1,5 +1,5 @@
-use Rattle.std.proofs.Common.{◌≡◌, length, get_or, sym, ◌∙◌, subst, arith, rules}
-use Rattle.prop_dispatch.specs.internal.Passing.{EachPushed, HasPushed}
+use Rattle.std.proofs.Common.{◌≡◌, get_or, sym, ◌∙◌, subst, arith, rules}
+use Rattle.prop_dispatch.specs.internal.Passing.{HasPushed}
 use Rattle.prop_dispatch.specs.declared.senders.Sender.{Sender}
 use Rattle.prop_dispatch.proofs.Passes.{each_pushed}
 use Rattle.prop_dispatch.proofs.passing.push_beside.Goals as goal

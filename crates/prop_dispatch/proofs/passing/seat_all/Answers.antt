@@ -1,4 +1,4 @@
-use Rattle.std.proofs.Common.{◌≡◌, ◌++◌, ◌∷◌, [], ap, refl, ◌∙◌, sym, rules, arith, length-append}
+use Rattle.std.proofs.Common.{◌++◌, ◌∷◌, [], ap, ◌∙◌, sym, rules, arith, length-append}
 use Rattle.prop_dispatch.specs.internal.Views.{worker_view}
 use Rattle.prop_dispatch.proofs.Passes.{one_fewer}
 use Rattle.prop_dispatch.proofs.passing.seat_all.Goals as goal

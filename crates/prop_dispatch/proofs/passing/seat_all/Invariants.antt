@@ -1,4 +1,4 @@
-use Rattle.std.proofs.Common.{◌≡◌, ◌++◌, ◌+◌, [], List, length}
+use Rattle.std.proofs.Common.{◌≡◌, ◌++◌, [], List, length}
 use Rattle.crossbeam_queue.specs.Passes.{view, IsPassOf}
 use Rattle.prop_dispatch.specs.internal.Passing.{EachSeated}
 use Rattle.prop_dispatch.specs.internal.Views.{worker_view}

@@ -1,5 +1,4 @@
-use Rattle.std.proofs.Common.{◌≡◌, ◌++◌, ◌∷◌, [], ap, refl, ◌∙◌, sym, rules, arith}
-use Rattle.prop_dispatch.specs.internal.Passing.{EachSeated}
+use Rattle.std.proofs.Common.{[], ap, refl, ◌∙◌, rules}
 use Rattle.prop_dispatch.specs.internal.Views.{session_view}
 use Rattle.prop_dispatch.proofs.Moves.{seats}
 use Rattle.prop_dispatch.proofs.Passes.{seated_by}

@@ -1,5 +1,5 @@
-use Rattle.std.proofs.Common.{◌≡◌, ◌++◌, ◌+◌, ◌∷◌, [], ap, refl, ◌∙◌, sym, subst, rules, arith, length, length-append, append_assoc, append-nil}
-use Rattle.crossbeam_queue.specs.Passes.{view, IsPassOf}
+use Rattle.std.proofs.Common.{◌≡◌, ◌++◌, ◌∷◌, [], ap, ◌∙◌, sym, subst, rules, arith, length, length-append, append_assoc, append-nil}
+use Rattle.crossbeam_queue.specs.Passes.{view}
 use Rattle.prop_dispatch.specs.internal.Passing.{EachFrom, puts_of}
 use Rattle.prop_dispatch.specs.internal.Views.{worker_view}
 use Rattle.prop_dispatch.proofs.Moves.{leaves}

@@ -1,5 +1,5 @@
 use Rattle.std.proofs.Common.{ap}
-use Rattle.prop_dispatch.proofs.Moves.{takes, learns, settles}
+use Rattle.prop_dispatch.proofs.Moves.{takes, learns}
 use Rattle.prop_dispatch.proofs.worker.drain.Goals as goal
 
 pub pop_as-requires-clause-rule : goal.pop_as-requires-clause-rule
