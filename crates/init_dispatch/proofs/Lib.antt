@@ -1,5 +1,5 @@
 pub mod MainActor
-pub mod Sessions
+pub mod EachSession
 pub mod Clients
 pub mod Begun
 pub mod Served
