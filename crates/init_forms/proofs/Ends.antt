@@ -140,6 +140,7 @@ judged_ends verdict told old new a b status.NoInit asked is h = absurd h
 judged_ends verdict told old new a b (status.TooLarge limit number) asked is h = absurd h
 judged_ends verdict told old new a b (status.BadPolicy allow line) asked is h = absurd h
 judged_ends verdict told old new a b (status.BadStore line why) asked is h = absurd h
+judged_ends verdict told old new a b (status.BadWire at) asked is h = absurd h
 judged_ends verdict told old new a b status.BadTrace asked is h = absurd h
 
 -- ---- a run
@@ -174,6 +175,7 @@ performed_ends course told old new a b c status.NoInit asked is h = absurd h
 performed_ends course told old new a b c (status.TooLarge limit number) asked is h = absurd h
 performed_ends course told old new a b c (status.BadPolicy allow line) asked is h = absurd h
 performed_ends course told old new a b c (status.BadStore line why) asked is h = absurd h
+performed_ends course told old new a b c (status.BadWire at) asked is h = absurd h
 performed_ends course told old new a b c status.BadTrace asked is h = absurd h
 
 -- ---- a check
@@ -217,6 +219,7 @@ check_ends told old new a (status.TooLarge limit number) is tree writes =
     (Refused (status.TooLarge limit number), check_limit told limit number is tree, refl, nothing_new old new a writes)
 check_ends told old new a (status.BadPolicy allow line) is tree writes = absurd is
 check_ends told old new a (status.BadStore line why) is tree writes = absurd is
+check_ends told old new a (status.BadWire at) is tree writes = absurd is
 check_ends told old new a status.BadTrace is tree writes = absurd is
 
 -- ---- the words

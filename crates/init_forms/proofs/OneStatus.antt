@@ -81,6 +81,7 @@ script_case g bytes status.NoInit h = absurd h
 script_case g bytes (status.TooLarge limit number) h = inr (limit, number, refl, h)
 script_case g bytes (status.BadPolicy allow line) h = absurd h
 script_case g bytes (status.BadStore line why) h = absurd h
+script_case g bytes (status.BadWire at) h = absurd h
 script_case g bytes status.BadTrace h = absurd h
 
 script_same : (g : Grammar) (bytes : List ℕ) (s t : Status) → ScriptCase g bytes s → ScriptCase g bytes t → s ≡ t
@@ -118,6 +119,7 @@ policy_case tree status.NoInit h = absurd h
 policy_case tree (status.TooLarge limit number) h = inr (limit, number, refl, h)
 policy_case tree (status.BadPolicy allow line) h = inl (allow, line, refl, h)
 policy_case tree (status.BadStore line why) h = absurd h
+policy_case tree (status.BadWire at) h = absurd h
 policy_case tree status.BadTrace h = absurd h
 
 -- the refusal of a bad line
@@ -177,6 +179,7 @@ files_case world status.NoInit h = inl (refl, h.0, h.1)
 files_case world (status.TooLarge limit number) h = inr (limit, number, refl, h)
 files_case world (status.BadPolicy allow line) h = absurd h
 files_case world (status.BadStore line why) h = absurd h
+files_case world (status.BadWire at) h = absurd h
 files_case world status.BadTrace h = absurd h
 
 same_refused : (r : Result Loaded LoadRefusal) (why other : LoadRefusal) → r ≡ Err why → r ≡ Err other → why ≡ other
@@ -247,6 +250,7 @@ store_case held status.NoInit h = absurd h
 store_case held (status.TooLarge limit number) h = store_large held limit number h
 store_case held (status.BadPolicy allow line) h = absurd h
 store_case held (status.BadStore line why) h = inl (line, why, refl, h.0, h.1)
+store_case held (status.BadWire at) h = absurd h
 store_case held status.BadTrace h = absurd h
 
 same_unfit : (r : Result (List Pair) StoreRefusal) (line next : ℕ) (why other : StoreCause) → r ≡ Err (store.BadLine line why) → r ≡ Err (store.BadLine next other)
@@ -290,6 +294,7 @@ trace_case trace status.NoInit h = absurd h
 trace_case trace (status.TooLarge limit number) h = trace_large trace limit number h
 trace_case trace (status.BadPolicy allow line) h = absurd h
 trace_case trace (status.BadStore line why) h = absurd h
+trace_case trace (status.BadWire at) h = absurd h
 trace_case trace status.BadTrace h = inl (refl, h)
 
 trace_same : (trace : List ℕ) (s t : Status) → TraceCase trace s → TraceCase trace t → s ≡ t
@@ -466,4 +471,5 @@ only_status asked told status.NoInit shown ends outcome comes = inr (ends.2 ∙ 
 only_status asked told (status.TooLarge limit number) shown ends outcome comes = inr (ends.2 ∙ one_status asked told ends.0 outcome ends.1 comes)
 only_status asked told (status.BadPolicy allow line) shown ends outcome comes = inr (ends.2 ∙ one_status asked told ends.0 outcome ends.1 comes)
 only_status asked told (status.BadStore line why) shown ends outcome comes = inr (ends.2 ∙ one_status asked told ends.0 outcome ends.1 comes)
+only_status asked told (status.BadWire at) shown ends outcome comes = inr (ends.2 ∙ one_status asked told ends.0 outcome ends.1 comes)
 only_status asked told status.BadTrace shown ends outcome comes = inr (ends.2 ∙ one_status asked told ends.0 outcome ends.1 comes)
