@@ -359,7 +359,7 @@ audit_not told = both_pass (RunRefused Whole told) (TraceRefuses told.trace) (Ca
 
 -- ---- each form
 
-abbrev FormRefuses : Option Form → Told → Status → Type 0
+abbrev pub FormRefuses : Option Form → Told → Status → Type 0
 FormRefuses None told s = ⊥
 FormRefuses (Some Run) told s = RunRefused Whole told s
 FormRefuses (Some Race) told s = RunRefused Whole told s
@@ -369,7 +369,7 @@ FormRefuses (Some Check) told s = FilesRefuse told.world s
 FormRefuses (Some Audit) told s = AuditRefused told s
 FormRefuses (Some (Soak services)) told s = RunRefused Whole told s
 
-abbrev FormPasses : Option Form → Told → Type 0
+abbrev pub FormPasses : Option Form → Told → Type 0
 FormPasses None told = ⊤
 FormPasses (Some Run) told = CanBeRun Whole told
 FormPasses (Some Race) told = CanBeRun Whole told
@@ -380,7 +380,7 @@ FormPasses (Some Audit) told = CanBeRun Whole told × HasTrace told.trace
 FormPasses (Some (Soak services)) told = CanBeRun Whole told
 
 -- what a form that isn't refused ends with
-abbrev FormEnds : Option Form → Told → Status → Type 0
+abbrev pub FormEnds : Option Form → Told → Status → Type 0
 FormEnds None told s = s ≡ status.Usage
 FormEnds (Some Run) told s = s ≡ status.Done
 FormEnds (Some Race) told s = s ≡ status.Done
@@ -435,10 +435,10 @@ served_can told how replies is = record {
   store = (is.opening.config.saved, is.opened.saved);
 }
 
-abbrev Comes : Option Form → Told → Outcome → Type 0
+abbrev pub Comes : Option Form → Told → Outcome → Type 0
 Comes asked told outcome = FormRefuses asked told (status_of_outcome outcome) ⊎ (FormPasses asked told × FormEnds asked told (status_of_outcome outcome))
 
-comes : (asked : Option Form) (told : Told) (outcome : Outcome) → ComesTo asked told outcome → Comes asked told outcome
+pub comes : (asked : Option Form) (told : Told) (outcome : Outcome) → ComesTo asked told outcome → Comes asked told outcome
 comes None told Unformed h = inr (tt, refl)
 comes None told (Refused why) h = absurd h
 comes None told (Checked diagnostics) h = absurd h

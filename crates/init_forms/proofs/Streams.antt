@@ -71,10 +71,10 @@ long_stream many how long = cond-true (nat_lt max_stream many) _ how (lt-ltb max
 -- a stream that is too long, before anything bad in it
 pub open_stream : (last : Rest) (place many : ℕ) → IsTrue (is_open last) → max_stream < many
     → stream_status last place many ≡ status.TooLarge limits.ScriptBytes (max_stream + 1)
-open_stream rest.End place many open long = long_stream many status.Done long
-open_stream (rest.Torn have) place many open long = long_stream many (status.BadWire place) long
-open_stream (rest.BadCommand word) place many open long = absurd open
-open_stream (rest.BadLength len) place many open long = absurd open
+open_stream rest.End place many is long = long_stream many status.Done long
+open_stream (rest.Torn have) place many is long = long_stream many (status.BadWire place) long
+open_stream (rest.BadCommand word) place many is long = absurd is
+open_stream (rest.BadLength len) place many is long = absurd is
 
 -- ---- messages, and nothing after them
 

@@ -35,12 +35,7 @@ fn refused(refusal: WireRefusal) -> Status {
 }
 
 /// Boots the machine of a job, and serves the messages that the source holds.
-fn serve_job<S: Source, K: Sink>(
-    alloc: Global,
-    job: Job,
-    messages: &mut S,
-    out: &mut K,
-) -> Status
+fn serve_job<S: Source, K: Sink>(alloc: Global, job: Job, messages: &mut S, out: &mut K) -> Status
     requires fit { IsFit job }
     requires script { job.script ≡ wire_script }
     ensures served { (bytes : Items ℕ) → S.left messages.old ≡ Some bytes
