@@ -1,0 +1,1 @@
+use Rattle.init_forms.proofs.serving.serve_messages.Goals as goal
