@@ -173,8 +173,8 @@ module _ (o : Opening) (found : List Diagnostic) (told : Told) (old new : Option
 -- ---- a machine that isn't opened
 
 neither : {A : Type 0} → ⊥ ⊎ ⊥ → A
-neither (inl no) = absurd no
-neither (inr no) = absurd no
+neither (inl wrong) = absurd wrong
+neither (inr wrong) = absurd wrong
 
 limit_of_machine : (told : Told) (limit : Limit) (number : ℕ) → IsTreeLimit limit ⊎ IsStoreLimit limit → TreeLimitSays ToRun told.world limit number
     → StoreLimitSays told.held limit number → MachineRefused told (status.TooLarge limit number)

@@ -1,5 +1,5 @@
 -- A stream of messages has one reading, so one status.
-use Rattle.std.proofs.Common.{◌≡◌, ℕ, ◌+◌, ◌<◌, ◌≤◌, nat_lt, IsTrue, List, [], ◌∷◌, length, Option, refl, sym, ap, ◌∙◌, subst, arith}
+use Rattle.std.proofs.Common.{◌≡◌, ℕ, ◌+◌, ◌<◌, ◌≤◌, nat_lt, IsTrue, List, [], ◌∷◌, length, refl, sym, ap, ◌∙◌, subst, arith, sum_by}
 use Rattle.std.proofs.lemmas.Bool.{cond-false, cond-true, le-ltb, lt-ltb}
 use Rattle.std.proofs.lemmas.List.{take_all}
 use Rattle.init_machine.specs.State.{Opening}
@@ -8,12 +8,12 @@ use Rattle.job_reader.specs.declared.status.Status.{Status}
 use Rattle.job_reader.specs.declared.status.Status.TheVariants as status
 use Rattle.prop_wire.specs.Limit.{max_stream, stream_of}
 use Rattle.wire_format.proofs.Joining.{same_messages, same_rest}
-use Rattle.wire_format.specs.Wire.{BeginsWith, Wire, front_by, front_of, is_open, no_message, shape_of, whole}
+use Rattle.wire_format.proofs.Readings.{stream_len}
+use Rattle.wire_format.specs.Spelling.{message_len}
+use Rattle.wire_format.specs.Wire.{BeginsWith, Wire, is_open, whole}
 use Rattle.wire_format.specs.declared.message.Message.{Message}
 use Rattle.wire_format.specs.declared.message.Rest.{Rest}
 use Rattle.wire_format.specs.declared.message.Rest.TheVariants as rest
-use Rattle.wire_format.specs.declared.shape.Shape.{Shape}
-use Rattle.wire_format.specs.declared.shape.Shape.TheVariants as shape
 use Rattle.init_forms.specs.Serving.{AreMessages, IsAnsweredStream, stream_status, unless_too_long}
 
 -- ---- the status of a stream
@@ -73,25 +73,10 @@ pub open_stream : (last : Rest) (place many : ℕ) → IsTrue (is_open last) →
     → stream_status last place many ≡ status.TooLarge limits.ScriptBytes (max_stream + 1)
 open_stream rest.End place many is long = long_stream many status.Done long
 open_stream (rest.Torn have) place many is long = long_stream many (status.BadWire place) long
-open_stream (rest.BadCommand word) place many is long = absurd is
-open_stream (rest.BadLength len) place many is long = absurd is
+open_stream (rest.BadCommand word) place many is long = cc
+open_stream (rest.BadLength len) place many is long = cc
 
 -- ---- messages, and nothing after them
-
-not_at_end : (s : Shape) (byte : ℕ) (bytes : List ℕ) → front_by s (byte ∷ bytes) ≡ no_message rest.End → ⊥
-not_at_end shape.First byte bytes e = cc
-not_at_end (shape.Second name value) byte bytes e = cc
-not_at_end (shape.Wants len) byte bytes e = cc
-not_at_end (shape.BadCommand word) byte bytes e = cc
-not_at_end (shape.BadLength len) byte bytes e = cc
-
-nothing_left : (left : List ℕ) → front_of left ≡ no_message rest.End → left ≡ []
-unfolding front_of
-nothing_left [] e = refl
-nothing_left (byte ∷ bytes) e = absurd (not_at_end (shape_of (byte ∷ bytes)) byte bytes e)
-
-plus_none : (many none : ℕ) → none ≡ 0 → many + none ≡ many
-plus_none many none is = omega arith
 
 -- a stream of messages alone is done
 pub messages_are_done : (bytes : List ℕ) → AreMessages bytes → IsStreamStatus bytes status.Done
@@ -102,7 +87,7 @@ messages_are_done bytes are =
       messages = are.messages;
       last = rest.End;
       wire = wire;
-      place = length (stream_of bytes);
-      place_is = plus_none (length (stream_of bytes)) (length wire.left) (ap length (nothing_left wire.left wire.rests));
+      place = sum_by message_len are.messages;
+      place_is = sym (stream_len (stream_of bytes) are.messages wire.left wire.begins);
       how_is = sym (short_stream (length bytes) status.Done are.short);
     }
