@@ -1,6 +1,6 @@
 -- How the serving of messages ends, and what it says of the objects.
-use Rattle.std.proofs.Common.{◌≡◌, ℕ, ◌+◌, ◌≤◌, Bool, true, false, List, [], length, map, Option, Some, Result, Ok, Err, refl, sym, ap, ◌∙◌, subst, inl, inr, arith}
-use Rattle.std.specs.Prelude.{◌⊎◌, ◌∷◌}
+use Rattle.std.proofs.Common.{◌≡◌, ℕ, ◌≤◌, true, false, List, [], length, map, Option, Some, Result, Ok, Err, refl, sym, ap, ◌∙◌, subst, inl, inr, arith}
+use Rattle.std.specs.Prelude.{◌⊎◌}
 use Rattle.std.specs.Io.KnownBytes.{append_known}
 use Rattle.init_base.specs.Faults.{Counted, Rose}
 use Rattle.init_driver.specs.Keeper.{KeeperView, Risks, Took}
@@ -28,7 +28,6 @@ use Rattle.job_reader.specs.declared.status.Status.{Status}
 use Rattle.job_reader.specs.declared.status.Status.TheVariants as status
 use Rattle.job_reader.specs.declared.stop.Stop.{Stop}
 use Rattle.job_reader.specs.declared.stop.Stop.TheVariants as stop
-use Rattle.prop_wire.specs.Limit.{max_stream}
 use Rattle.prop_wire.specs.Refusals.{is_read_fault, is_write_fault}
 use Rattle.prop_wire.specs.Replies.{Replies}
 use Rattle.prop_wire.specs.Serving.{TakesBytes}
@@ -40,7 +39,7 @@ use Rattle.wire_format.specs.declared.message.Rest.{Rest}
 use Rattle.wire_format.specs.declared.message.Rest.TheVariants as rest
 use Rattle.init_forms.proofs.Ends.{machine_limit, refused}
 use Rattle.init_forms.proofs.Streams.{open_stream, short_stream}
-use Rattle.init_forms.specs.Outcome.{ComesTo, CutShort, Ends, IsServed, MachineRefused, Outcome, Shows, Told, Untouched, shown_as, status_of_outcome}
+use Rattle.init_forms.specs.Outcome.{ComesTo, CutShort, Ends, IsServed, MachineRefused, Outcome, Shows, Told, shown_as, status_of_outcome}
 use Rattle.init_forms.specs.Outcome.Outcome.{Served}
 use Rattle.init_forms.specs.Serving.{CutsReplies, IsAnsweredStream, PerformsWire, WritesReplies, stream_status}
 use Rattle.init_forms.specs.Top.{IsUnwritten}

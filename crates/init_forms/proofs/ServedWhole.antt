@@ -4,8 +4,7 @@ use Rattle.std.specs.Prelude.{IsSomeAnd}
 use Rattle.command_line.specs.declared.form.Form.TheVariants.{Wire}
 use Rattle.job_reader.specs.Counts.{AreCounted, Counts, IsDoneUnlessRisen}
 use Rattle.job_reader.specs.Store.{HasStore}
-use Rattle.job_reader.specs.Tree.{IsFitFor, IsWorldOf}
-use Rattle.job_reader.specs.Tree.Purpose.{ToRun}
+use Rattle.job_reader.specs.Tree.{IsWorldOf}
 use Rattle.job_reader.specs.declared.status.Status.{Status}
 use Rattle.job_reader.specs.declared.status.Status.TheVariants as status
 use Rattle.rc_import.specs.World.{World}
