@@ -10,7 +10,7 @@ sys.path.append(os.path.join(HERE, "../../tools"))
 from product.disk import BadImage, text_of  # noqa: E402
 
 STORE = "tree/data/property"
-EIO, ENOMEM = 5, 12
+EIO, EAGAIN, ENOMEM = 5, 11, 12
 # a run that hasn't ended by then is stopped
 SECONDS = 20
 
