@@ -88,7 +88,7 @@ def heads_in(text):
 
 
 def begins_a_trace(program, script, text, room):
-    """Whether a trace begins with the text: one with the same inputs, behind which come those that are left, of each actor in turn first."""
+    """Whether a trace begins with the text: one with the same inputs, and then those that are left, of some actor first."""
     left = {0: list(script.main)}
     for who, name in enumerate(script.clients, 1):
         left[who] = [["set", str(who), *words[1:]] for words in script.requests[name] if words[0] == "set"]
