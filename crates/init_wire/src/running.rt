@@ -1,11 +1,12 @@
 //! `run_wire`: the boot, and then the messages.
 
-ghost use Rattle.std.specs.Prelude.{◌≡◌, ◌≤◌, [], List as Items, ℕ, Some, length};
+ghost use Rattle.std.specs.Prelude.{◌≡◌, ◌≢◌, ◌≤◌, [], List as Items, ℕ, Some, Err, length};
 ghost use Rattle.init_base.specs.Faults.{Counted};
 ghost use Rattle.init_core.specs.Core.{opening_of};
 ghost use Rattle.init_machine.specs.WellFormed.{IsWellFormed};
 ghost use Rattle.init_wire.specs.Served.{IsAnswered};
 ghost use Rattle.prop_wire.specs.Refusals.{is_read_fault, is_write_fault};
+ghost use Rattle.prop_wire.specs.declared.refusal.WireRefusal.TheVariants as refusal;
 ghost use Rattle.property_area.specs.Area.{begins};
 
 use crate::booting::boot;
@@ -32,6 +33,7 @@ fn serve_at<N: AreaName, S: Source, K: Sink>(
         → IsAnswered desk.old.opening held (K.taken to.old) (K.taken to.new) result }
     ensures source { Counted (is_read_fault result) (S.fault_count from.old) (S.fault_count from.new) }
     ensures sink { Counted (is_write_fault result) (K.fault_count to.old) (K.fault_count to.new) }
+    ensures unspent { result ≢ Err refusal.Spent }
 {
     let reader = boot(desk)?;
     let (reader, served) = serve(alloc, desk, reader, from, to);
@@ -55,6 +57,7 @@ fn serve_over<N: AreaName, S: Source, K: Sink>(
         → IsAnswered (opening_of machine.0 machine.1 seat.view.words) held (K.taken to.old) (K.taken to.new) result }
     ensures source { Counted (is_read_fault result) (S.fault_count from.old) (S.fault_count from.new) }
     ensures sink { Counted (is_write_fault result) (K.fault_count to.old) (K.fault_count to.new) }
+    ensures unspent { result ≢ Err refusal.Spent }
 {
     let (config, policy) = machine;
     let writer = AreaWriter::new(area, seat);
@@ -68,7 +71,7 @@ fn serve_over<N: AreaName, S: Source, K: Sink>(
 /// holds, as `prop_wire::serve` does. Returns the number of messages.
 ///
 /// The bytes decide how it ends, and what is written. `ReadFault` and `WriteFault` come only if the count of faults of the source, or of
-/// the sink, rose, and `NoMemory` may come at any time.
+/// the sink, rose, and `NoMemory` may come at any time. `Spent` never comes.
 pub fn run_wire<S: Source, K: Sink>(
     alloc: Global,
     setup: Setup,
@@ -84,6 +87,7 @@ pub fn run_wire<S: Source, K: Sink>(
         → IsAnswered (opening_of setup.config setup.policy words) held (K.taken to.old) (K.taken to.new) result }
     ensures source { Counted (is_read_fault result) (S.fault_count from.old) (S.fault_count from.new) }
     ensures sink { Counted (is_write_fault result) (K.fault_count to.old) (K.fault_count to.new) }
+    ensures unspent { result ≢ Err refusal.Spent }
 {
     let Setup {
         config,
