@@ -147,8 +147,10 @@ class Hub:
                 for key, _ in self.selector.select():
                     key.data()
         finally:
+            # (a reply that was given is sent, whatever ended this)
             for client in self.clients:
-                client.connection.close()
+                client.send()
+                client.close()
             self.selector.close()
 
     def end(self):

@@ -51,10 +51,13 @@ def tool_line(said):
 def check_answers(check):
     with Served(check, check.tree()) as served:
         check.expect("the lines at the begin", [SHELL_LINE, f"Listening on {served.path}."], served.lines)
-        files = served.files()
+        with served.client() as connection:
+            connection.sendall(two(b"a"))
+            check.expect("socket: a first reply", word(ACCEPTED), exactly(connection, 4))
+            files = served.files()
         for what, pieces, wanted in ANSWERS:
             check.expect(f"socket: {what}", wanted, served.asked(*pieces))
-        check.expect("socket: every connection is closed", True, wait_for(lambda: served.files() == files))
+        check.expect("socket: every connection is closed", True, wait_for(lambda: served.files() == files - 1))
         check.expect("socket: the end", (0, ""), served.end())
         check.expect("socket: nothing is left", [], served.left())
 
@@ -259,19 +262,11 @@ def check_ends(check):
                 half.sendall(two(b"a")[:5])
                 check.expect("it serves", word(ACCEPTED), served.asked(two(b"a")))
                 check.expect(f"{number.name}: the end", (0, ""), served.end(number))
-                check.expect(f"{number.name}: of its clients too", (b"", b""), (end_of(waiting), end_of(half)))
+                check.expect(f"{number.name}: of its clients too", (b"", b""), (all_of(waiting), all_of(half)))
             check.expect(f"{number.name}: nothing is left", ([], False), (served.left(), is_alive(program)))
     check_refused_trees(check)
     check_programs_that_end(check, root)
     check_reached_limit(check, root)
-
-
-def end_of(connection):
-    try:
-        return all_of(connection)
-    except ConnectionResetError:
-        # (what it sent was never read)
-        return b""
 
 
 def check_refused_trees(check):
@@ -302,7 +297,7 @@ def check_programs_that_end(check, root):
                 first.sendall(two(b"a"))
                 check.expect(f"ends {what}: the reply before", word(ACCEPTED), exactly(first, 4))
                 check.expect(f"ends {what}: it is said", (status, tool_line(said)), served.ended())
-                check.expect(f"ends {what}: its clients", (b"", b""), (end_of(first), end_of(other)))
+                check.expect(f"ends {what}: its clients", (b"", b""), (all_of(first), all_of(other)))
             check.expect(f"ends {what}: nothing is left", [], served.left())
     slow = 'exec 3<"$3"\nhead -c 14 <&3 >/dev/null\nprintf "\\013"\nsleep 0.2\nprintf "\\000\\000\\000"\nhead -c 1 <&3\n'
     with Served(check, root, program=script(check, slow)) as served:
@@ -320,7 +315,7 @@ def check_reached_limit(check, root):
             sender = threading.Thread(target=send_all, args=(connection, message, 2049))
             sender.start()
             check.expect("the limit: the replies before", word(BAD_VALUE) * 2048, exactly(connection, 4 * 2048))
-            check.expect("the limit: no more", b"", end_of(connection))
+            check.expect("the limit: no more", b"", all_of(connection))
             sender.join()
         check.expect("the limit: it is said", (7, tool_line(LIMIT)), served.ended())
         check.expect("the limit: nothing is left", [], served.left())
