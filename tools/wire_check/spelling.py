@@ -1,4 +1,6 @@
-"""Messages and replies as docs/WIRE.md spells them. The rows use this, and not the tools' own code."""
+"""Messages and replies as docs/WIRE.md spells them, and the tree of the rows. The rows use this, and not the
+tools' own code."""
+import os
 
 
 def word(number):
@@ -26,3 +28,14 @@ TREE = {
     "property_contexts": "* default_prop\ndenied. other_prop\nint. default_prop prefix int\n",
     "property_allow": "# who may set what\nallow shell default_prop\nallow adbd other_prop\n",
 }
+
+
+def put_tree(root, **changed):
+    """Makes a tree with the files of the rows; a file that is None isn't there."""
+    for path, content in {**TREE, **changed}.items():
+        place = os.path.join(root, path)
+        os.makedirs(os.path.dirname(place), exist_ok=True)
+        if content is not None:
+            with open(place, "w") as file:
+                file.write(content)
+    return root
