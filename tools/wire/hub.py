@@ -13,6 +13,8 @@ from wire.format import BadFrame, has_reply, message_end, word_bytes
 
 UNUSABLE = 2
 PIECE = 16_384
+# How many clients may wait for being taken.
+MOST_WAITING = 1_024
 NO_MORE_FILES = (errno.EMFILE, errno.ENFILE, errno.ENOBUFS, errno.ENOMEM)
 
 
@@ -51,7 +53,7 @@ def listening_on(path):
         except OSError as why:
             raise refusal(path, why) from None
         try:
-            listener.listen()
+            listener.listen(MOST_WAITING)
             listener.setblocking(False)
             yield listener
         finally:

@@ -76,7 +76,7 @@ class Client:
     def __init__(self, trial, number, seed, count):
         self.trial, self.count, self.plan = trial, count, Plan(number, seed)
         self.own = random.Random(f"{seed} pieces {number}")
-        self.whole = self.replies = 0
+        self.whole = self.replies = self.broken = self.rubbish = 0
         self.mistakes = []
         self.thread = threading.Thread(target=self.run)
 
@@ -143,6 +143,7 @@ class Client:
 
     def front_of_message(self):
         """A part of a message, which nobody may set, and which the trial looks for at its end."""
+        self.broken += 1
         name = self.plan.name("ro.broken.")
         self.trial.unset.add(name)
         message = self.own.choice((one, two))(name, b"1")
@@ -175,6 +176,7 @@ class Rubbish(Client):
         bad, reply = self.own.choice((self.bad_command(), self.bad_name(), self.bad_value()))
         stream = b"".join(it.message for it in todo) + bad + self.own.randbytes(self.own.randrange(50))
         got = self.trial.served.asked(*self.pieces(stream))
+        self.rubbish += 1
         self.expect("rubbish", b"".join(it.reply for it in todo) + word(reply), got)
         for sent in todo:
             self.took(sent)
@@ -221,10 +223,9 @@ class Trial:
                 got[name] = exactly(connection, 4)
         return [f"{it.decode()}: wanted {wanted[it].hex()}, got {got[it].hex()}" for it in wanted if got[it] != wanted[it]]
 
-    def counts(self):
-        """How many messages were whole, and how many of them had a reply."""
-        everybody = self.clients + self.others
-        return sum(it.whole for it in everybody), sum(it.replies for it in everybody)
+    def count(self, what):
+        """How many there were of all clients together: whole messages, replies, broken messages, or connections with rubbish."""
+        return sum(getattr(it, what) for it in self.clients + self.others)
 
 
 def shown(mistakes):

@@ -40,8 +40,9 @@ class Served:
     def client(self):
         """A connection."""
         connection = socket.socket(socket.AF_UNIX, socket.SOCK_STREAM)
-        connection.settimeout(SECONDS)
+        # (as bionic's it waits for its turn, which one with a timeout doesn't)
         connection.connect(self.path)
+        connection.settimeout(SECONDS)
         return connection
 
     def asked(self, *pieces):

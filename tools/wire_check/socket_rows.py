@@ -148,8 +148,8 @@ def check_trial(check):
         trial = Trial(served, CLIENTS, MESSAGES, SEED)
         mistakes, _ = trial.run()
         check.expect("eight clients at once", [], shown(mistakes))
-        whole = trial.counts()[0]
-        check.expect("whose messages were all sent", True, whole >= CLIENTS * MESSAGES)
+        check.expect("whose messages were all sent", True, trial.count("whole") >= CLIENTS * MESSAGES)
+        check.expect("of which some were broken off, and others rubbish", (True, True), (trial.count("broken") > CLIENTS, trial.count("rubbish") > 0))
         check.expect("and the end of the trial", (0, ""), served.end())
         check.expect("after which nothing is left", [], served.left())
 
