@@ -113,7 +113,10 @@ class Stream:
 
     def read(self, most):
         """Reads a piece; whether there was one."""
-        piece = os.read(self.file, most)
+        try:
+            piece = os.read(self.file, most)
+        except OSError as why:
+            raise End(2, "read fault", f"{self.path}: {why.strerror}") from None
         self.taken += len(piece)
         self.left += piece
         return bool(piece)
