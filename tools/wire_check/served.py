@@ -5,9 +5,10 @@ import signal
 import socket
 import subprocess
 import time
+from contextlib import contextmanager
 
 TOOL = os.path.join(os.path.dirname(os.path.dirname(os.path.abspath(__file__))), "property-socket")
-SECONDS = 120
+SECONDS = 60
 SHELL_LINE = "Every client is judged as shell; --domain D judges as D."
 
 
@@ -55,6 +56,15 @@ class Served:
                     break
             end_sending(connection)
             return all_of(connection)
+
+    @contextmanager
+    def held(self):
+        """Holds the tool, so that it finds all at once what clients do meanwhile."""
+        self.tool.send_signal(signal.SIGSTOP)
+        try:
+            yield
+        finally:
+            self.tool.send_signal(signal.SIGCONT)
 
     def program(self):
         """The process that judges."""

@@ -15,6 +15,9 @@ from wire_check.spelling import ACCEPTED, BAD_COMMAND, BAD_LENGTH, BAD_NAME, BAD
 FORM = "usage: property-socket ROOT SOCKET [--domain D] [--program PATH]"
 CLIENTS, MESSAGES, SEED = 8, 100, 57
 FILES = 24
+MOST_UNREAD = 5_000
+# What programs of a few lines do: they open the messages, and take one of 14 bytes.
+OPENS, TAKES = 'exec 3<"$3"\n', "head -c 14 <&3 >/dev/null\n"
 LIMIT = "the stream has reached its limit of 16777216 bytes; initsim ended with status 7"
 # (what, what is sent, what comes back up to the end)
 ANSWERS = [
@@ -27,6 +30,8 @@ ANSWERS = [
     ("which is set", [two(b"ro.one")], word(READ_ONLY)),
     ("what follows form one", [one(b"a", b"1") + two(b"ro.follows")], b""),
     ("isn't set", [two(b"ro.follows")], word(ACCEPTED)),
+    ("much after form one", [one(b"a", b"1") + 40_000 * b"x"], b""),
+    ("much after a bad command", [word(5) + 40_000 * b"x"], word(BAD_COMMAND)),
     ("what comes before form one", [two(b"a") + two(b"a..b") + one(b"a", b"1")], words(ACCEPTED, BAD_NAME)),
     ("a bad command", [b"GET / HTTP/1.1\r\n"], word(BAD_COMMAND)),
     ("the command 0", [word(0)], word(BAD_COMMAND)),
@@ -102,22 +107,30 @@ def half_messages(check, served):
 
 
 def gone_clients(check, served):
-    """A whole message is judged, also if its client doesn't wait for the reply."""
-    with served.client() as connection:
-        connection.sendall(two(b"ro.gone1") + two(b"ro.gone2") + two(b"ro.gone3")[:-1])
+    """A whole message is judged, also if its client doesn't wait for the reply, and goes on sending after one that it can't get."""
+    with served.held(), served.client() as connection:
+        connection.sendall(two(b"ro.gone1") + 3 * two(b"a", 8192 * b"v") + two(b"ro.gone2") + two(b"ro.gone3")[:-1])
     asked = [two(b"ro.gone1"), two(b"ro.gone2"), two(b"ro.gone3")]
     check.expect("what a gone client sent", words(READ_ONLY, READ_ONLY, ACCEPTED), served.asked(*asked))
 
 
 def deaf_client(check, served):
-    """A client that takes none of its replies holds up nobody, and gets them all when it takes them."""
-    count = 3000
-    with served.client() as deaf:
-        sender = threading.Thread(target=lambda: [deaf.sendall(two(b"a")) for _ in range(count)])
-        sender.start()
-        check.expect("others, while one takes no reply", words(BAD_NAME) * 50, b"".join(served.asked(two(b"a..b")) for _ in range(50)))
-        check.expect("all its replies", word(ACCEPTED) * count, exactly(deaf, 4 * count))
-        sender.join()
+    """A client that takes none of its replies holds up nobody, and gets them all when it takes them. It sends until nothing more is taken
+    of it; the other's reply shows that the tool has seen each of its messages."""
+    sent, others = 0, []
+    with served.client() as deaf, served.client() as other:
+        deaf.setblocking(False)
+        while sent < MOST_UNREAD:
+            try:
+                deaf.send(two(b"a"))
+            except BlockingIOError:
+                break
+            sent += 1
+            other.sendall(two(b"a..b"))
+            others.append(exactly(other, 4))
+        check.expect("others, while one takes no reply", [word(BAD_NAME)] * sent, others)
+        deaf.settimeout(SECONDS)
+        check.expect("all its replies", word(ACCEPTED) * sent, exactly(deaf, 4 * sent))
 
 
 def waiting_client(check, served):
@@ -283,7 +296,7 @@ def check_refused_trees(check):
 
 def check_programs_that_end(check, root):
     """The program ends while clients wait."""
-    answers = 'head -c 14 "$3" >/dev/null\nprintf "\\000\\000\\000\\000"\n'
+    answers = f"{OPENS}{TAKES}printf '\\000\\000\\000\\000'\n"
     for what, end, status, said in (
         ("with a line", "echo 'initsim: no memory' >&2\nexit 4", 4, "initsim ended with status 4: no memory"),
         ("without a line", "exit 3", 3, "initsim ended with status 3"),
@@ -299,10 +312,13 @@ def check_programs_that_end(check, root):
                 check.expect(f"ends {what}: it is said", (status, tool_line(said)), served.ended())
                 check.expect(f"ends {what}: its clients", (b"", b""), (all_of(first), all_of(other)))
             check.expect(f"ends {what}: nothing is left", [], served.left())
-    slow = 'exec 3<"$3"\nhead -c 14 <&3 >/dev/null\nprintf "\\013"\nsleep 0.2\nprintf "\\000\\000\\000"\nhead -c 1 <&3\n'
-    with Served(check, root, program=script(check, slow)) as served:
+    slow = f"{TAKES}printf '\\013'\nsleep 0.2\nprintf '\\000\\000\\000'\nhead -c 1 <&3\n"
+    with Served(check, root, program=script(check, f"{OPENS}{slow}")) as served:
         check.expect("a reply in two pieces", word(READ_ONLY), served.asked(two(b"a")))
-    with Served(check, root, program=script(check, 'head -c 14 "$3" >/dev/null\nprintf "\\000\\000"\nexit 4\n')) as served:
+    twice = f"{TAKES}printf '\\000\\000\\000\\000'\n{TAKES}printf '\\013\\000\\000\\000'\nexit 4\n"
+    with Served(check, root, program=script(check, f"{OPENS}{twice}")) as served:
+        check.expect("the replies before the end", words(ACCEPTED, READ_ONLY), served.asked(3 * two(b"a")))
+    with Served(check, root, program=script(check, f"{OPENS}{TAKES}printf '\\000\\000'\nexit 4\n")) as served:
         check.expect("half a reply", b"", served.asked(two(b"a")))
         check.expect("half a reply: it is said", (4, tool_line("initsim ended with status 4")), served.ended())
 
