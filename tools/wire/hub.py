@@ -157,7 +157,7 @@ class Hub:
 
     def end(self):
         """Nothing is awaited of the judge, so it has ended."""
-        raise self.judge.ended()
+        raise self.judge.unasked()
 
     def accept(self):
         try:

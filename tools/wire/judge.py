@@ -80,9 +80,15 @@ class Judge:
             reply += piece
         return reply
 
+    def unasked(self):
+        """Why the program is heard of though no reply is awaited."""
+        if self.replies.read(WORD_BYTES):
+            return Stop(CANNOT_RUN, "initsim wrote a reply to no message")
+        return self.ended()
+
     def ended(self):
         """How the program ended, which it did by itself."""
-        status = self.child.wait()
+        status = self.status()
         if status < 0:
             return Stop(BY_SIGNAL - status, f"initsim was stopped by signal {-status}")
         if status == TOO_LARGE and self.taken > MOST_STREAM:
@@ -98,6 +104,14 @@ class Judge:
             line = line.replace(place, name)
         return line
 
+    def status(self):
+        """The status of the program, which is ending."""
+        try:
+            return self.child.wait(SECONDS_TO_END)
+        except subprocess.TimeoutExpired:
+            self.child.kill()
+            return self.child.wait()
+
     def close(self):
         """Ends the program."""
         if self.messages is not None:
@@ -105,9 +119,5 @@ class Judge:
         else:
             self.child.kill()
         self.replies.close()
-        try:
-            self.child.wait(SECONDS_TO_END)
-        except subprocess.TimeoutExpired:
-            self.child.kill()
-            self.child.wait()
+        self.status()
         self.said.close()

@@ -146,6 +146,7 @@ def check_room(check):
     before = lambda: resource.setrlimit(resource.RLIMIT_NOFILE, (FILES, FILES))  # noqa: E731
     with Served(check, check.tree(), before=before) as served:
         clients = [served.client() for _ in range(2 * FILES)]
+        check.expect("it opens as many clients as it can", True, wait_for(lambda: served.files() == FILES))
         for it in clients:
             it.sendall(two(b"a"))
         got = []
@@ -223,6 +224,8 @@ def refused(check, what, status, said, *words):
 
 def check_place(check):
     root, program = check.tree(), ("--program", check.judge)
+    helped = subprocess.run([TOOL, "--help"], capture_output=True, text=True, timeout=SECONDS)
+    check.expect("its help", (0, "", True), (helped.returncode, helped.stderr, f"tools/property-socket {FORM[23:]}" in helped.stdout))
     refused(check, "no words", 1, f"the following arguments are required: ROOT, SOCKET; {FORM}")
     refused(check, "a word more", 1, f"unrecognized arguments: c; {FORM}", "a", "b", "c")
     refused(check, "an empty ROOT", 1, f"ROOT is empty; {FORM}", "", "b")
@@ -318,6 +321,10 @@ def check_programs_that_end(check, root):
     twice = f"{TAKES}printf '\\000\\000\\000\\000'\n{TAKES}printf '\\013\\000\\000\\000'\nexit 4\n"
     with Served(check, root, program=script(check, f"{OPENS}{twice}")) as served:
         check.expect("the replies before the end", words(ACCEPTED, READ_ONLY), served.asked(3 * two(b"a")))
+    more = f"{OPENS}{TAKES}printf '\\000\\000\\000\\000\\000'\nhead -c 1 <&3\n"
+    with Served(check, root, program=script(check, more)) as served:
+        check.expect("a reply to no message", word(ACCEPTED), served.asked(two(b"a")))
+        check.expect("a reply to no message: it is said", (2, tool_line("initsim wrote a reply to no message")), served.ended())
     with Served(check, root, program=script(check, f"{OPENS}{TAKES}printf '\\000\\000'\nexit 4\n")) as served:
         check.expect("half a reply", b"", served.asked(two(b"a")))
         check.expect("half a reply: it is said", (4, tool_line("initsim ended with status 4")), served.ended())
