@@ -1,6 +1,7 @@
 """tools/property-socket: what clients get, what is said at its begin and its end, and what it leaves."""
 import os
 import resource
+import select
 import signal
 import socket
 import subprocess
@@ -72,10 +73,22 @@ def check_answers(check):
 
 def check_clients(check):
     with Served(check, check.tree()) as served:
-        for part in (bad_at_once, half_messages, gone_clients, deaf_client, waiting_client):
+        for part in (as_bionic, bad_at_once, half_messages, gone_clients, deaf_client, waiting_client):
             part(check, served)
         check.expect("clients: the end", (0, ""), served.end())
     check_room(check)
+
+
+def as_bionic(check, served):
+    """As bionic's client waits: in form one for the socket to be closed, and in form two for the whole reply."""
+    with served.client() as connection:
+        connection.sendall(one(b"ro.bionic", b"1"))
+        waiting = select.poll()
+        waiting.register(connection, 0)
+        check.expect("form one, as bionic waits", [(connection.fileno(), select.POLLHUP)], waiting.poll(SECONDS * 1000))
+    with served.client() as connection:
+        connection.sendall(two(b"ro.bionic"))
+        check.expect("form two, as bionic waits", word(READ_ONLY), connection.recv(4, socket.MSG_WAITALL))
 
 
 def bad_at_once(check, served):

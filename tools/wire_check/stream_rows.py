@@ -37,12 +37,10 @@ def put(check, content):
     return path
 
 
-def ran(check, root, messages, **how):
-    """What the program writes, its status, and the lines on standard error."""
-    how = {"stdin": subprocess.DEVNULL, "stdout": subprocess.PIPE, **({"input": how.pop("given")} if "given" in how else {}), **how}
-    if "input" in how:
-        del how["stdin"]
-    ended = subprocess.run([check.judge, "wire", root, messages], stderr=subprocess.PIPE, timeout=SECONDS, **how)
+def ran(check, root, messages, given=None, stdout=subprocess.PIPE):
+    """What the program writes, its status, and the lines on standard error. What is given comes through a pipe."""
+    how = {"stdin": subprocess.DEVNULL} if given is None else {"input": given}
+    ended = subprocess.run([check.judge, "wire", root, messages], stdout=stdout, stderr=subprocess.PIPE, timeout=SECONDS, **how)
     return ended.stdout, ended.returncode, ended.stderr.decode().splitlines()
 
 
