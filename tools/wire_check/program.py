@@ -19,3 +19,15 @@ def judge_of(program):
     if has_form(program):
         return program, None
     return STAND_IN, f"wire: {program} has no form wire yet, so its rows are skipped, and all are tried over a stand-in"
+
+
+def check_choice(check):
+    """The stand-in is taken for the one answer that says that there is no such form; a program that does anything else is tried."""
+    for what, text, wanted in (
+        ("without the form", "echo 'initsim: usage: ..' >&2\necho 'initsim: no form is named wire' >&2\nexit 1", STAND_IN),
+        ("with the form", "echo 'initsim: usage: ..' >&2\necho 'initsim: wire takes 2 words, and none is given' >&2\nexit 1", None),
+        ("that fails", "echo 'initsim: no form is named wire' >&2\nexit 4", None),
+        ("that ends well", "exit 0", None),
+    ):
+        program = check.script(text)
+        check.expect(f"a program {what}", wanted or program, judge_of(program)[0])

@@ -9,7 +9,6 @@ import sys
 import threading
 
 from wire_check.clients import Trial, shown
-from wire_check.program import STAND_IN
 from wire_check.served import SECONDS, SHELL_LINE, TOOL, Served, all_of, end_sending, exactly, is_alive, is_silent, wait_for
 from wire_check.spelling import ACCEPTED, BAD_COMMAND, BAD_LENGTH, BAD_NAME, BAD_VALUE, DENIED, NO_CONTROL, READ_ONLY, one, two, word, words
 
@@ -31,8 +30,6 @@ ANSWERS = [
     ("which is set", [two(b"ro.one")], word(READ_ONLY)),
     ("what follows form one", [one(b"a", b"1") + two(b"ro.follows")], b""),
     ("isn't set", [two(b"ro.follows")], word(ACCEPTED)),
-    ("much after form one", [one(b"a", b"1") + 40_000 * b"x"], b""),
-    ("much after a bad command", [word(5) + 40_000 * b"x"], word(BAD_COMMAND)),
     ("what comes before form one", [two(b"a") + two(b"a..b") + one(b"a", b"1")], words(ACCEPTED, BAD_NAME)),
     ("a bad command", [b"GET / HTTP/1.1\r\n"], word(BAD_COMMAND)),
     ("the command 0", [word(0)], word(BAD_COMMAND)),
@@ -73,7 +70,7 @@ def check_answers(check):
 
 def check_clients(check):
     with Served(check, check.tree()) as served:
-        for part in (as_bionic, bad_at_once, half_messages, gone_clients, deaf_client, waiting_client):
+        for part in (as_bionic, bad_at_once, end_without_reset, half_messages, gone_clients, deaf_client, waiting_client):
             part(check, served)
         check.expect("clients: the end", (0, ""), served.end())
     check_room(check)
@@ -103,6 +100,15 @@ def bad_at_once(check, served):
             check.expect(f"{what} that is cut", True, is_silent(connection))
             connection.sendall(given[-1:])
             check.expect(what, word(reply), all_of(connection))
+
+
+def end_without_reset(check, served):
+    """What a client has sent after its last message is no reason to reset the connection."""
+    for what, message, reply in (("form one", one(b"a", b"1"), b""), ("a bad command", word(5), word(BAD_COMMAND))):
+        with served.client() as connection:
+            with served.held():
+                connection.sendall(message + 40_000 * b"x")
+            check.expect(f"much after {what}", reply, all_of(connection))
 
 
 def half_messages(check, served):
@@ -208,22 +214,13 @@ def check_domain(check):
 
 def check_copy(check):
     root = check.tree("many-pairs", property_allow=ALLOW)
-    program = script(check, f'cat "$2/property_allow" >copied\n[ "$2" != {root} ] || echo not a copy >>copied\nexec {STAND_IN} "$@"\n')
+    program = check.script(f'cat "$2/property_allow" >copied\n[ "$2" != {root} ] || echo not a copy >>copied\nexec {check.judge} "$@"\n')
     with Served(check, root, "--domain", "adbd", program=program) as served:
         check.expect("a domain of two labels", "Every client is judged as adbd, which may set the properties of 2 labels.", served.lines[0])
     with open(os.path.join(check.room, "copied"), newline="") as file:
         check.expect("the pairs in the copy", COPIED, file.read())
     with open(os.path.join(root, "property_allow"), newline="") as file:
         check.expect("ROOT's pairs", ALLOW, file.read())
-
-
-def script(check, text):
-    """A program of a few lines."""
-    path = os.path.join(check.room, "program")
-    with open(path, "w") as file:
-        file.write(f"#!/bin/sh\n{text}")
-    os.chmod(path, 0o755)
-    return path
 
 
 # ---- the words, and the place of the socket
@@ -320,7 +317,7 @@ def check_programs_that_end(check, root):
         ("well", "exit 0", 0, "initsim ended with status 0"),
         ("by a signal", "kill -9 $$", 137, "initsim was stopped by signal 9"),
     ):
-        with Served(check, root, program=script(check, f"{answers}{end}\n")) as served:
+        with Served(check, root, program=check.script(f"{answers}{end}\n")) as served:
             with served.client() as first, served.client() as other:
                 other.sendall(two(b"b")[:7])
                 first.sendall(two(b"a"))
@@ -329,16 +326,16 @@ def check_programs_that_end(check, root):
                 check.expect(f"ends {what}: its clients", (b"", b""), (all_of(first), all_of(other)))
             check.expect(f"ends {what}: nothing is left", [], served.left())
     slow = f"{TAKES}printf '\\013'\nsleep 0.2\nprintf '\\000\\000\\000'\nhead -c 1 <&3\n"
-    with Served(check, root, program=script(check, f"{OPENS}{slow}")) as served:
+    with Served(check, root, program=check.script(f"{OPENS}{slow}")) as served:
         check.expect("a reply in two pieces", word(READ_ONLY), served.asked(two(b"a")))
     twice = f"{TAKES}printf '\\000\\000\\000\\000'\n{TAKES}printf '\\013\\000\\000\\000'\nexit 4\n"
-    with Served(check, root, program=script(check, f"{OPENS}{twice}")) as served:
+    with Served(check, root, program=check.script(f"{OPENS}{twice}")) as served:
         check.expect("the replies before the end", words(ACCEPTED, READ_ONLY), served.asked(3 * two(b"a")))
     more = f"{OPENS}{TAKES}printf '\\000\\000\\000\\000\\000'\nhead -c 1 <&3\n"
-    with Served(check, root, program=script(check, more)) as served:
+    with Served(check, root, program=check.script(more)) as served:
         check.expect("a reply to no message", word(ACCEPTED), served.asked(two(b"a")))
         check.expect("a reply to no message: it is said", (2, tool_line("initsim wrote a reply to no message")), served.ended())
-    with Served(check, root, program=script(check, f"{OPENS}{TAKES}printf '\\000\\000'\nexit 4\n")) as served:
+    with Served(check, root, program=check.script(f"{OPENS}{TAKES}printf '\\000\\000'\nexit 4\n")) as served:
         check.expect("half a reply", b"", served.asked(two(b"a")))
         check.expect("half a reply: it is said", (4, tool_line("initsim ended with status 4")), served.ended())
 
