@@ -7,6 +7,7 @@ import socket
 import subprocess
 import sys
 import threading
+import time
 
 from wire_check.clients import Trial, shown
 from wire_check.served import SECONDS, SHELL_LINE, TOOL, Served, all_of, end_sending, exactly, is_alive, is_silent, wait_for
@@ -108,6 +109,8 @@ def end_without_reset(check, served):
         with served.client() as connection:
             with served.held():
                 connection.sendall(message + 40_000 * b"x")
+            # (a reset would come with the end of it all, which comes a moment after the last reply)
+            time.sleep(0.3)
             check.expect(f"much after {what}", reply, all_of(connection))
 
 
