@@ -293,6 +293,10 @@ def check_ends(check):
                 check.expect(f"{number.name}: the end", (0, ""), served.end(number))
                 check.expect(f"{number.name}: of its clients too", (b"", b""), (all_of(waiting), all_of(half)))
             check.expect(f"{number.name}: nothing is left", ([], False), (served.left(), is_alive(program)))
+    ended = os.path.join(check.room, "ended")
+    with Served(check, root, program=check.script(f"{OPENS}cat <&3 >/dev/null\necho >{ended}")) as served:
+        served.end()
+    check.expect("the program isn't killed, but finds the end of its messages", True, os.path.exists(ended))
     check_refused_trees(check)
     check_programs_that_end(check, root)
     check_reached_limit(check, root)
