@@ -15,7 +15,7 @@ declared : (acts : List Act) (who n : ℕ) (sessions : List Session) → AreSess
 declared acts who n [] are least most = All-nil _
 declared acts who n (s ∷ sessions) are least most =
     let client = are.0.client in
-    All-cons _ s sessions (omega arith, omega arith) (declared acts (who + 1) n sessions are.1 (omega arith) (omega arith))
+    All-cons (λ (x : Session). (1 ≤ x.who.0) × (x.who.0 ≤ n)) s sessions (omega arith, omega arith) (declared acts (who + 1) n sessions are.1 (omega arith) (omega arith))
 
 -- no session is of a client before the first one's
 none_before : (acts : List Act) (who other : ℕ) (sessions : List Session) → AreSessions acts who sessions → other < who
@@ -45,7 +45,7 @@ not_entered acts who seat [] are least nobody = All-nil _
 not_entered acts who seat (s ∷ sessions) are least nobody =
     let client = are.0.client in
     let other : (0 == s.who.0) ≡ false = ne_eqb 0 s.who.0 (λ same. absurd (omega arith)) in
-    All-cons _ s sessions (nobody s.who.0 ∙ other) (not_entered acts (who + 1) seat sessions are.1 (omega arith) nobody)
+    All-cons (λ (x : Session). has_seat seat x.who.0 ≡ false) s sessions (nobody s.who.0 ∙ other) (not_entered acts (who + 1) seat sessions are.1 (omega arith) nobody)
 
 pub have_not_entered : (acts : List Act) (seat : AreaView) (sessions : List Session) → AreSessions acts 1 sessions
     → ((q : ℕ) → has_seat seat q ≡ (0 == q)) → HaveNotEntered seat sessions

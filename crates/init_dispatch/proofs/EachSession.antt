@@ -26,3 +26,12 @@ sessions_more acts who (s ∷ sessions) last are this = (
   sessions_more acts (who + 1) sessions last are.1
       (let e : who + length (s ∷ sessions) ≡ who + 1 + length sessions = omega arith in subst (λ n. IsSession acts n last) e this),
 )
+
+-- the session that is made for the client at this place
+pub session_next : (acts shown : List Act) (place : ℕ) (sessions : List Session) (session : Session) → session.who.0 ≡ place + 1
+    → session.requests ≡ sets_among (place + 1) shown → shown ≡ acts → length sessions ≡ place → IsSession acts (1 + length sessions) session
+session_next acts shown place sessions session client requests same many =
+    let e : place + 1 ≡ 1 + length sessions = omega (arith, many) in record {
+      client = client ∙ e;
+      requests = requests ∙ ap (sets_among (place + 1)) same ∙ ap (λ n. sets_among n acts) e;
+    }

@@ -1,21 +1,19 @@
 -- What a dispatched script leaves, once the service has ended.
-use Rattle.std.proofs.Common.{◌≡◌, ℕ, All, IsTrue, List, [], ◌∷◌, ◌++◌, length, map, Result, Ok, Err, IfOk, IsOkAnd, refl, sym, ap, ◌∙◌, subst, arith}
+use Rattle.std.proofs.Common.{◌≡◌, All, List, [], ◌∷◌, ◌++◌, length, map, Result, Ok, Err, IfOk, IsOkAnd, refl, sym, ap, ◌∙◌, subst, arith}
 use Rattle.std.proofs.lemmas.List.{length-map, map-append}
 use Rattle.std.proofs.lemmas.List.Elements.{All-append, All-cons, All-map, All-nil}
 use Rattle.atomic_table.specs.Seated.{TableId}
 use Rattle.init_base.specs.declared.memory.NoMemory.{NoMemory}
 use Rattle.init_driver.specs.Run.{AsksAreMet}
-use Rattle.init_machine.specs.History.{inputs_of}
 use Rattle.init_machine.specs.State.{Opening}
 use Rattle.init_machine.specs.declared.diagnostic.Diagnostic.{Diagnostic}
 use Rattle.init_machine.specs.declared.report.ClientPart.{ClientPart}
-use Rattle.init_machine.specs.declared.report.Entry.{Entry}
 use Rattle.init_machine.specs.declared.report.Report.{Report}
 use Rattle.init_race.proofs.Parting.{told_first}
 use Rattle.init_race.proofs.Returning.{all_come}
 use Rattle.init_race.proofs.Through.{are_raced}
 use Rattle.init_race.specs.Acting.{IsPart, IsThrough}
-use Rattle.init_race.specs.Race.{AreAll, AreRaced, HasEnded}
+use Rattle.init_race.specs.Race.{AreAll, AreRaced, HasEnded, IsReportOf}
 use Rattle.init_race.specs.Seating.{AllSeated}
 use Rattle.init_race.specs.Threads.{EachThrough}
 use Rattle.init_race.specs.declared.actors.Acted.{Acted}
@@ -28,8 +26,9 @@ use Rattle.property_area.specs.Seats.{Seated}
 use Rattle.property_service.specs.Service.{ServiceView}
 use Rattle.property_service.specs.declared.ending.Finished.{Finished}
 use Rattle.script_lang.specs.Sets.{IsSetOrMain}
+use Rattle.script_lang.specs.declared.script.Client.{Client}
 use Rattle.script_lang.specs.declared.script.Script.{Script}
-use Rattle.init_dispatch.specs.Dispatched.{HasMainFirst, IsDispatched}
+use Rattle.init_dispatch.specs.Dispatched.{IsDispatched}
 use Rattle.init_dispatch.specs.internal.Ending.{AreDispatched, HasBegun, IsServed}
 use Rattle.init_dispatch.specs.internal.Parts.{silent}
 use Rattle.init_dispatch.proofs.Through.{all_through, each_seated, fresh, many_readers, parts_silent, readers_kept, tables_kept, untold}
@@ -54,7 +53,7 @@ all_seated area o script s t main sessions readers begun served = record {
   table = begun.table;
   booted = begun.boot;
   each = each_seated script area o s t 1 sessions readers begun.opening begun.sessions_are served.asked;
-  many_are = length-map fresh readers ∙ many_readers area s t sessions readers served.asked ∙ begun.many;
+  many_are = length-map readers fresh ∙ many_readers area s t sessions readers served.asked ∙ begun.many;
 }
 
 each_through : (area : TableId) (o : Opening) (script : Script) (s t : ServiceView) (main : Seated) (sessions : List Session) (readers : List Seated)
@@ -82,8 +81,8 @@ none_missing area o script s t main sessions readers only domains begun served =
 pub all_of_area : (area : TableId) (o : Opening) (script : Script) (s t : ServiceView) (main : Seated) (sessions : List Session) (readers : List Seated)
     → HasBegun area o script s main sessions → IsServed area s t sessions readers → All (λ (r : Seated). r.table ≡ area) (readers ++ main ∷ [])
 all_of_area area o script s t main sessions readers begun served =
-    All-append _ readers (main ∷ []) (tables_kept area s t sessions readers served.asked)
-    (All-cons _ main [] (begun.asks.goes.table ∙ begun.table) (All-nil _))
+    All-append (λ (x : Seated). x.table ≡ area) readers (main ∷ []) (tables_kept area s t sessions readers served.asked)
+    (All-cons (λ (x : Seated). x.table ≡ area) main [] (begun.asks.goes.table ∙ begun.table) (All-nil _))
 
 -- ---- the end
 
@@ -94,7 +93,7 @@ pub are_dispatched : (area : TableId) (o : Opening) (script : Script) (s t : Ser
 are_dispatched area o script s t main sessions readers back finished parts met only domains begun served back_is parts_are ended history =
     let acted : List Acted = map untold readers ++ untold main ∷ [] in
     let many : length (map untold readers) ≡ length script.clients =
-    length-map untold readers ∙ many_readers area s t sessions readers served.asked ∙ begun.many in
+    length-map readers untold ∙ many_readers area s t sessions readers served.asked ∙ begun.many in
     let told : parts ≡ told_to script.clients acted =
     parts_are ∙ sym (told_first script.clients (map untold readers) (untold main ∷ []) many ∙ parts_silent script.clients readers) in
     record {
@@ -153,3 +152,23 @@ pub reported : (o : Opening) (found : List Diagnostic) (script : Script) (ended 
 reported o found script ended (Err why) are is = tt
 reported o found script (Err e) (Ok raced) are is = absurd is
 reported o found script (Ok e) (Ok raced) are is = is_dispatched o found script e raced.report are is
+
+-- the report of what was left is that of a dispatch
+pub left_dispatched : (o : Opening) (found : List Diagnostic) (script : Script) (r : Result Ended NoMemory)
+    → IfOk r (λ e. AreDispatched o script e.finished e.parts) → (report : Report) → IsReportOf found r report → IsDispatched o found script report
+left_dispatched o found script (Ok ended) are report is = is_dispatched o found script ended report are is
+left_dispatched o found script (Err e) are report is = absurd is
+
+-- ---- of what a call left, if it left anything
+
+pub served_of : (area : TableId) (s t : ServiceView) (sessions : List Session) (readers : List Seated) (r : Result (ServiceView × List Seated) NoMemory)
+    → r ≡ Ok (t, readers) → IfOk r (λ back. IsServed area s back.0 sessions back.1) → IsServed area s t sessions readers
+served_of area s t sessions readers r is served = subst (λ (q : Result (ServiceView × List Seated) NoMemory). IfOk q (λ back. IsServed area s back.0 sessions back.1)) is served
+
+pub begun_with : (area : TableId) (o : Opening) (script : Script) (s : ServiceView) (main other : Seated) (sessions : List Session) → other ≡ main
+    → HasBegun area o script s main sessions → HasBegun area o script s other sessions
+begun_with area o script s main other sessions same begun = subst (λ (m : Seated). HasBegun area o script s m sessions) (sym same) begun
+
+pub parts_silenced : (clients shown : List Client) (came : Result (List Seated × List ClientPart) NoMemory) → shown ≡ clients
+    → IfOk came (λ back. back.1 ≡ map silent shown) → IfOk came (λ back. back.1 ≡ map silent clients)
+parts_silenced clients shown came same parts = subst (λ (these : List Client). IfOk came (λ back. back.1 ≡ map silent these)) same parts

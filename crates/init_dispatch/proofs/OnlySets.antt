@@ -1,5 +1,5 @@
 -- A script that was read from a text whose clients only set has no other requests.
-use Rattle.std.proofs.Common.{◌≡◌, ℕ, ◌+◌, Bool, true, false, ◌&&◌, All, IsTrue, List, [], ◌∷◌, ◌++◌, Option, Some, None, refl, sym, ap, subst}
+use Rattle.std.proofs.Common.{◌≡◌, ℕ, ◌+◌, true, All, IsTrue, List, [], ◌∷◌, ◌++◌, Option, Some, None, refl, sym, ap, subst}
 use Rattle.std.specs.List.{filter_map}
 use Rattle.std.proofs.lemmas.Bool.{and_parts}
 use Rattle.std.proofs.lemmas.List.Elements.{All-cons, All-nil}
@@ -10,7 +10,7 @@ use Rattle.script_lang.proofs.Conditions.{script_meets}
 use Rattle.script_lang.proofs.SetsReading.{script_of_sets_is_script}
 use Rattle.script_lang.specs.Lines.{lines_of}
 use Rattle.script_lang.specs.Script.{act_in, fits, said_from, said_in, script_of, statements, statements_of}
-use Rattle.script_lang.specs.Sets.{AllFitSets, IsScriptOfSets, IsSetOrMain, only_sets, reading_fits_sets}
+use Rattle.script_lang.specs.Sets.{IsScriptOfSets, IsSetOrMain, only_sets, reading_fits_sets}
 use Rattle.script_lang.specs.Statements.{reading_of}
 use Rattle.script_lang.specs.declared.script.Act.{Act}
 use Rattle.script_lang.specs.declared.script.Client.{Client}

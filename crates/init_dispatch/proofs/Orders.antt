@@ -1,5 +1,5 @@
 -- The report of a dispatched script is that of a run in another order.
-use Rattle.std.proofs.Common.{◌≡◌, ℕ, zero, suc, ◌+◌, Bool, true, false, ◌==◌, All, List, [], ◌∷◌, ◌++◌, map, filter, Option, Some, None, if◌then◌else◌, refl, sym, ap, ◌∙◌, subst}
+use Rattle.std.proofs.Common.{◌≡◌, ℕ, zero, suc, ◌+◌, Bool, true, false, ◌==◌, All, IsTrue, List, [], ◌∷◌, ◌++◌, map, filter, Option, Some, None, if◌then◌else◌, refl, sym, ap, ◌∙◌}
 use Rattle.std.specs.List.{cons_option, filter_map, flat_map}
 use Rattle.std.proofs.lemmas.Grind.{flat_map-append}
 use Rattle.std.proofs.lemmas.List.{map-append}
@@ -21,7 +21,7 @@ use Rattle.init_machine.specs.declared.report.Report.{Report}
 use Rattle.machine_laws.proofs.Legal.{only_history}
 use Rattle.machine_laws.specs.Histories.{history_of}
 use Rattle.run_laws.proofs.Merged.{part_is}
-use Rattle.script_lang.specs.Inputs.{InOrder, Parts, act_inputs, ask_by, main_inputs, part_of}
+use Rattle.script_lang.specs.Inputs.{InOrder, act_inputs, ask_by, main_inputs, part_of}
 use Rattle.script_lang.specs.Laws.{is_set, set_by, set_in}
 use Rattle.script_lang.specs.Sets.{IsSetOrMain, is_set_ask}
 use Rattle.script_lang.specs.declared.script.Act.{Act}
@@ -62,8 +62,8 @@ one_input (input.File path content) set = cc
 inputs_asked : (entries : List Entry) → AreSetEntries entries → flat_map act_inputs (all_asked entries) ≡ inputs_of entries
 inputs_asked [] sets = refl
 inputs_asked (e ∷ entries) sets =
-    ap (λ first. first ++ flat_map act_inputs (all_asked entries)) (one_input e.input (All-head _ e entries sets))
-    ∙ ap (λ rest. e.input ∷ rest) (inputs_asked entries (All-tail _ e entries sets))
+    ap (λ first. first ++ flat_map act_inputs (all_asked entries)) (one_input e.input (All-head (λ (x : Entry). is_set x.input ≡ true) e entries sets))
+    ∙ ap (λ rest. e.input ∷ rest) (inputs_asked entries (All-tail (λ (x : Entry). is_set x.input ≡ true) e entries sets))
 
 one_request : (i : Input) → is_set i ≡ true → is_main_act (asked_in i) ≡ false
 one_request (input.Set who name value) set = refl
@@ -76,7 +76,7 @@ one_request (input.File path content) set = cc
 all_requests : (entries : List Entry) → AreSetEntries entries → All (λ (a : Act). is_main_act a ≡ false) (all_asked entries)
 all_requests [] sets = All-nil _
 all_requests (e ∷ entries) sets =
-    All-cons _ (asked_in e.input) (all_asked entries) (one_request e.input (All-head _ e entries sets)) (all_requests entries (All-tail _ e entries sets))
+    All-cons (λ (x : Act). is_main_act x ≡ false) (asked_in e.input) (all_asked entries) (one_request e.input (All-head (λ (x : Entry). is_set x.input ≡ true) e entries sets)) (all_requests entries (All-tail (λ (x : Entry). is_set x.input ≡ true) e entries sets))
 
 one_only_sets : (i : Input) → is_set i ≡ true → IsSetOrMain (asked_in i)
 one_only_sets (input.Set who name value) set = refl
@@ -89,7 +89,7 @@ one_only_sets (input.File path content) set = cc
 asked_only_set : (entries : List Entry) → AreSetEntries entries → All IsSetOrMain (all_asked entries)
 asked_only_set [] sets = All-nil _
 asked_only_set (e ∷ entries) sets =
-    All-cons _ (asked_in e.input) (all_asked entries) (one_only_sets e.input (All-head _ e entries sets)) (asked_only_set entries (All-tail _ e entries sets))
+    All-cons IsSetOrMain (asked_in e.input) (all_asked entries) (one_only_sets e.input (All-head (λ (x : Entry). is_set x.input ≡ true) e entries sets)) (asked_only_set entries (All-tail (λ (x : Entry). is_set x.input ≡ true) e entries sets))
 
 -- ---- the main actor's acts
 
@@ -103,10 +103,10 @@ main_asked (act.Ask who one ∷ acts) = main_asked acts
 
 main_only_sets : (acts : List Act) → All IsSetOrMain (filter is_main_act acts)
 main_only_sets [] = All-nil _
-main_only_sets (act.Step count ∷ acts) = All-cons _ (act.Step count) (filter is_main_act acts) tt (main_only_sets acts)
-main_only_sets (act.Tick ms ∷ acts) = All-cons _ (act.Tick ms) (filter is_main_act acts) tt (main_only_sets acts)
-main_only_sets (act.Exit name status ∷ acts) = All-cons _ (act.Exit name status) (filter is_main_act acts) tt (main_only_sets acts)
-main_only_sets (act.File path content ∷ acts) = All-cons _ (act.File path content) (filter is_main_act acts) tt (main_only_sets acts)
+main_only_sets (act.Step count ∷ acts) = All-cons IsSetOrMain (act.Step count) (filter is_main_act acts) (tt {0}) (main_only_sets acts)
+main_only_sets (act.Tick ms ∷ acts) = All-cons IsSetOrMain (act.Tick ms) (filter is_main_act acts) (tt {0}) (main_only_sets acts)
+main_only_sets (act.Exit name status ∷ acts) = All-cons IsSetOrMain (act.Exit name status) (filter is_main_act acts) (tt {0}) (main_only_sets acts)
+main_only_sets (act.File path content ∷ acts) = All-cons IsSetOrMain (act.File path content) (filter is_main_act acts) (tt {0}) (main_only_sets acts)
 main_only_sets (act.Ask who one ∷ acts) = main_only_sets acts
 
 -- ---- each client's part
@@ -116,11 +116,8 @@ one_part : (who : ℕ) (i : Input) (later : List Ask) → is_set i ≡ true
     → cons_option (ask_by who (asked_in i)) later ≡ map ask.Set (cons_option (set_by who i) []) ++ later
 one_part who (input.Set other name value) later set = chosen (other.0 == who)
   where
-    abbrev pair : Pair
-    pair = record { name = name; value = value }
-
-    chosen : (mine : Bool) → cons_option (if mine then Some (ask.Set pair) else None) later
-        ≡ map ask.Set (cons_option (if mine then Some pair else None) []) ++ later
+    chosen : (mine : Bool) → cons_option (if mine then Some (ask.Set (record { name = name; value = value })) else None) later
+        ≡ map ask.Set (cons_option (if mine then Some (record { name = name; value = value }) else None) []) ++ later
     chosen true = refl
     chosen false = refl
 one_part who input.Boot later set = cc
@@ -137,17 +134,17 @@ parts_asked : (who : ℕ) (entries : List Entry) → AreSetEntries entries
     → filter_map (ask_by who) (all_asked entries) ≡ map ask.Set (filter_map (set_by who) (inputs_of entries))
 parts_asked who [] sets = refl
 parts_asked who (e ∷ entries) sets =
-    one_part who e.input (filter_map (ask_by who) (all_asked entries)) (All-head _ e entries sets)
-    ∙ ap (λ later. map ask.Set (cons_option (set_by who e.input) []) ++ later) (parts_asked who entries (All-tail _ e entries sets))
+    one_part who e.input (filter_map (ask_by who) (all_asked entries)) (All-head (λ (x : Entry). is_set x.input ≡ true) e entries sets)
+    ∙ ap (λ later. map ask.Set (cons_option (set_by who e.input) []) ++ later) (parts_asked who entries (All-tail (λ (x : Entry). is_set x.input ≡ true) e entries sets))
     ∙ more_pairs (set_by who e.input) (filter_map (set_by who) (inputs_of entries))
 
 -- requests that are sets are those of their pairs
 sets_back : (asks : List Ask) → AreSets asks → map ask.Set (filter_map set_in asks) ≡ asks
 sets_back [] sets = refl
-sets_back (ask.Set pair ∷ asks) sets = ap (λ rest. ask.Set pair ∷ rest) (sets_back asks (All-tail _ (ask.Set pair) asks sets))
-sets_back (ask.Read name ∷ asks) sets = let bad : false ≡ true = All-head _ (ask.Read name) asks sets in cc
-sets_back (ask.Sync ∷ asks) sets = let bad : false ≡ true = All-head _ ask.Sync asks sets in cc
-sets_back (ask.Catch ∷ asks) sets = let bad : false ≡ true = All-head _ ask.Catch asks sets in cc
+sets_back (ask.Set pair ∷ asks) sets = ap (λ rest. ask.Set pair ∷ rest) (sets_back asks (All-tail (λ (x : Ask). IsTrue (is_set_ask x)) (ask.Set pair) asks sets))
+sets_back (ask.Read name ∷ asks) sets = let bad : false ≡ true = All-head (λ (x : Ask). IsTrue (is_set_ask x)) (ask.Read name) asks sets in cc
+sets_back (ask.Sync ∷ asks) sets = let bad : false ≡ true = All-head (λ (x : Ask). IsTrue (is_set_ask x)) ask.Sync asks sets in cc
+sets_back (ask.Catch ∷ asks) sets = let bad : false ≡ true = All-head (λ (x : Ask). IsTrue (is_set_ask x)) ask.Catch asks sets in cc
 
 -- no input of the main actor is a client's set
 steps_unset : (who : ℕ) (n : ℕ) → filter_map (set_by who) (act_inputs (act.Step n)) ≡ []
@@ -204,22 +201,30 @@ parts_are o found script report met only done who =
     parts_asked who first.sets first.are_sets ∙ ap (map ask.Set) sets ∙ sets_back (part_of who script) (part_sets who script.acts only)
 
 -- nobody is told anything where clients only set
-told_nothing : (config : Config) (policy : PolicyLines) (who : ℕ) (s : State) (acts : List Act) → All IsSetOrMain acts
+told_nothing : (config : Config) (policy : PolicyLines) (who : ℕ) (acts : List Act) (s : State) → All IsSetOrMain acts
     → readings_from config policy who s acts ≡ []
-told_nothing config policy who s [] only = refl
-told_nothing config policy who s (act.Step count ∷ acts) only = told_nothing config policy who _ acts (All-tail _ (act.Step count) acts only)
-told_nothing config policy who s (act.Tick ms ∷ acts) only = told_nothing config policy who _ acts (All-tail _ (act.Tick ms) acts only)
-told_nothing config policy who s (act.Exit name status ∷ acts) only = told_nothing config policy who _ acts (All-tail _ (act.Exit name status) acts only)
-told_nothing config policy who s (act.File path content ∷ acts) only = told_nothing config policy who _ acts (All-tail _ (act.File path content) acts only)
-told_nothing config policy who s (act.Ask other (ask.Set pair) ∷ acts) only =
-    chosen (other.0 == who) (told_nothing config policy who _ acts (All-tail _ (act.Ask other (ask.Set pair)) acts only))
+told_nothing config policy who [] s only = refl
+told_nothing config policy who (act.Step count ∷ acts) s only =
+    told_nothing config policy who acts (after_from config policy s (act_inputs (act.Step count))) (All-tail IsSetOrMain (act.Step count) acts only)
+told_nothing config policy who (act.Tick ms ∷ acts) s only =
+    told_nothing config policy who acts (after_from config policy s (act_inputs (act.Tick ms))) (All-tail IsSetOrMain (act.Tick ms) acts only)
+told_nothing config policy who (act.Exit name status ∷ acts) s only =
+    told_nothing config policy who acts (after_from config policy s (act_inputs (act.Exit name status))) (All-tail IsSetOrMain (act.Exit name status) acts only)
+told_nothing config policy who (act.File path content ∷ acts) s only =
+    told_nothing config policy who acts (after_from config policy s (act_inputs (act.File path content)))
+    (All-tail IsSetOrMain (act.File path content) acts only)
+told_nothing config policy who (act.Ask other (ask.Set pair) ∷ acts) s only =
+    chosen (other.0 == who)
+    (told_nothing config policy who acts (after_from config policy s (act_inputs (act.Ask other (ask.Set pair))))
+    (All-tail IsSetOrMain (act.Ask other (ask.Set pair)) acts only))
   where
     chosen : {T : Type 0} {rest : List T} (mine : Bool) → rest ≡ [] → (if mine then [] else []) ++ rest ≡ []
     chosen true e = e
     chosen false e = e
-told_nothing config policy who s (act.Ask other (ask.Read name) ∷ acts) only = let bad : false ≡ true = All-head _ (act.Ask other (ask.Read name)) acts only in cc
-told_nothing config policy who s (act.Ask other ask.Sync ∷ acts) only = let bad : false ≡ true = All-head _ (act.Ask other ask.Sync) acts only in cc
-told_nothing config policy who s (act.Ask other ask.Catch ∷ acts) only = let bad : false ≡ true = All-head _ (act.Ask other ask.Catch) acts only in cc
+told_nothing config policy who (act.Ask other (ask.Read name) ∷ acts) s only =
+    let bad : false ≡ true = All-head IsSetOrMain (act.Ask other (ask.Read name)) acts only in cc
+told_nothing config policy who (act.Ask other ask.Sync ∷ acts) s only = let bad : false ≡ true = All-head IsSetOrMain (act.Ask other ask.Sync) acts only in cc
+told_nothing config policy who (act.Ask other ask.Catch ∷ acts) s only = let bad : false ≡ true = All-head IsSetOrMain (act.Ask other ask.Catch) acts only in cc
 
 clients_same : (config : Config) (policy : PolicyLines) (s : State) (acts : List Act) (who : ℕ) (clients : List Client) (parts : List ClientPart)
     → All IsSetOrMain acts → clients ≡ map (λ part. client_of part) parts → All (λ (part : ClientPart). part.readings ≡ []) parts
@@ -231,11 +236,11 @@ clients_same config policy s acts who (client ∷ clients) (part ∷ parts) only
     let this : client ≡ client_of part = cc in
     let rest : clients ≡ map (λ part. client_of part) parts = cc in
     let silent : part.readings ≡ readings_from config policy who s acts =
-    All-head _ part parts none ∙ sym (told_nothing config policy who s acts only) in
+    All-head (λ (x : ClientPart). x.readings ≡ []) part parts none ∙ sym (told_nothing config policy who acts s only) in
     ap (λ (readings : List Reading). record { name = part.name; domain = part.domain; readings = readings } ∷ parts) silent
     ∙ ap (λ (c : Client). record { name = c.name; domain = c.domain; readings = readings_from config policy who s acts } ∷ parts) (sym this)
     ∙ ap (λ more. record { name = client.name; domain = client.domain; readings = readings_from config policy who s acts } ∷ more)
-    (clients_same config policy s acts (who + 1) clients parts only rest (All-tail _ part parts none))
+    (clients_same config policy s acts (who + 1) clients parts only rest (All-tail (λ (x : ClientPart). x.readings ≡ []) part parts none))
 
 same_report : (r s : Report) → r.diagnostics ≡ s.diagnostics → r.history ≡ s.history → r.clients ≡ s.clients → r ≡ s
 same_report r s diagnostics history clients =

@@ -1,5 +1,5 @@
 -- All sessions are served.
-use Rattle.std.proofs.Common.{◌≡◌, true, All, IsTrue, List, [], length, refl, sym, subst, append-nil}
+use Rattle.std.proofs.Common.{◌≡◌, true, List, [], refl, sym, subst, append-nil}
 use Rattle.std.proofs.lemmas.List.Elements.{All-nil, All-weaker}
 use Rattle.atomic_table.specs.Seated.{TableId}
 use Rattle.init_machine.specs.declared.input.Input.{Input}

@@ -9,8 +9,6 @@ use Rattle.init_machine.specs.State.{Opening}
 use Rattle.init_machine.specs.declared.client.ClientItem.{ClientItem}
 use Rattle.init_machine.specs.declared.client.ClientItem.TheVariants.{Asked}
 use Rattle.init_machine.specs.declared.client.ClientRequest.{ClientRequest}
-use Rattle.init_machine.specs.declared.config.Pair.{Pair}
-use Rattle.init_machine.specs.declared.input.Input.{Input}
 use Rattle.init_race.specs.Acting.{AreItemsOf, IsPart, IsThrough}
 use Rattle.init_race.specs.Seating.{EachSeated, IsSeated}
 use Rattle.init_race.specs.Threads.{EachThrough}
@@ -41,7 +39,7 @@ AreSets asks = All (λ one. IsTrue (is_set_ask one)) asks
 mine_are_sets : (who : ℕ) (found : Option Ask) (later : List Ask) → ((one : Ask) → found ≡ Some one → IsTrue (is_set_ask one)) → AreSets later
     → AreSets (cons_option found later)
 mine_are_sets who None later mine rest = rest
-mine_are_sets who (Some one) later mine rest = All-cons _ one later (mine one refl) rest
+mine_are_sets who (Some one) later mine rest = All-cons (λ (x : Ask). IsTrue (is_set_ask x)) one later (mine one refl) rest
 
 act_sets : (who : ℕ) (a : Act) (one : Ask) → IsSetOrMain a → ask_by who a ≡ Some one → IsTrue (is_set_ask one)
 act_sets who (act.Step count) one is found = cc
@@ -80,16 +78,16 @@ items_fit who (ask.Set pair ∷ asks) [] sets same = cc
 items_fit who (ask.Set pair ∷ asks) (r ∷ asked) sets same =
     let first : r.input ≡ set_by who pair.name pair.value = cc in
     let rest : map (λ (r : ClientRequest). r.input) asked ≡ sets_for who (filter_map set_in asks) = cc in
-    (first, items_fit who asks asked (All-tail _ (ask.Set pair) asks sets) rest)
-items_fit who (ask.Read name ∷ asks) asked sets same = let bad : false ≡ true = All-head _ (ask.Read name) asks sets in cc
-items_fit who (ask.Sync ∷ asks) asked sets same = let bad : false ≡ true = All-head _ ask.Sync asks sets in cc
-items_fit who (ask.Catch ∷ asks) asked sets same = let bad : false ≡ true = All-head _ ask.Catch asks sets in cc
+    (first, items_fit who asks asked (All-tail (λ (x : Ask). IsTrue (is_set_ask x)) (ask.Set pair) asks sets) rest)
+items_fit who (ask.Read name ∷ asks) asked sets same = let bad : false ≡ true = All-head (λ (x : Ask). IsTrue (is_set_ask x)) (ask.Read name) asks sets in cc
+items_fit who (ask.Sync ∷ asks) asked sets same = let bad : false ≡ true = All-head (λ (x : Ask). IsTrue (is_set_ask x)) ask.Sync asks sets in cc
+items_fit who (ask.Catch ∷ asks) asked sets same = let bad : false ≡ true = All-head (λ (x : Ask). IsTrue (is_set_ask x)) ask.Catch asks sets in cc
 
 -- ---- the readers before and after
 
 -- the reader as its client got it, before it asked anything
 abbrev pub fresh : Seated → Seated
-fresh reader = record { table = reader.table; view = record reader.view { list = [] } }
+fresh reader = record reader { view = record reader.view { list = [] } }
 
 -- the reader of a client that was told nothing
 abbrev pub untold : Seated → Acted
@@ -166,4 +164,4 @@ pub tables_kept : (area : TableId) (old new : ServiceView) (sessions : List Sess
 tables_kept area old new [] [] have = All-nil _
 tables_kept area old new [] (r ∷ readers) have = absurd have
 tables_kept area old new (s ∷ sessions) [] have = absurd have
-tables_kept area old new (s ∷ sessions) (r ∷ readers) have = All-cons _ r readers have.0.table (tables_kept area old new sessions readers have.1)
+tables_kept area old new (s ∷ sessions) (r ∷ readers) have = All-cons (λ (x : Seated). x.table ≡ area) r readers have.0.table (tables_kept area old new sessions readers have.1)

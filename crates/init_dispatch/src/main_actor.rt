@@ -29,11 +29,7 @@ pub(crate) fn act_main<N: AreaName>(
 }
 
 /// The inputs of an act, if it is the main actor's.
-fn take_act<N: AreaName>(
-    service: &mut Service<'_, N>,
-    reader: Reader,
-    act: &Act,
-) -> Option<Reader>
+fn take_act<N: AreaName>(service: &mut Service<'_, N>, reader: Reader, act: &Act) -> Option<Reader>
     requires area { reader.table ≡ N.area }
     requires main { reader.view.who ≡ 0 }
     ensures { IfSome result (λ back. TakesInputs service.old service.new reader back (main_inputs act.now)) }

@@ -68,11 +68,13 @@ fn serve<'a, N: AreaName + Send + Sync, R: Threads + Wait + Sync>(
         return Ok((service, List::new(alloc)));
     }
     match dispatch(rt, alloc, service, sessions, ROOM, &OpenPace) {
-        Ok(Dispatched {
-            service,
-            readers,
-            verdicts,
-        }) => {
+        Ok(
+            Dispatched {
+                service,
+                readers,
+                verdicts,
+            },
+        ) => {
             drop(verdicts);
             Ok((service, readers))
         }
