@@ -57,7 +57,8 @@ fn push_and_work<'a, N: AreaName + Send + Sync, R: Threads + Wait + Sync, P: Pac
             Result<Vec<Pass<Item, View>>, NoMemory>,
         )
             requires { IsPassOf line.now pass × (view pass ≡ worker_view (view pass).made (view pass).got (view pass).done)
-                × IsServing N.area (view pass).got worker.failed worker.service worker.seats.items × All (MayPush line.now) senders.items }
+                × IsServing N.area (view pass).got worker.failed worker.service worker.seats.items
+                × All (MayPush line.now) senders.items }
             ensures { IsPassOf line.entry.now result.0.0
                 × (view result.0.0 ≡ worker_view (view pass).made (view result.0.0).got (view pass).done)
                 × GoesOn N.area (view pass).got worker.entry.failed worker.entry.service worker.entry.seats.items
