@@ -68,8 +68,8 @@ pub record TellRun (sources : Sources) (told : Told) : Type 0 where
 abbrev pub generated_sources : ℕ → Sources
 generated_sources services = sources_of (Some (generated_script services)) (Some (generated_tree services)) (Some []) None
 
--- They tell what a form reads: a race and a dispatch what a run does, the serving of messages the stream in the script's place, a check the tree alone, an audit what a run does and the trace, and words
--- of no form nothing. What a soak reads is generated.
+-- They tell what a form reads: a race and a dispatch what a run does, the serving of messages the stream in the script's place, a check the
+-- tree alone, an audit what a run does and the trace, and words of no form nothing. What a soak reads is generated.
 abbrev pub Tell : Option Form → Sources → Told → Type 0
 Tell None sources told = ⊤
 Tell (Some form.Run) sources told = TellRun sources told

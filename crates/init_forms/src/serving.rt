@@ -6,6 +6,7 @@ ghost use Rattle.init_driver.specs.Keeper.{seen_by};
 ghost use Rattle.init_forms.specs.Outcome.{Ends, TellRun, Told, shown_as, sources_of};
 ghost use Rattle.init_forms.specs.Serving.{PerformsWire};
 ghost use Rattle.init_forms.specs.Top.{IsUnwritten};
+ghost use Rattle.init_forms.specs.internal.Serving.{IsOfStream, status_after};
 ghost use Rattle.init_wire.specs.Opening.{wire_script};
 ghost use Rattle.job_reader.specs.Counts.{AreCounted, counts_of};
 ghost use Rattle.job_reader.specs.Endings.{IsWireStatus};
@@ -18,8 +19,10 @@ use job_reader::{Job, Status, prepare_with};
 use prop_wire::WireRefusal;
 use std::alloc::Global;
 
-/// How a stream ends that isn't served to its end.
-fn refused(refusal: WireRefusal) -> Status {
+/// The status after a stream that isn't served to its end.
+fn refused(refusal: WireRefusal) -> Status
+    ensures { result ≡ status_after refusal }
+{
     match refusal {
         WireRefusal::BadCommand { at, .. }
         | WireRefusal::BadLength { at, .. }
@@ -35,12 +38,7 @@ fn refused(refusal: WireRefusal) -> Status {
 }
 
 /// Boots the machine of a job, and serves the messages that the source holds.
-fn serve_job<S: Source, K: Sink>(
-    alloc: Global,
-    job: Job,
-    messages: &mut S,
-    out: &mut K,
-) -> Status
+fn serve_job<S: Source, K: Sink>(alloc: Global, job: Job, messages: &mut S, out: &mut K) -> Status
     requires fit { IsFit job }
     requires script { job.script ≡ wire_script }
     ensures served { (bytes : Items ℕ) → S.left messages.old ≡ Some bytes
@@ -48,7 +46,7 @@ fn serve_job<S: Source, K: Sink>(
     ensures counts { (files trace keeper : ℕ) → AreCounted result
         (counts_of files (S.fault_count messages.old) trace keeper (K.fault_count out.old))
         (counts_of files (S.fault_count messages.new) trace keeper (K.fault_count out.new)) }
-    ensures formed { IsWireStatus result }
+    ensures formed { IsOfStream result }
 {
     let Job { setup, script } = job;
     match run_wire(alloc, setup, script.words, messages, out) {

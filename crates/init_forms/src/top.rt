@@ -142,19 +142,20 @@ fn check<F: Files, K: Sink>(alloc: Global, files: &mut F, out: &mut K) -> Status
 /// the summary of the report in its place.
 ///
 /// How the call ends is said of what is told: the status, what the sink took, and what the keeper holds, or may leave after a
-/// crash, are those of an outcome that words, script, tree, store and trace come to, the only one but with `race` and `dispatch`; unless a
-/// count of faults rose, or memory ran out: then nothing is written, or a prefix of the outcome's text, and the keeper stands
-/// as at the last entry that is written whole, or at the next one. In a race, as in a dispatch, the keeper is given its text before anything is
-/// written, so nothing is where it fails. A refusal is that of a reader which refuses what is told, where those before it don't.
-/// (`Promise` of `specs/Promise.antt` has these sentences, and what holds where nothing is told.)
+/// crash, are those of an outcome that words, script, tree, store and trace come to, the only one but with `race` and `dispatch`;
+/// unless a count of faults rose, or memory ran out: then nothing is written, or a prefix of the outcome's text, and the keeper stands
+/// as at the last entry that is written whole, or at the next one. In a race, as in a dispatch, the keeper is given its text before
+/// anything is written, so nothing is where it fails. A refusal is that of a reader which refuses what is told, where those before it
+/// don't. With `wire` all replies to the messages before the first bad byte are written. (`Promise` of `specs/Promise.antt` has these
+/// sentences, and what holds where nothing is told.)
 ///
 /// A run, a race or a soak that is done gives the seat of the area's writer, which has recorded the report that was written, or whose
 /// summary was. A check leaves the script and the keeper alone, `wire` what the keeper holds, and a soak all but the sink; no form
 /// but `audit` touches the trace.
 ///
 /// With `race` and `dispatch` alone the call may wait, and the clauses hold if it returns. `rt` makes its threads, and each actor of a
-/// race passes `gate` before and after each of its inputs and requests. The parameters are all that the program has of the system, each by itself, so
-/// that the clauses say of each what it gave or took.
+/// race passes `gate` before and after each of its inputs and requests. The parameters are all that the program has of the system,
+/// each by itself, so that the clauses say of each what it gave or took.
 pub fn initsim<
     R: Threads + Wait + Sync,
     F: Files,

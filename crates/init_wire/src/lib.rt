@@ -4,6 +4,7 @@
 //! `specs/Served.antt` what is written.
 #![tactic(auto)]
 
+mod booting;
 mod running;
 mod script;
 

@@ -32,7 +32,7 @@ fn sender(alloc: Global) -> Result<Client, NoMemory>
     ensures { IfOk result (λ client. client ≡ sender) }
 {
     Ok(Client {
-        name: Text::copy_of(alloc, b"u")?,
-        domain: Text::copy_of(alloc, b"shell")?,
+        name: Text::of(alloc, b"u")?,
+        domain: Text::of(alloc, b"shell")?,
     })
 }
