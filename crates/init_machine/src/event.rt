@@ -4,7 +4,7 @@ use crate::config::Pair;
 use init_base::Text;
 
 /// An event in the queue.
-#[derive(Debug, Drop)]
+#[derive(Drop)]
 pub enum Event {
     /// An event trigger, as `boot`.
     Named(Text),

@@ -4,7 +4,7 @@ use crate::config::Pair;
 use init_base::{Millis, Pid, Text};
 
 /// What the running command waits for.
-#[derive(Debug, Drop)]
+#[derive(Drop)]
 pub enum Waiting {
     Child(Pid),
     Prop(Pair),

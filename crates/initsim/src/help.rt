@@ -27,10 +27,10 @@ Runs Android's init over a modelled kernel, and writes command by command what i
     writes          how much there was to do, to standard output
     for example     initsim soak 3
 
-  wire ROOT MESSAGES   boots the tree, and answers messages as init does at its property socket
-    reads           what run reads, with MESSAGES in place of SCRIPT; it may be a pipe
-    writes          the reply to each message to standard output, before more is read
-    for example     printf 'set a 1\\n' | tools/messages | initsim wire examples/first_boot/tree /dev/stdin
+  wire ROOT MESSAGES   boots the tree, and answers the messages of a client of init's property socket
+    reads           the tree and its store, as run does, and then MESSAGES, which may be a pipe
+    writes          the reply to each message to standard output, before it reads on
+    for example     printf 'set debug.a 1\\n' | tools/messages | initsim wire examples/realistic/tree /dev/stdin
 
   dispatch ROOT SCRIPT   the same as run, with init's part first, and then one worker that serves all clients' sets
     reads           what run reads; the clients of SCRIPT may only set
@@ -46,7 +46,8 @@ ROOT is the folder that holds system/etc/init/hw/init.rc; tools/take-product mak
 The rc files are those of /system, /system_ext, /vendor, /odm and /product (etc/init) with what they import, the
 build files /system/build.prop and /vendor/build.prop.
 The status is 0 where the whole text is written, and from 1 to 12 where not: README.md has the table.
-docs/FORMATS.md has the words of a script and each line of a trace, docs/DIAGNOSTICS.md each mistake.";
+docs/FORMATS.md has the words of a script and each line of a trace, docs/DIAGNOSTICS.md each mistake,
+docs/WIRE.md the messages.";
 
 /// Whether a first word asks for help.
 pub fn is_help(word: &Text) -> bool {

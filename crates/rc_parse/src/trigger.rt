@@ -17,14 +17,14 @@ use std::alloc::Global;
 use std::collections::BTreeSet;
 
 /// A trigger: an event, or a test of a property.
-#[derive(Debug, Drop)]
+#[derive(Drop)]
 pub enum Trigger {
     Event(Text),
     Test(PropTest),
 }
 
 /// The triggers of an action.
-#[derive(Debug, Drop)]
+#[derive(Drop)]
 pub struct Triggers {
     pub event: Option<Text>,
     pub props: List<PropTest>,
