@@ -1,6 +1,6 @@
 /* A library to be loaded before a program (LD_PRELOAD): the Nth call of some functions of the C library fails.
  *
- *   FAIL_CALL    a function of those below; or `grow`, for malloc and realloc; or `file`, for all others but close
+ *   FAIL_CALL    a function of those below; or `grow`, for malloc and realloc; or `file`, for all others but close and pthread_create
  *   FAIL_ON      what begins so: of calls on files, only those on paths that begin so count. Standard output is `stdout`
  *   FAIL_BESIDE  what doesn't begin so: calls on files whose paths begin so don't count
  *   FAIL_AT      which of these calls, from 1; 0 fails none
@@ -8,8 +8,10 @@
  *   FAIL_COUNT   a file that gets the number of these calls when the program ends
  */
 #define _GNU_SOURCE
+#include <dlfcn.h>
 #include <errno.h>
 #include <fcntl.h>
+#include <pthread.h>
 #include <stdarg.h>
 #include <stdio.h>
 #include <stdlib.h>
@@ -94,6 +96,15 @@ void _exit(int status) {
     tell();
     syscall(SYS_exit_group, status);
     __builtin_unreachable();
+}
+
+int pthread_create(pthread_t *thread, const pthread_attr_t *how, void *(*start)(void *), void *given) {
+    make_ready();
+    if (wanted && strcmp(wanted, "pthread_create") == 0 && is_next()) {
+        return error;
+    }
+    int (*create)(pthread_t *, const pthread_attr_t *, void *(*)(void *), void *) = dlsym(RTLD_NEXT, "pthread_create");
+    return create(thread, how, start, given);
 }
 
 void *malloc(size_t size) { return grow_fails("malloc") ? NULL : __libc_malloc(size); }

@@ -10,7 +10,9 @@ sys.path.append(os.path.join(HERE, "../../tools"))
 from product.disk import BadImage, text_of  # noqa: E402
 
 STORE = "tree/data/property"
-EIO, ENOMEM = 5, 12
+EIO, EAGAIN, ENOMEM = 5, 11, 12
+# a run that hasn't ended by then is stopped
+SECONDS = 20
 
 
 def make_library(room, compiler):
@@ -40,8 +42,12 @@ class Runs:
         # (but for what somebody's run left there)
         shutil.copytree(example, self.folder, symlinks=True, ignore=shutil.ignore_patterns("persist.img"))
         self.words, self.first = words_of(self.folder), self.files()
-        with open(os.path.join(example, "stdout"), "rb") as file:
-            self.whole = file.read()
+        # (a dispatch of several clients writes one of many texts, and has none that is stored)
+        stdout = os.path.join(example, "stdout")
+        self.whole = None
+        if os.path.isfile(stdout):
+            with open(stdout, "rb") as file:
+                self.whole = file.read()
 
     def files(self):
         found = {}
@@ -75,10 +81,14 @@ class Runs:
                 file.write(text)
 
     def once(self, calls, at, error):
-        """The status, the text and the store of a run in which one of the calls fails. `calls` are settings of failing.c."""
+        """The status, the text and the store of a run in which one of the calls fails. `calls` are settings of failing.c. A run that
+        doesn't end has no status."""
         self.put_back()
         env = {"LD_PRELOAD": self.library, **calls, "FAIL_AT": str(at), "FAIL_ERRNO": str(error), "FAIL_COUNT": self.count}
-        done = subprocess.run([self.program, *self.words], cwd=self.folder, env=env, capture_output=True)
+        try:
+            done = subprocess.run([self.program, *self.words], cwd=self.folder, env=env, capture_output=True, timeout=SECONDS)
+        except subprocess.TimeoutExpired as late:
+            return None, late.stdout or b"", self.stored()
         return done.returncode, done.stdout, self.stored()
 
     def once_closed(self, handles):

@@ -195,9 +195,13 @@ impl<S: Store> Machine<S> {
 
     /// A set of a client, which it answers with the count of sets, or with why it is refused.
     pub fn set(&mut self, who: u32, name: &[u8], value: &[u8]) -> Result<u64, Refusal> {
-        let input = Set { who, name: name.into(), value: value.into() };
+        self.take(Set { who, name: name.into(), value: value.into() })
+    }
+
+    /// The same of a set whose texts are made.
+    pub fn take(&mut self, input: Set) -> Result<u64, Refusal> {
         let mut outputs = Vec::with_capacity(2);
-        let answer = match self.judge(who, name, value) {
+        let answer = match self.judge(input.who, &input.name, &input.value) {
             Ok(place) => {
                 self.put(place, &input, &mut outputs);
                 outputs.push(Output::Accepted { number: self.count });

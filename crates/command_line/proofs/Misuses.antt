@@ -15,7 +15,7 @@ use Rattle.command_line.specs.declared.form_name.FormName.TheVariants as name
 use Rattle.command_line.specs.declared.misuse.Misuse.{Misuse}
 use Rattle.command_line.specs.declared.misuse.Misuse.TheVariants as misuse
 use Rattle.command_line.specs.declared.misuse.Place.{Place}
-use Rattle.command_line.specs.declared.misuse.Place.TheVariants.{Root, Script, Trace, Number}
+use Rattle.command_line.specs.declared.misuse.Place.TheVariants.{Root, Script, Messages, Trace, Number}
 use Rattle.command_line.specs.declared.misuse.WordFault.{WordFault}
 use Rattle.command_line.specs.declared.misuse.WordFault.TheVariants as fault
 
@@ -126,6 +126,11 @@ after_law name.Soak (root ∷ []) = count_law root
 after_law name.Soak (root ∷ script ∷ []) = (λ h. cc, λ h. cc)
 after_law name.Soak (root ∷ script ∷ trace ∷ []) = (λ h. cc, λ h. cc)
 after_law name.Soak (root ∷ script ∷ trace ∷ more ∷ rest) = (λ h. cc, λ h. cc)
+after_law name.Wire [] = (λ h. cc, λ h. cc)
+after_law name.Wire (root ∷ []) = (λ h. cc, λ h. cc)
+after_law name.Wire (root ∷ script ∷ []) = if_law _ form.Wire _ (both_paths Messages root script)
+after_law name.Wire (root ∷ script ∷ trace ∷ []) = (λ h. cc, λ h. cc)
+after_law name.Wire (root ∷ script ∷ trace ∷ more ∷ rest) = (λ h. cc, λ h. cc)
 after_law name.Dispatch [] = (λ h. cc, λ h. cc)
 after_law name.Dispatch (root ∷ []) = (λ h. cc, λ h. cc)
 after_law name.Dispatch (root ∷ script ∷ []) = if_law _ form.Dispatch _ (both_paths Script root script)

@@ -5,13 +5,14 @@ use Rattle.std.specs.Str.{bytes_eq}
 use Rattle.std.proofs.lemmas.Slice.Eq.{bytes_eq-Decides}
 use Rattle.command_line.specs.FormName.{form_named}
 use Rattle.command_line.specs.declared.form_name.FormName.{FormName}
-use Rattle.command_line.specs.declared.form_name.FormName.TheVariants.{Run, Race, Check, Soak, Dispatch, Audit}
+use Rattle.command_line.specs.declared.form_name.FormName.TheVariants.{Run, Race, Check, Soak, Wire, Dispatch, Audit}
 
 abbrev pub text_of : FormName → List ℕ
 text_of Run = codes "run"
 text_of Race = codes "race"
 text_of Check = codes "check"
 text_of Soak = codes "soak"
+text_of Wire = codes "wire"
 text_of Dispatch = codes "dispatch"
 text_of Audit = codes "audit"
 
@@ -34,4 +35,4 @@ step word one name later rest h = elim (first_or_later (bytes_eq word (text_of o
 pub named_is : (word : List ℕ) (name : FormName) → form_named word ≡ Some name → word ≡ text_of name
 named_is word name =
     step word Run name _ (step word Race name _ (step word Check name _ (step word Soak name _
-    (step word Dispatch name _ (step word Audit name None (λ h. cc))))))
+    (step word Wire name _ (step word Dispatch name _ (step word Audit name None (λ h. cc)))))))

@@ -12,7 +12,7 @@ use Rattle.command_line.specs.Form.{form_of, form_with, is_path_word}
 use Rattle.command_line.specs.FormName.{form_named}
 use Rattle.command_line.specs.declared.form.Form.TheVariants.{Soak as SoakForm}
 use Rattle.command_line.specs.declared.form_name.FormName.{FormName}
-use Rattle.command_line.specs.declared.form_name.FormName.TheVariants.{Run, Race, Check, Soak, Dispatch, Audit}
+use Rattle.command_line.specs.declared.form_name.FormName.TheVariants.{Run, Race, Check, Soak, Wire, Dispatch, Audit}
 use Rattle.command_line.proofs.Named.{named_is, text_of}
 
 some_where : {T : Type 0} (b : Bool) (x : T) → IsSome (if b then Some x else None) → b ≡ true
@@ -56,6 +56,16 @@ unfolding clap_on_literals
 race_taken [] script h k = cc
 race_taken (byte ∷ rest) [] h k = cc
 race_taken (byte ∷ rest) (other ∷ more) h k =
+    let plain = not_dash byte rest h in
+    let plain2 = not_dash other more k in
+    simp (plain, plain2) refl
+
+wire_taken : (root script : List ℕ) → is_path_word root ≡ true → is_path_word script ≡ true
+    → takes app (codes "wire" ∷ root ∷ script ∷ []) ≡ true
+unfolding clap_on_literals
+wire_taken [] script h k = cc
+wire_taken (byte ∷ rest) [] h k = cc
+wire_taken (byte ∷ rest) (other ∷ more) h k =
     let plain = not_dash byte rest h in
     let plain2 = not_dash other more k in
     simp (plain, plain2) refl
@@ -108,6 +118,11 @@ taken_by Soak (root ∷ []) h = soak_taken root (some_number _ _ h)
 taken_by Soak (root ∷ script ∷ []) h = cc
 taken_by Soak (root ∷ script ∷ trace ∷ []) h = cc
 taken_by Soak (root ∷ script ∷ trace ∷ more ∷ rest) h = cc
+taken_by Wire [] h = cc
+taken_by Wire (root ∷ []) h = cc
+taken_by Wire (root ∷ script ∷ []) h = let both = and_parts (is_path_word root) (is_path_word script) (some_where _ _ h) in wire_taken root script both.0 both.1
+taken_by Wire (root ∷ script ∷ trace ∷ []) h = cc
+taken_by Wire (root ∷ script ∷ trace ∷ more ∷ rest) h = cc
 taken_by Dispatch [] h = cc
 taken_by Dispatch (root ∷ []) h = cc
 taken_by Dispatch (root ∷ script ∷ []) h = let both = and_parts (is_path_word root) (is_path_word script) (some_where _ _ h) in dispatch_taken root script both.0 both.1
@@ -160,6 +175,7 @@ name_utf8 Run = refl
 name_utf8 Race = refl
 name_utf8 Check = refl
 name_utf8 Soak = refl
+name_utf8 Wire = refl
 name_utf8 Dispatch = refl
 name_utf8 Audit = refl
 
@@ -185,6 +201,11 @@ rest_utf8 Soak (root ∷ []) h = let first = path_utf8 root (some_number _ _ h) 
 rest_utf8 Soak (root ∷ script ∷ []) h = cc
 rest_utf8 Soak (root ∷ script ∷ trace ∷ []) h = cc
 rest_utf8 Soak (root ∷ script ∷ trace ∷ more ∷ rest) h = cc
+rest_utf8 Wire [] h = cc
+rest_utf8 Wire (root ∷ []) h = cc
+rest_utf8 Wire (root ∷ script ∷ []) h = two_utf8 root script (some_where _ _ h)
+rest_utf8 Wire (root ∷ script ∷ trace ∷ []) h = cc
+rest_utf8 Wire (root ∷ script ∷ trace ∷ more ∷ rest) h = cc
 rest_utf8 Dispatch [] h = cc
 rest_utf8 Dispatch (root ∷ []) h = cc
 rest_utf8 Dispatch (root ∷ script ∷ []) h = two_utf8 root script (some_where _ _ h)

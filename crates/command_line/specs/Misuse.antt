@@ -5,11 +5,11 @@ use Rattle.std.specs.Str.{is_utf8}
 use Rattle.command_line.specs.FormName.{form_named}
 use Rattle.command_line.specs.Services.{services_in}
 use Rattle.command_line.specs.declared.form_name.FormName.{FormName}
-use Rattle.command_line.specs.declared.form_name.FormName.TheVariants.{Run, Race, Check, Soak, Dispatch, Audit}
+use Rattle.command_line.specs.declared.form_name.FormName.TheVariants.{Run, Race, Check, Soak, Wire, Dispatch, Audit}
 use Rattle.command_line.specs.declared.misuse.Misuse.{Misuse}
 use Rattle.command_line.specs.declared.misuse.Misuse.TheVariants as misuse
 use Rattle.command_line.specs.declared.misuse.Place.{Place}
-use Rattle.command_line.specs.declared.misuse.Place.TheVariants.{Root, Script, Trace, Number}
+use Rattle.command_line.specs.declared.misuse.Place.TheVariants.{Root, Script, Messages, Trace, Number}
 use Rattle.command_line.specs.declared.misuse.WordFault.{WordFault}
 use Rattle.command_line.specs.declared.misuse.WordFault.TheVariants as fault
 
@@ -27,13 +27,14 @@ abbrev pub number_fault : Option ℕ → Option Misuse
 number_fault None = Some misuse.BadNumber
 number_fault (Some services) = None
 
--- what is wrong with the words after the form's name: `run`, `race` and `dispatch` take the root and the script,
--- `check` the root, `audit` the root, the script and the trace, and `soak` a number of services
+-- what is wrong with the words after the form's name: `run`, `race` and `dispatch` take the root and the script, `wire` the root and the
+-- messages, `check` the root, `audit` the root, the script and the trace, and `soak` a number of services
 abbrev pub misuse_after : List (List ℕ) → FormName → Option Misuse
 misuse_after (root ∷ []) Check = misuse_at Root root
 misuse_after (count ∷ []) Soak = option_or (misuse_at Number count) (number_fault (services_in count))
 misuse_after (root ∷ script ∷ []) Run = option_or (misuse_at Root root) (misuse_at Script script)
 misuse_after (root ∷ script ∷ []) Race = option_or (misuse_at Root root) (misuse_at Script script)
+misuse_after (root ∷ messages ∷ []) Wire = option_or (misuse_at Root root) (misuse_at Messages messages)
 misuse_after (root ∷ script ∷ []) Dispatch = option_or (misuse_at Root root) (misuse_at Script script)
 misuse_after (root ∷ script ∷ trace ∷ []) Audit = option_or (misuse_at Root root) (option_or (misuse_at Script script) (misuse_at Trace trace))
 misuse_after words form = Some (misuse.WrongCount form (length words))

@@ -26,7 +26,8 @@ fn command<'a>(alloc: Global) -> Result<Command<'a>, AllocError>
     let with_race = with_form(with_run, two_paths(alloc, "race", "ROOT", "SCRIPT"))?;
     let with_check = with_form(with_race, one_path(alloc, "check", "ROOT"))?;
     let with_soak = with_form(with_check, one_path(alloc, "soak", "N"))?;
-    let with_dispatch = with_form(with_soak, two_paths(alloc, "dispatch", "ROOT", "SCRIPT"))?;
+    let with_wire = with_form(with_soak, two_paths(alloc, "wire", "ROOT", "MESSAGES"))?;
+    let with_dispatch = with_form(with_wire, two_paths(alloc, "dispatch", "ROOT", "SCRIPT"))?;
     with_form(
         with_dispatch,
         three_paths(alloc, "audit", "ROOT", "SCRIPT", "TRACE"),

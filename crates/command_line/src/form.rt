@@ -20,6 +20,8 @@ pub enum Form {
     Check,
     /// `soak N`: a generated boot of so many services runs, and the summary of its report is written.
     Soak { services: u32 },
+    /// `wire ROOT MESSAGES`: the messages of clients of the property socket are answered, and the replies are written.
+    Wire,
     /// `dispatch ROOT SCRIPT`: the machine runs, one worker serves all clients' sets through a queue, and its report is written.
     Dispatch,
     /// `audit ROOT SCRIPT TRACE`: whether the machine can have written a trace is written.
@@ -43,6 +45,7 @@ fn form_with(name: FormName, paths: &[Text]) -> Option<Form>
         (FormName::Soak, [count]) if is_path_word(count) => soak_of(count),
         (FormName::Run, [root, script]) if are_path_words(root, script) => Some(Form::Run),
         (FormName::Race, [root, script]) if are_path_words(root, script) => Some(Form::Race),
+        (FormName::Wire, [root, messages]) if are_path_words(root, messages) => Some(Form::Wire),
         (FormName::Dispatch, [root, script]) if are_path_words(root, script) => Some(
             Form::Dispatch,
         ),

@@ -12,6 +12,7 @@ pub enum FormName {
     Race,
     Check,
     Soak,
+    Wire,
     Dispatch,
     Audit,
 }
@@ -28,6 +29,8 @@ pub(crate) fn form_named(word: &Text) -> Option<FormName>
         Some(FormName::Check)
     } else if word.is(b"soak") {
         Some(FormName::Soak)
+    } else if word.is(b"wire") {
+        Some(FormName::Wire)
     } else if word.is(b"dispatch") {
         Some(FormName::Dispatch)
     } else if word.is(b"audit") {

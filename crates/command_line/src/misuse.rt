@@ -29,6 +29,7 @@ pub enum Misuse {
 pub enum Place {
     Root,
     Script,
+    Messages,
     Trace,
     Number,
 }
@@ -70,6 +71,9 @@ fn misuse_after(form: FormName, paths: &[Text]) -> Option<Misuse>
         (FormName::Soak, [count]) => misuse_at(Place::Number, count).or(number_fault(count)),
         (FormName::Run | FormName::Race | FormName::Dispatch, [root, script]) => {
             misuse_at(Place::Root, root).or(misuse_at(Place::Script, script))
+        }
+        (FormName::Wire, [root, messages]) => {
+            misuse_at(Place::Root, root).or(misuse_at(Place::Messages, messages))
         }
         (FormName::Audit, [root, script, trace]) => misuse_at(Place::Root, root).or(misuse_at(
             Place::Script,

@@ -64,9 +64,9 @@ impl Pace for CrossingPace {
     }
 }
 
-/// Were one session served after another, the first one would be held for all turns, and the test would fail.
+/// If one session were served after another, the first one would be held for all turns, and the test would fail.
 #[test]
-fn two_sessions_cross(rt: HostRuntime) -> Result<(), Fail> {
+fn sessions_interleave(rt: HostRuntime) -> Result<(), Fail> {
     let alloc = rt.alloc();
     let requests = vec![in alloc;
         sets_of(alloc, b"a", &[b"1", b"2"])?,
@@ -84,8 +84,9 @@ fn two_sessions_cross(rt: HostRuntime) -> Result<(), Fail> {
     Ok(())
 }
 
+/// A read-only property is set once. The second set is refused with the number of the first.
 #[test]
-fn a_second_set_of_a_read_only_name(rt: HostRuntime) -> Result<(), Fail> {
+fn dispatch_verdicts(rt: HostRuntime) -> Result<(), Fail> {
     let alloc = rt.alloc();
     let requests = vec![in alloc; sets_of(alloc, b"ro.x", &[b"1", b"2"])?]?;
     let outcome = dispatched(&rt, alloc, requests, 64, &OpenPace)?;
@@ -138,6 +139,11 @@ fn count_through<R: Threads + Wait + Sync + Abort>(
 
 #[test]
 fn more_requests_than_room(rt: HostRuntime) -> Result<(), Fail> {
-    count_through(&rt, rt.alloc(), 4, 20, 3)?;
+    count_through(&rt, rt.alloc(), 1, 20, 3)?;
+    count_through(&rt, rt.alloc(), 4, 20, 3)
+}
+
+#[test]
+fn all_sessions_through_room_for_one(rt: HostRuntime) -> Result<(), Fail> {
     count_through(&rt, rt.alloc(), 64, 200, 1)
 }

@@ -111,6 +111,7 @@ complete_check status.NoInit world before now is says counted fit = root_is_ther
 complete_check (status.TooLarge limit number) world before now is says counted fit = check_limit world limit number is says fit
 complete_check (status.BadPolicy allow line) world before now is says counted fit = is
 complete_check (status.BadStore line why) world before now is says counted fit = is
+complete_check (status.BadWire at) world before now is says counted fit = is
 complete_check status.BadTrace world before now is says counted fit = is
 
 -- ---- a run
@@ -156,6 +157,7 @@ done g (status.BadPolicy allow line) bytes left world held before now is script 
     no_bad_policy ToRun world allow line fit tree
 done g (status.BadStore line why) bytes left world held before now is script tree store counted has fit stored =
     store_or_line held stored.0 line why stored.1.pairs store.1
+done g (status.BadWire at) bytes left world held before now is script tree store counted has fit stored = is
 done g status.BadTrace bytes left world held before now is script tree store counted has fit stored = is
 
 run_is_done : (g : Grammar) (how : Status) (script left held : Option (List ℕ)) (world : World) (before now : Counts)
@@ -199,6 +201,7 @@ ends_as_run status.NoInit bytes left is says has = tt
 ends_as_run (status.TooLarge limit number) bytes left is says has = limit_of_run limit number bytes says has
 ends_as_run (status.BadPolicy allow line) bytes left is says has = tt
 ends_as_run (status.BadStore line why) bytes left is says has = tt
+ends_as_run (status.BadWire at) bytes left is says has = is
 ends_as_run status.BadTrace bytes left is says has = says.none has.0 has.1.text
 
 told_ends_as_run : (how : Status) (trace left : Option (List ℕ)) → IsAuditStatus how → IfSome trace (λ bytes. TraceSays bytes left how)

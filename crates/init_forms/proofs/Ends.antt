@@ -28,7 +28,7 @@ use Rattle.job_reader.specs.declared.status.Status.TheVariants as status
 use Rattle.job_reader.specs.declared.stop.Stop.{Stop}
 use Rattle.job_reader.specs.declared.stop.Stop.TheVariants as stop
 use Rattle.trace_audit.specs.declared.verdict.Verdict.{Verdict}
-use Rattle.init_forms.specs.Outcome.{AuditRefused, CanBeRun, ComesTo, Ends, FilesRefuse, IsJudged, Outcome, RunRefused, Shows, Told, Untouched, shown_as, status_of_outcome}
+use Rattle.init_forms.specs.Outcome.{AuditRefused, CanBeRun, ComesTo, Ends, FilesRefuse, IsJudged, MachineRefused, Outcome, RunRefused, Shows, Told, Untouched, shown_as, status_of_outcome}
 use Rattle.init_forms.specs.Outcome.Outcome.{Checked, Judged, Ran, Refused, Unformed}
 use Rattle.init_forms.specs.Verdict.{verdict_text}
 
@@ -44,12 +44,16 @@ left_alone old a = untouched old a a refl (λ tells. risks_nothing a [])
 
 -- ---- why a run isn't begun
 
+-- a limit of the tree is passed, which a machine is opened with
+pub machine_limit : (told : Told) (limit : Limit) (number : ℕ) → IsTreeTooLarge ToRun told.world limit number → MachineRefused told (status.TooLarge limit number)
+machine_limit told limit number (inl policy) = inl policy
+machine_limit told limit number (inr (inl build)) = inr (build.0, inl (inl build.1))
+machine_limit told limit number (inr (inr rc)) =
+    inr (rc.policy, inl (inr (rc.build_files, record { refusal = rc.refusal; refused = rc.refused; passes = rc.passes })))
+
 tree_limit : (g : Grammar) (told : Told) (limit : Limit) (number : ℕ) → HasScript g told.script → IsTreeTooLarge ToRun told.world limit number
     → RunRefused g told (status.TooLarge limit number)
-tree_limit g told limit number has (inl policy) = inr (has, inl policy)
-tree_limit g told limit number has (inr (inl build)) = inr (has, inr (build.0, inl (inl build.1)))
-tree_limit g told limit number has (inr (inr rc)) =
-    inr (has, inr (rc.policy, inl (inr (rc.build_files, record { refusal = rc.refusal; refused = rc.refused; passes = rc.passes }))))
+tree_limit g told limit number has large = inr (has, machine_limit told limit number large)
 
 pub limit_refused : (g : Grammar) (told : Told) (left : Option (List ℕ)) (limit : Limit) (number : ℕ) → IsRunLimit limit → ScriptLimitSays g told.script left limit number
     → TreeLimitSays ToRun told.world limit number → StoreLimitSays told.held limit number → RunRefused g told (status.TooLarge limit number)
@@ -63,7 +67,7 @@ limit_refused g told left limits.RcBytes number is script tree store = tree_limi
 limit_refused g told left limits.StoreBytes number is script tree store = inr (script.0, inr (tree.0, inr (tree.1, (refl, store.0, store.1))))
 limit_refused g told left limits.TraceBytes number is script tree store = absurd is
 
-refused : (form : Form) (told : Told) (why : Status) (old : Option (List ℕ)) (a b : KeeperView) → ComesTo (Some form) told (Refused why)
+pub refused : (form : Form) (told : Told) (why : Status) (old : Option (List ℕ)) (a b : KeeperView) → ComesTo (Some form) told (Refused why)
     → b.held ≡ a.held → (a.TellsCrash → Risks a b [] [])
     → (outcome : Outcome) × ComesTo (Some form) told outcome × (why ≡ status_of_outcome outcome) × Shows outcome (shown_as old old a b)
 refused form told why old a b comes held crash = (Refused why, comes, refl, untouched old a b held crash)
@@ -140,6 +144,7 @@ judged_ends verdict told old new a b status.NoInit asked is h = absurd h
 judged_ends verdict told old new a b (status.TooLarge limit number) asked is h = absurd h
 judged_ends verdict told old new a b (status.BadPolicy allow line) asked is h = absurd h
 judged_ends verdict told old new a b (status.BadStore line why) asked is h = absurd h
+judged_ends verdict told old new a b (status.BadWire at) asked is h = absurd h
 judged_ends verdict told old new a b status.BadTrace asked is h = absurd h
 
 -- ---- a run
@@ -174,6 +179,7 @@ performed_ends course told old new a b c status.NoInit asked is h = absurd h
 performed_ends course told old new a b c (status.TooLarge limit number) asked is h = absurd h
 performed_ends course told old new a b c (status.BadPolicy allow line) asked is h = absurd h
 performed_ends course told old new a b c (status.BadStore line why) asked is h = absurd h
+performed_ends course told old new a b c (status.BadWire at) asked is h = absurd h
 performed_ends course told old new a b c status.BadTrace asked is h = absurd h
 
 -- ---- a check
@@ -217,6 +223,7 @@ check_ends told old new a (status.TooLarge limit number) is tree writes =
     (Refused (status.TooLarge limit number), check_limit told limit number is tree, refl, nothing_new old new a writes)
 check_ends told old new a (status.BadPolicy allow line) is tree writes = absurd is
 check_ends told old new a (status.BadStore line why) is tree writes = absurd is
+check_ends told old new a (status.BadWire at) is tree writes = absurd is
 check_ends told old new a status.BadTrace is tree writes = absurd is
 
 -- ---- the words

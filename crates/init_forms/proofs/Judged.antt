@@ -51,6 +51,7 @@ written_status P text old new status.NoInit writes done fault memory = absurd wr
 written_status P text old new (status.TooLarge limit number) writes done fault memory = absurd writes
 written_status P text old new (status.BadPolicy allow line) writes done fault memory = absurd writes
 written_status P text old new (status.BadStore line why) writes done fault memory = absurd writes
+written_status P text old new (status.BadWire at) writes done fault memory = absurd writes
 written_status P text old new status.BadTrace writes done fault memory = absurd writes
 
 -- a keeper that was asked for its text alone
@@ -78,6 +79,7 @@ same_as_before status.NoInit one other k k' same = same
 same_as_before (status.TooLarge limit number) one other k k' same = same
 same_as_before (status.BadPolicy allow line) one other k k' same = same
 same_as_before (status.BadStore line why) one other k k' same = same
+same_as_before (status.BadWire at) one other k k' same = same
 same_as_before status.BadTrace one other k k' same = same
 
 pub stop_of_audit : (why : Stop) → IsAuditStatus (status_of why)

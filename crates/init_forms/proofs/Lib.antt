@@ -1,11 +1,15 @@
 pub mod Written
 pub mod Performed
 pub mod Judged
+pub mod Grammars
 pub mod Ends
 pub mod Raced
 pub mod Soaked
 pub mod Seated
 pub mod Complete
+pub mod Streams
 pub mod OneStatus
+pub mod Answered
+pub mod ServedWhole
 pub mod Promised
 pub mod TextJudged

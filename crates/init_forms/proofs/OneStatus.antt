@@ -6,7 +6,7 @@ use Rattle.init_machine.specs.declared.config.Pair.{Pair}
 use Rattle.init_machine.specs.declared.limit.Limit.{Limit}
 use Rattle.init_machine.specs.declared.limit.Limit.TheVariants as limits
 use Rattle.command_line.specs.declared.form.Form.{Form}
-use Rattle.command_line.specs.declared.form.Form.TheVariants.{Run, Race, Check, Soak, Dispatch, Audit}
+use Rattle.command_line.specs.declared.form.Form.TheVariants.{Run, Race, Wire, Check, Soak, Dispatch, Audit}
 use Rattle.job_reader.specs.Policy.{HasPolicy, IsBadLine, IsBadPolicyAt, IsPolicyTooLarge}
 use Rattle.job_reader.specs.Run.{Course, IsCourseOf}
 use Rattle.job_reader.specs.Script.{HasScript, IsBadIn}
@@ -36,10 +36,11 @@ use Rattle.rc_import.specs.declared.loaded.LoadRefusal.TheVariants as load
 use Rattle.rc_import.specs.declared.loaded.Loaded.{Loaded}
 use Rattle.script_lang.proofs.OneReading.{one_limit, within_no_limit}
 use Rattle.script_lang.specs.Refusal.{IsTooLarge}
-use Rattle.init_forms.specs.Outcome.{AuditRefused, CanBeRun, ComesTo, Ends, FilesRefuse, IsCut, Outcome, PassRcLimit, PolicyRefuses, RunRefused, ScriptRefuses, Shown, StoreRefuses, Told, TraceRefuses, status_of_outcome}
-use Rattle.init_forms.specs.Outcome.Outcome.{Checked, Judged, Raced, Ran, Refused, Soaked, Unformed}
+use Rattle.init_forms.specs.Outcome.{AuditRefused, CanBeRun, ComesTo, Ends, FilesRefuse, IsCut, IsServed, MachineRefused, Outcome, PassRcLimit, PolicyRefuses, RunRefused, ScriptRefuses, Shown, StoreRefuses, Told, TraceRefuses, status_of_outcome}
+use Rattle.init_forms.specs.Outcome.Outcome.{Checked, Judged, Raced, Ran, Refused, Served, Soaked, Unformed}
 use Rattle.init_forms.proofs.Complete.{absent_is_refused, no_bad_line, none_long, ok_or_err}
 use Rattle.init_forms.proofs.Grammars.{bad_within, is_script, one_bad_line, script_or_bad}
+use Rattle.init_forms.proofs.Streams.{IsStreamStatus, answered_status, one_stream_status}
 
 -- ---- readers one after another
 
@@ -81,6 +82,7 @@ script_case g bytes status.NoInit h = absurd h
 script_case g bytes (status.TooLarge limit number) h = inr (limit, number, refl, h)
 script_case g bytes (status.BadPolicy allow line) h = absurd h
 script_case g bytes (status.BadStore line why) h = absurd h
+script_case g bytes (status.BadWire at) h = absurd h
 script_case g bytes status.BadTrace h = absurd h
 
 script_same : (g : Grammar) (bytes : List ℕ) (s t : Status) → ScriptCase g bytes s → ScriptCase g bytes t → s ≡ t
@@ -118,6 +120,7 @@ policy_case tree status.NoInit h = absurd h
 policy_case tree (status.TooLarge limit number) h = inr (limit, number, refl, h)
 policy_case tree (status.BadPolicy allow line) h = inl (allow, line, refl, h)
 policy_case tree (status.BadStore line why) h = absurd h
+policy_case tree (status.BadWire at) h = absurd h
 policy_case tree status.BadTrace h = absurd h
 
 -- the refusal of a bad line
@@ -177,6 +180,7 @@ files_case world status.NoInit h = inl (refl, h.0, h.1)
 files_case world (status.TooLarge limit number) h = inr (limit, number, refl, h)
 files_case world (status.BadPolicy allow line) h = absurd h
 files_case world (status.BadStore line why) h = absurd h
+files_case world (status.BadWire at) h = absurd h
 files_case world status.BadTrace h = absurd h
 
 same_refused : (r : Result Loaded LoadRefusal) (why other : LoadRefusal) → r ≡ Err why → r ≡ Err other → why ≡ other
@@ -247,6 +251,7 @@ store_case held status.NoInit h = absurd h
 store_case held (status.TooLarge limit number) h = store_large held limit number h
 store_case held (status.BadPolicy allow line) h = absurd h
 store_case held (status.BadStore line why) h = inl (line, why, refl, h.0, h.1)
+store_case held (status.BadWire at) h = absurd h
 store_case held status.BadTrace h = absurd h
 
 same_unfit : (r : Result (List Pair) StoreRefusal) (line next : ℕ) (why other : StoreCause) → r ≡ Err (store.BadLine line why) → r ≡ Err (store.BadLine next other)
@@ -290,6 +295,7 @@ trace_case trace status.NoInit h = absurd h
 trace_case trace (status.TooLarge limit number) h = trace_large trace limit number h
 trace_case trace (status.BadPolicy allow line) h = absurd h
 trace_case trace (status.BadStore line why) h = absurd h
+trace_case trace (status.BadWire at) h = absurd h
 trace_case trace status.BadTrace h = inl (refl, h)
 
 trace_same : (trace : List ℕ) (s t : Status) → TraceCase trace s → TraceCase trace t → s ≡ t
@@ -308,29 +314,42 @@ trace_passes trace s has (inr a) = not_more (length trace) 67108864 has.1.short 
 trace_not : (trace : List ℕ) (s : Status) → HasTrace trace → TraceRefuses trace s → ⊥
 trace_not trace s has h = trace_passes trace s has (trace_case trace s h)
 
--- ---- a run, and an audit
+-- ---- a machine, a run, and an audit
 
 abbrev FilesOrStore : Told → Status → Type 0
 FilesOrStore told s = FilesRefuse told.world s ⊎ (IsLoadable told.world × StoreRefuses told.held s)
 
-abbrev PolicyOrLater : Told → Status → Type 0
-PolicyOrLater told s = PolicyRefuses told.world.tree s ⊎ (HasPolicy told.world.tree × FilesOrStore told s)
+-- nothing of what a machine is opened with is refused
+pub record CanOpen (told : Told) : Type 0 where
+  pub policy : HasPolicy told.world.tree
+  pub files : IsLoadable told.world
+  pub store : HasStore told.held
+
+machine_once : (told : Told) (s t : Status) → MachineRefused told s → MachineRefused told t → s ≡ t
+machine_once told =
+    first_once (PolicyRefuses told.world.tree) (FilesOrStore told) (HasPolicy told.world.tree) (policy_once told.world.tree) (policy_not told.world.tree)
+    (first_once (FilesRefuse told.world) (StoreRefuses told.held) (IsLoadable told.world) (files_once told.world) (files_not told.world)
+    (store_once told.held))
+
+pub machine_not : (told : Told) (s : Status) → CanOpen told → MachineRefused told s → ⊥
+machine_not told s can =
+    both_pass (PolicyRefuses told.world.tree) (FilesOrStore told) (HasPolicy told.world.tree) (CanOpen told) (policy_not told.world.tree)
+    (λ s can. both_pass (FilesRefuse told.world) (StoreRefuses told.held) (IsLoadable told.world) (HasStore told.held) (files_not told.world)
+    (store_not told.held) s can.files can.store)
+    s can.policy can
 
 run_once : (g : Grammar) (told : Told) (s t : Status) → RunRefused g told s → RunRefused g told t → s ≡ t
 run_once g told =
-    first_once (ScriptRefuses g told.script) (PolicyOrLater told) (HasScript g told.script) (script_once g told.script) (script_not g told.script)
-    (first_once (PolicyRefuses told.world.tree) (FilesOrStore told) (HasPolicy told.world.tree) (policy_once told.world.tree) (policy_not told.world.tree)
-    (first_once (FilesRefuse told.world) (StoreRefuses told.held) (IsLoadable told.world) (files_once told.world) (files_not told.world)
-    (store_once told.held)))
+    first_once (ScriptRefuses g told.script) (MachineRefused told) (HasScript g told.script) (script_once g told.script) (script_not g told.script)
+    (machine_once told)
+
+can_open : (g : Grammar) (told : Told) → CanBeRun g told → CanOpen told
+can_open g told can = record { policy = can.policy; files = can.files; store = can.store }
 
 run_not : (g : Grammar) (told : Told) (s : Status) → CanBeRun g told → RunRefused g told s → ⊥
 run_not g told s can =
-    both_pass (ScriptRefuses g told.script) (PolicyOrLater told) (HasScript g told.script) (CanBeRun g told) (script_not g told.script)
-    (λ s can. both_pass (PolicyRefuses told.world.tree) (FilesOrStore told) (HasPolicy told.world.tree) (CanBeRun g told) (policy_not told.world.tree)
-    (λ s can. both_pass (FilesRefuse told.world) (StoreRefuses told.held) (IsLoadable told.world) (HasStore told.held) (files_not told.world)
-    (store_not told.held) s can.files can.store)
-    s can.policy can)
-    s can.script can
+    both_pass (ScriptRefuses g told.script) (MachineRefused told) (HasScript g told.script) (CanOpen told) (script_not g told.script) (machine_not told)
+    s can.script (can_open g told can)
 
 audit_once : (told : Told) (s t : Status) → AuditRefused told s → AuditRefused told t → s ≡ t
 audit_once told = first_once (RunRefused Whole told) (TraceRefuses told.trace) (CanBeRun Whole told) (run_once Whole told) (run_not Whole told) (trace_once told.trace)
@@ -340,33 +359,53 @@ audit_not told = both_pass (RunRefused Whole told) (TraceRefuses told.trace) (Ca
 
 -- ---- each form
 
-abbrev FormRefuses : Option Form → Told → Status → Type 0
+abbrev pub FormRefuses : Option Form → Told → Status → Type 0
 FormRefuses None told s = ⊥
 FormRefuses (Some Run) told s = RunRefused Whole told s
 FormRefuses (Some Race) told s = RunRefused Whole told s
 FormRefuses (Some Dispatch) told s = RunRefused Sets told s
+FormRefuses (Some Wire) told s = MachineRefused told s
 FormRefuses (Some Check) told s = FilesRefuse told.world s
 FormRefuses (Some Audit) told s = AuditRefused told s
 FormRefuses (Some (Soak services)) told s = RunRefused Whole told s
 
-abbrev FormPasses : Option Form → Told → Type 0
+abbrev pub FormPasses : Option Form → Told → Type 0
 FormPasses None told = ⊤
 FormPasses (Some Run) told = CanBeRun Whole told
 FormPasses (Some Race) told = CanBeRun Whole told
 FormPasses (Some Dispatch) told = CanBeRun Sets told
+FormPasses (Some Wire) told = CanOpen told
 FormPasses (Some Check) told = IsLoadable told.world
 FormPasses (Some Audit) told = CanBeRun Whole told × HasTrace told.trace
 FormPasses (Some (Soak services)) told = CanBeRun Whole told
 
-abbrev done_of : Option Form → Status
-done_of None = status.Usage
-done_of (Some form) = status.Done
+-- what a form that isn't refused ends with
+abbrev pub FormEnds : Option Form → Told → Status → Type 0
+FormEnds None told s = s ≡ status.Usage
+FormEnds (Some Run) told s = s ≡ status.Done
+FormEnds (Some Race) told s = s ≡ status.Done
+FormEnds (Some Dispatch) told s = s ≡ status.Done
+FormEnds (Some Wire) told s = IsStreamStatus told.script s
+FormEnds (Some Check) told s = s ≡ status.Done
+FormEnds (Some Audit) told s = s ≡ status.Done
+FormEnds (Some (Soak services)) told s = s ≡ status.Done
+
+form_ends : (asked : Option Form) (told : Told) (s t : Status) → FormEnds asked told s → FormEnds asked told t → s ≡ t
+form_ends None told s t h k = h ∙ sym k
+form_ends (Some Run) told s t h k = h ∙ sym k
+form_ends (Some Race) told s t h k = h ∙ sym k
+form_ends (Some Dispatch) told s t h k = h ∙ sym k
+form_ends (Some Wire) told s t h k = one_stream_status told.script s t h k
+form_ends (Some Check) told s t h k = h ∙ sym k
+form_ends (Some Audit) told s t h k = h ∙ sym k
+form_ends (Some (Soak services)) told s t h k = h ∙ sym k
 
 form_once : (asked : Option Form) (told : Told) (s t : Status) → FormRefuses asked told s → FormRefuses asked told t → s ≡ t
 form_once None told s t h k = absurd h
 form_once (Some Run) told s t h k = run_once Whole told s t h k
 form_once (Some Race) told s t h k = run_once Whole told s t h k
 form_once (Some Dispatch) told s t h k = run_once Sets told s t h k
+form_once (Some Wire) told s t h k = machine_once told s t h k
 form_once (Some Check) told s t h k = files_once told.world s t h k
 form_once (Some Audit) told s t h k = audit_once told s t h k
 form_once (Some (Soak services)) told s t h k = run_once Whole told s t h k
@@ -376,6 +415,7 @@ form_not None told s passes h = h
 form_not (Some Run) told s passes h = run_not Whole told s passes h
 form_not (Some Race) told s passes h = run_not Whole told s passes h
 form_not (Some Dispatch) told s passes h = run_not Sets told s passes h
+form_not (Some Wire) told s passes h = machine_not told s passes h
 form_not (Some Check) told s passes h = files_not told.world s passes h
 form_not (Some Audit) told s passes h = audit_not told s passes.0 passes.1 h
 form_not (Some (Soak services)) told s passes h = run_not Whole told s passes h
@@ -388,16 +428,23 @@ course_can g told course is = record {
   store = (course.opening.config.saved, is.opened.saved);
 }
 
-abbrev Comes : Option Form → Told → Outcome → Type 0
-Comes asked told outcome =
-    FormRefuses asked told (status_of_outcome outcome) ⊎ (FormPasses asked told × (status_of_outcome outcome ≡ done_of asked))
+served_can : (told : Told) (how : Status) (replies : List ℕ) → IsServed told how replies → CanOpen told
+served_can told how replies is = record {
+  policy = (is.opening.policy, is.opened.policy);
+  files = (is.opened.load.short, (is.opened.load.loaded, is.opened.load.rc_files));
+  store = (is.opening.config.saved, is.opened.saved);
+}
 
-comes : (asked : Option Form) (told : Told) (outcome : Outcome) → ComesTo asked told outcome → Comes asked told outcome
+abbrev pub Comes : Option Form → Told → Outcome → Type 0
+Comes asked told outcome = FormRefuses asked told (status_of_outcome outcome) ⊎ (FormPasses asked told × FormEnds asked told (status_of_outcome outcome))
+
+pub comes : (asked : Option Form) (told : Told) (outcome : Outcome) → ComesTo asked told outcome → Comes asked told outcome
 comes None told Unformed h = inr (tt, refl)
 comes None told (Refused why) h = absurd h
 comes None told (Checked diagnostics) h = absurd h
 comes None told (Ran course) h = absurd h
 comes None told (Raced course report) h = absurd h
+comes None told (Served how replies) h = absurd h
 comes None told (Judged verdict) h = absurd h
 comes None told (Soaked given course) h = absurd h
 comes (Some Run) told Unformed h = absurd h
@@ -405,6 +452,7 @@ comes (Some Run) told (Refused why) h = inl h
 comes (Some Run) told (Checked diagnostics) h = absurd h
 comes (Some Run) told (Ran course) h = inr (course_can Whole told course h, refl)
 comes (Some Run) told (Raced course report) h = absurd h
+comes (Some Run) told (Served how replies) h = absurd h
 comes (Some Run) told (Judged verdict) h = absurd h
 comes (Some Run) told (Soaked given course) h = absurd h
 comes (Some Race) told Unformed h = absurd h
@@ -412,6 +460,7 @@ comes (Some Race) told (Refused why) h = inl h
 comes (Some Race) told (Checked diagnostics) h = absurd h
 comes (Some Race) told (Ran course) h = absurd h
 comes (Some Race) told (Raced course report) h = inr (course_can Whole told course h.course_is, refl)
+comes (Some Race) told (Served how replies) h = absurd h
 comes (Some Race) told (Judged verdict) h = absurd h
 comes (Some Race) told (Soaked given course) h = absurd h
 comes (Some Dispatch) told Unformed h = absurd h
@@ -419,13 +468,23 @@ comes (Some Dispatch) told (Refused why) h = inl h
 comes (Some Dispatch) told (Checked diagnostics) h = absurd h
 comes (Some Dispatch) told (Ran course) h = absurd h
 comes (Some Dispatch) told (Raced course report) h = inr (course_can Sets told course h.course_is, refl)
+comes (Some Dispatch) told (Served how replies) h = absurd h
 comes (Some Dispatch) told (Judged verdict) h = absurd h
 comes (Some Dispatch) told (Soaked given course) h = absurd h
+comes (Some Wire) told Unformed h = absurd h
+comes (Some Wire) told (Refused why) h = inl h
+comes (Some Wire) told (Checked diagnostics) h = absurd h
+comes (Some Wire) told (Ran course) h = absurd h
+comes (Some Wire) told (Raced course report) h = absurd h
+comes (Some Wire) told (Served how replies) h = inr (served_can told how replies h, answered_status h.opening told.script how replies h.stream)
+comes (Some Wire) told (Judged verdict) h = absurd h
+comes (Some Wire) told (Soaked given course) h = absurd h
 comes (Some Check) told Unformed h = absurd h
 comes (Some Check) told (Refused why) h = inl h
 comes (Some Check) told (Checked diagnostics) h = inr ((h.1.short, (h.1.loaded, h.1.rc_files)), refl)
 comes (Some Check) told (Ran course) h = absurd h
 comes (Some Check) told (Raced course report) h = absurd h
+comes (Some Check) told (Served how replies) h = absurd h
 comes (Some Check) told (Judged verdict) h = absurd h
 comes (Some Check) told (Soaked given course) h = absurd h
 comes (Some Audit) told Unformed h = absurd h
@@ -433,6 +492,7 @@ comes (Some Audit) told (Refused why) h = inl h
 comes (Some Audit) told (Checked diagnostics) h = absurd h
 comes (Some Audit) told (Ran course) h = absurd h
 comes (Some Audit) told (Raced course report) h = absurd h
+comes (Some Audit) told (Served how replies) h = absurd h
 comes (Some Audit) told (Judged verdict) h = inr ((course_can Whole told h.course h.course_is, (h.said.report, h.said.report_is)), refl)
 comes (Some Audit) told (Soaked given course) h = absurd h
 comes (Some (Soak services)) told Unformed h = absurd h
@@ -440,6 +500,7 @@ comes (Some (Soak services)) told (Refused why) h = inl h
 comes (Some (Soak services)) told (Checked diagnostics) h = absurd h
 comes (Some (Soak services)) told (Ran course) h = absurd h
 comes (Some (Soak services)) told (Raced course report) h = absurd h
+comes (Some (Soak services)) told (Served how replies) h = absurd h
 comes (Some (Soak services)) told (Judged verdict) h = absurd h
 comes (Some (Soak services)) told (Soaked given course) h = inr (course_can Whole told course h.1, refl)
 
@@ -447,7 +508,7 @@ same_status : (asked : Option Form) (told : Told) (one other : Outcome) → Come
 same_status asked told one other (inl h) (inl k) = form_once asked told (status_of_outcome one) (status_of_outcome other) h k
 same_status asked told one other (inl h) (inr k) = absurd (form_not asked told (status_of_outcome one) k.0 h)
 same_status asked told one other (inr h) (inl k) = absurd (form_not asked told (status_of_outcome other) h.0 k)
-same_status asked told one other (inr h) (inr k) = h.1 ∙ sym k.1
+same_status asked told one other (inr h) (inr k) = form_ends asked told (status_of_outcome one) (status_of_outcome other) h.1 k.1
 
 -- all outcomes that what is told comes to have one status
 pub one_status : (asked : Option Form) (told : Told) (one other : Outcome) → ComesTo asked told one → ComesTo asked told other → status_of_outcome one ≡ status_of_outcome other
@@ -466,4 +527,5 @@ only_status asked told status.NoInit shown ends outcome comes = inr (ends.2 ∙ 
 only_status asked told (status.TooLarge limit number) shown ends outcome comes = inr (ends.2 ∙ one_status asked told ends.0 outcome ends.1 comes)
 only_status asked told (status.BadPolicy allow line) shown ends outcome comes = inr (ends.2 ∙ one_status asked told ends.0 outcome ends.1 comes)
 only_status asked told (status.BadStore line why) shown ends outcome comes = inr (ends.2 ∙ one_status asked told ends.0 outcome ends.1 comes)
+only_status asked told (status.BadWire at) shown ends outcome comes = inr (ends.2 ∙ one_status asked told ends.0 outcome ends.1 comes)
 only_status asked told status.BadTrace shown ends outcome comes = inr (ends.2 ∙ one_status asked told ends.0 outcome ends.1 comes)

@@ -35,6 +35,7 @@ performed_tree job old new keeper kept status.NoInit world performs is = absurd 
 performed_tree job old new keeper kept (status.TooLarge limit number) world performs is = absurd performs
 performed_tree job old new keeper kept (status.BadPolicy allow line) world performs is = absurd performs
 performed_tree job old new keeper kept (status.BadStore line why) world performs is = setup_fits world job is
+performed_tree job old new keeper kept (status.BadWire at) world performs is = absurd performs
 performed_tree job old new keeper kept status.BadTrace world performs is = absurd performs
 
 pub course_is : (g : Grammar) (job : Job) (bytes : List ℕ) (world : World) (held : List ℕ)
@@ -88,6 +89,7 @@ performed_as_before course old new keeper kept status.NoInit k k' k'' o o' one o
 performed_as_before course old new keeper kept (status.TooLarge limit number) k k' k'' o o' one other performs same counted = absurd performs
 performed_as_before course old new keeper kept (status.BadPolicy allow line) k k' k'' o o' one other performs same counted = absurd performs
 performed_as_before course old new keeper kept (status.BadStore line why) k k' k'' o o' one other performs same counted = absurd performs
+performed_as_before course old new keeper kept (status.BadWire at) k k' k'' o o' one other performs same counted = absurd performs
 performed_as_before course old new keeper kept status.BadTrace k k' k'' o o' one other performs same counted = absurd performs
 
 pub performed_status : (course : Course) (old new : Option (List ℕ)) (keeper kept : KeeperView) (how : Status)
@@ -102,4 +104,5 @@ performed_status course old new keeper kept status.NoInit performs = absurd perf
 performed_status course old new keeper kept (status.TooLarge limit number) performs = absurd performs
 performed_status course old new keeper kept (status.BadPolicy allow line) performs = absurd performs
 performed_status course old new keeper kept (status.BadStore line why) performs = absurd performs
+performed_status course old new keeper kept (status.BadWire at) performs = absurd performs
 performed_status course old new keeper kept status.BadTrace performs = absurd performs

@@ -42,6 +42,7 @@ raced_status Is P course old new keeper kept status.NoInit performs done write r
 raced_status Is P course old new keeper kept (status.TooLarge limit number) performs done write read memory = absurd performs
 raced_status Is P course old new keeper kept (status.BadPolicy allow line) performs done write read memory = absurd performs
 raced_status Is P course old new keeper kept (status.BadStore line why) performs done write read memory = absurd performs
+raced_status Is P course old new keeper kept (status.BadWire at) performs done write read memory = absurd performs
 raced_status Is P course old new keeper kept status.BadTrace performs done write read memory = absurd performs
 
 pub raced_tree : (Is : Course → Report → Type 0) (course : Course) (old new : Option (List ℕ)) (keeper kept : KeeperView) (how : Status) (world : World)
@@ -75,6 +76,7 @@ written_race Is course report old new keeper kept status.NoInit audited took wri
 written_race Is course report old new keeper kept (status.TooLarge limit number) audited took writes = absurd writes
 written_race Is course report old new keeper kept (status.BadPolicy allow line) audited took writes = absurd writes
 written_race Is course report old new keeper kept (status.BadStore line why) audited took writes = absurd writes
+written_race Is course report old new keeper kept (status.BadWire at) audited took writes = absurd writes
 written_race Is course report old new keeper kept status.BadTrace audited took writes = absurd writes
 
 -- the keeper failed
@@ -149,6 +151,7 @@ module _ (form : Form) (g : Grammar) (Is : Course → Report → Type 0) (comes 
   raced_ends course told old new a b c (status.TooLarge limit number) asked held is h = absurd h
   raced_ends course told old new a b c (status.BadPolicy allow line) asked held is h = absurd h
   raced_ends course told old new a b c (status.BadStore line why) asked held is h = absurd h
+  raced_ends course told old new a b c (status.BadWire at) asked held is h = absurd h
   raced_ends course told old new a b c status.BadTrace asked held is h = absurd h
 
 race_comes : (told : Told) (course : Course) (report : Report) → IsCourseOf Whole told.script told.world told.held course → IsAudited course report

@@ -34,6 +34,7 @@ run_given course status.NoInit seat gives = gives
 run_given course (status.TooLarge limit number) seat gives = gives
 run_given course (status.BadPolicy allow line) seat gives = gives
 run_given course (status.BadStore line why) seat gives = gives
+run_given course (status.BadWire at) seat gives = gives
 run_given course status.BadTrace seat gives = gives
 
 pub run_records : (course : Course) (told : Told) (old new : Option (List ℕ)) (a b c : KeeperView) (how : Status) (seat : Option Seated)
@@ -49,6 +50,7 @@ run_records course told old new a b c status.NoInit seat is h gives = tt
 run_records course told old new a b c (status.TooLarge limit number) seat is h gives = tt
 run_records course told old new a b c (status.BadPolicy allow line) seat is h gives = tt
 run_records course told old new a b c (status.BadStore line why) seat is h gives = tt
+run_records course told old new a b c (status.BadWire at) seat is h gives = tt
 run_records course told old new a b c status.BadTrace seat is h gives = tt
 
 -- ---- a race
@@ -69,6 +71,7 @@ written_gives course report own old new keeper kept status.NoInit seat audited t
 written_gives course report own old new keeper kept (status.TooLarge limit number) seat audited took has writes is = is
 written_gives course report own old new keeper kept (status.BadPolicy allow line) seat audited took has writes is = is
 written_gives course report own old new keeper kept (status.BadStore line why) seat audited took has writes is = is
+written_gives course report own old new keeper kept (status.BadWire at) seat audited took has writes is = is
 written_gives course report own old new keeper kept status.BadTrace seat audited took has writes is = is
 
 pub race_is_given : (course : Course) (shown : Shown) (how : Status) (seat : Option Seated) → RaceGives course shown how seat → IsGiven how seat
@@ -82,6 +85,7 @@ race_is_given course shown status.NoInit seat gives = gives
 race_is_given course shown (status.TooLarge limit number) seat gives = gives
 race_is_given course shown (status.BadPolicy allow line) seat gives = gives
 race_is_given course shown (status.BadStore line why) seat gives = gives
+race_is_given course shown (status.BadWire at) seat gives = gives
 race_is_given course shown status.BadTrace seat gives = gives
 
 -- behind a keeper that was asked for its text
@@ -104,4 +108,5 @@ race_records course told old new a b c status.NoInit seat asked is gives = tt
 race_records course told old new a b c (status.TooLarge limit number) seat asked is gives = tt
 race_records course told old new a b c (status.BadPolicy allow line) seat asked is gives = tt
 race_records course told old new a b c (status.BadStore line why) seat asked is gives = tt
+race_records course told old new a b c (status.BadWire at) seat asked is gives = tt
 race_records course told old new a b c status.BadTrace seat asked is gives = tt

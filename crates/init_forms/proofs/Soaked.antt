@@ -64,6 +64,7 @@ soak_ends services told old new a status.NoInit seat h = (Refused status.NoInit,
 soak_ends services told old new a (status.TooLarge limit number) seat h = (Refused (status.TooLarge limit number), h.0, refl, nothing_new old new a h.1)
 soak_ends services told old new a (status.BadPolicy allow line) seat h = (Refused (status.BadPolicy allow line), h.0, refl, nothing_new old new a h.1)
 soak_ends services told old new a (status.BadStore line why) seat h = (Refused (status.BadStore line why), h.0, refl, nothing_new old new a h.1)
+soak_ends services told old new a (status.BadWire at) seat h = (Refused (status.BadWire at), h.0, refl, nothing_new old new a h.1)
 soak_ends services told old new a status.BadTrace seat h = (Refused status.BadTrace, h.0, refl, nothing_new old new a h.1)
 
 pub soak_records : (services : ℕ) (told : Told) (old new : Option (List ℕ)) (a : KeeperView) (how : Status) (seat : Option Seated)
@@ -78,6 +79,7 @@ soak_records services told old new a status.NoInit seat h = tt
 soak_records services told old new a (status.TooLarge limit number) seat h = tt
 soak_records services told old new a (status.BadPolicy allow line) seat h = tt
 soak_records services told old new a (status.BadStore line why) seat h = tt
+soak_records services told old new a (status.BadWire at) seat h = tt
 soak_records services told old new a status.BadTrace seat h = tt
 
 -- a soak that isn't begun
@@ -118,6 +120,7 @@ soak_performed services course told old new status.NoInit seat is writes gives =
 soak_performed services course told old new (status.TooLarge limit number) seat is writes gives = absurd writes
 soak_performed services course told old new (status.BadPolicy allow line) seat is writes gives = absurd writes
 soak_performed services course told old new (status.BadStore line why) seat is writes gives = absurd writes
+soak_performed services course told old new (status.BadWire at) seat is writes gives = absurd writes
 soak_performed services course told old new status.BadTrace seat is writes gives = absurd writes
 
 -- ---- a generated boot that was read
@@ -233,6 +236,11 @@ in_words name.Dispatch (root ∷ []) n e = cc
 in_words name.Dispatch (root ∷ script ∷ []) n e = absurd (no_soak _ form.Dispatch n (λ d. cc) e)
 in_words name.Dispatch (root ∷ script ∷ trace ∷ []) n e = cc
 in_words name.Dispatch (root ∷ script ∷ trace ∷ more ∷ rest) n e = cc
+in_words name.Wire [] n e = cc
+in_words name.Wire (root ∷ []) n e = cc
+in_words name.Wire (root ∷ script ∷ []) n e = absurd (no_soak _ form.Wire n (λ d. cc) e)
+in_words name.Wire (root ∷ script ∷ trace ∷ []) n e = cc
+in_words name.Wire (root ∷ script ∷ trace ∷ more ∷ rest) n e = cc
 in_words name.Audit [] n e = cc
 in_words name.Audit (root ∷ []) n e = cc
 in_words name.Audit (root ∷ script ∷ []) n e = cc

@@ -28,6 +28,7 @@ check_says world config diagnostics old new status.NoInit load writes = absurd w
 check_says world config diagnostics old new (status.TooLarge limit number) load writes = absurd writes
 check_says world config diagnostics old new (status.BadPolicy allow line) load writes = absurd writes
 check_says world config diagnostics old new (status.BadStore line why) load writes = absurd writes
+check_says world config diagnostics old new (status.BadWire at) load writes = absurd writes
 check_says world config diagnostics old new status.BadTrace load writes = absurd writes
 
 check_text : (world : World) (config : Config) (diagnostics : List Diagnostic)
@@ -49,4 +50,5 @@ check_writes world config diagnostics old new status.NoInit load writes = absurd
 check_writes world config diagnostics old new (status.TooLarge limit number) load writes = absurd writes
 check_writes world config diagnostics old new (status.BadPolicy allow line) load writes = absurd writes
 check_writes world config diagnostics old new (status.BadStore line why) load writes = absurd writes
+check_writes world config diagnostics old new (status.BadWire at) load writes = absurd writes
 check_writes world config diagnostics old new status.BadTrace load writes = absurd writes

@@ -1,4 +1,5 @@
 pub mod Racing
+pub mod Serving
 pub mod Soaking
 pub mod Verdict
 pub mod Outcome

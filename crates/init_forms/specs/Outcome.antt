@@ -10,13 +10,14 @@ use Rattle.init_machine.specs.declared.config.Config.{Config}
 use Rattle.init_machine.specs.declared.diagnostic.Diagnostic.{Diagnostic}
 use Rattle.init_machine.specs.declared.limit.Limit.{Limit}
 use Rattle.init_machine.specs.declared.limit.Limit.TheVariants as limits
+use Rattle.init_machine.specs.State.{Opening}
 use Rattle.init_machine.specs.declared.report.Report.{Report}
 use Rattle.init_trace.specs.Report.{DiagnosticsText}
 use Rattle.init_trace.specs.Written.{TakesFront}
 use Rattle.command_line.specs.declared.form.Form.{Form}
 use Rattle.command_line.specs.declared.form.Form.TheVariants as form
 use Rattle.job_reader.specs.Policy.{HasPolicy, IsBadPolicyAt, IsPolicyTooLarge}
-use Rattle.job_reader.specs.Run.{Course, IsCourseOf, due_of_course, run_text}
+use Rattle.job_reader.specs.Run.{Course, IsCourseOf, IsOpened, due_of_course, run_text}
 use Rattle.job_reader.specs.Script.{HasScript, IsBadIn}
 use Rattle.job_reader.specs.Store.{HasStore}
 use Rattle.job_reader.specs.Texts.{Tree}
@@ -31,9 +32,11 @@ use Rattle.rc_import.specs.Limits.{loaded as rc_files_of}
 use Rattle.rc_import.specs.Order.{root_file}
 use Rattle.rc_import.specs.World.{World}
 use Rattle.rc_import.specs.declared.loaded.LoadRefusal.{LoadRefusal}
+use Rattle.init_wire.specs.Opening.{wire_script}
 use Rattle.script_lang.specs.Refusal.{IsTooLarge}
 use Rattle.trace_audit.specs.declared.verdict.Verdict.{Verdict}
 use Rattle.init_forms.specs.Racing.{CutsRace, IsAudited, IsRelayedReport, WritesRace}
+use Rattle.init_forms.specs.Serving.{IsAnsweredStream}
 use Rattle.init_forms.specs.Soaking.{generated_script, generated_tree, soak_text}
 use Rattle.init_forms.specs.Verdict.{IsVerdictOn, verdict_text}
 
@@ -65,12 +68,13 @@ pub record TellRun (sources : Sources) (told : Told) : Type 0 where
 abbrev pub generated_sources : ℕ → Sources
 generated_sources services = sources_of (Some (generated_script services)) (Some (generated_tree services)) (Some []) None
 
--- They tell what a form reads: a race and a dispatch what a run does, a check the tree alone, an audit what a run does and the trace, and words
--- of no form nothing. What a soak reads is generated.
+-- They tell what a form reads: a race and a dispatch what a run does, the serving of messages the stream in the script's place, a check the
+-- tree alone, an audit what a run does and the trace, and words of no form nothing. What a soak reads is generated.
 abbrev pub Tell : Option Form → Sources → Told → Type 0
 Tell None sources told = ⊤
 Tell (Some form.Run) sources told = TellRun sources told
 Tell (Some form.Race) sources told = TellRun sources told
+Tell (Some form.Wire) sources told = TellRun sources told
 Tell (Some form.Dispatch) sources told = TellRun sources told
 Tell (Some form.Check) sources told = IsWorldOf sources.tree told.world
 Tell (Some form.Audit) sources told = TellRun sources told × (sources.trace ≡ Some told.trace)
@@ -106,13 +110,16 @@ StoreRefuses held (status.BadStore line why) = (length held ≤ 33554432) × IsU
 StoreRefuses held (status.TooLarge limit number) = (limit ≡ limits.StoreBytes) × (33554432 < length held) × (number ≡ 33554433)
 StoreRefuses held _ = ⊥
 
--- a run reads the script, by a grammar, the policy, the files and the store, and the first refusal ends it
-abbrev pub RunRefused : Grammar → Told → Status → Type 0
-RunRefused g told why =
-    ScriptRefuses g told.script why
-    ⊎ (HasScript g told.script × (PolicyRefuses told.world.tree why
+-- the policy, the files and the store are read, and the first refusal ends it
+abbrev pub MachineRefused : Told → Status → Type 0
+MachineRefused told why =
+    PolicyRefuses told.world.tree why
     ⊎ (HasPolicy told.world.tree × (FilesRefuse told.world why
-    ⊎ (IsLoadable told.world × StoreRefuses told.held why)))))
+    ⊎ (IsLoadable told.world × StoreRefuses told.held why)))
+
+-- a run reads the script before them, by a grammar
+abbrev pub RunRefused : Grammar → Told → Status → Type 0
+RunRefused g told why = ScriptRefuses g told.script why ⊎ (HasScript g told.script × MachineRefused told why)
 
 abbrev pub TraceRefuses : List ℕ → Status → Type 0
 TraceRefuses trace status.BadTrace = IsNoTrace trace
@@ -146,16 +153,25 @@ pub record IsDispatched (told : Told) (course : Course) (report : Report) : Type
   pub course_is : IsCourseOf Sets told.script told.world told.held course
   pub relayed : IsRelayedReport course report
 
+-- The machine that is told, whose one client sends the stream in the script's place: how serving it ends, and all replies to it.
+pub record IsServed (told : Told) (how : Status) (replies : List ℕ) : Type 0 where
+  pub opening : Opening
+  pub diagnostics : List Diagnostic
+  pub opened : IsOpened wire_script told.world told.held diagnostics opening
+  pub stream : IsAnsweredStream opening told.script how replies
+
 -- ---- the outcome
 
 -- The words have no form; or nothing is begun, with this status; or these diagnostics are told; or this course is run; or it is
--- raced or dispatched, with this report; or this is the verdict on the trace; or this course of a generated boot of so many services is run.
+-- raced or dispatched, with this report; or messages are served, with this status and these replies; or this is the verdict on the trace; or
+-- this course of a generated boot of so many services is run.
 pub data Outcome : Type 0 where
   Unformed : Outcome
   Refused : Status → Outcome
   Checked : List Diagnostic → Outcome
   Ran : Course → Outcome
   Raced : Course → Report → Outcome
+  Served : Status → List ℕ → Outcome
   Judged : Verdict → Outcome
   Soaked : ℕ → Course → Outcome
 
@@ -169,6 +185,8 @@ ComesTo (Some form.Race) told (Refused why) = RunRefused Whole told why
 ComesTo (Some form.Race) told (Raced course report) = IsRaced told course report
 ComesTo (Some form.Dispatch) told (Refused why) = RunRefused Sets told why
 ComesTo (Some form.Dispatch) told (Raced course report) = IsDispatched told course report
+ComesTo (Some form.Wire) told (Refused why) = MachineRefused told why
+ComesTo (Some form.Wire) told (Served how replies) = IsServed told how replies
 ComesTo (Some form.Check) told (Refused why) = FilesRefuse told.world why
 ComesTo (Some form.Check) told (Checked diagnostics) = (config : Config) × IsLoadOf told.world config diagnostics
 ComesTo (Some form.Audit) told (Refused why) = AuditRefused told why
@@ -183,6 +201,7 @@ status_of_outcome (Refused why) = why
 status_of_outcome (Checked diagnostics) = status.Done
 status_of_outcome (Ran course) = status.Done
 status_of_outcome (Raced course report) = status.Done
+status_of_outcome (Served how replies) = how
 status_of_outcome (Judged verdict) = status.Done
 status_of_outcome (Soaked services course) = status.Done
 
@@ -211,15 +230,17 @@ Shows (Refused why) shown = Untouched shown
 Shows (Checked diagnostics) shown = (shown.new ≡ append_known shown.old (DiagnosticsText diagnostics)) × Took shown.keeper shown.kept []
 Shows (Ran course) shown = (shown.new ≡ append_known shown.old (run_text course)) × Took shown.keeper shown.kept (given_in course.opening course.script)
 Shows (Raced course report) shown = WritesRace course report shown.old shown.new shown.keeper shown.kept
+Shows (Served how replies) shown = (shown.new ≡ append_known shown.old replies) × Took shown.keeper shown.kept []
 Shows (Judged verdict) shown = (shown.new ≡ append_known shown.old (verdict_text verdict)) × Took shown.keeper shown.kept []
 Shows (Soaked services course) shown = (shown.new ≡ append_known shown.old (soak_text services course)) × Took shown.keeper shown.kept []
 
--- its text is cut short: by a fault of the sink or of the keeper, or for want of memory
+-- its text is cut short: by a fault of the sink, of the keeper or of the stream of messages, or because memory ran out
 abbrev pub CutShort : DriveRefusal → Outcome → Shown → Type 0
 CutShort why (Ran course) shown = LeavesPart why shown.old shown.new shown.keeper shown.kept (due_of_course course)
 CutShort why (Raced course report) shown = CutsRace why course report shown.old shown.new shown.keeper shown.kept
 CutShort refusal.Keeper (Checked diagnostics) shown = ⊥
 CutShort why (Checked diagnostics) shown = TakesFront shown.old shown.new (DiagnosticsText diagnostics) × Took shown.keeper shown.kept []
+CutShort why (Served how replies) shown = TakesFront shown.old shown.new replies × Took shown.keeper shown.kept []
 CutShort refusal.Keeper (Judged verdict) shown = ⊥
 CutShort why (Judged verdict) shown = TakesFront shown.old shown.new (verdict_text verdict) × Took shown.keeper shown.kept []
 CutShort refusal.Keeper (Soaked services course) shown = ⊥

@@ -5,7 +5,7 @@ use Rattle.command_line.specs.declared.form.Form.{Form}
 use Rattle.command_line.specs.declared.form.Form.TheVariants as form
 use Rattle.job_reader.specs.Check.{IsCheckStatus}
 use Rattle.job_reader.specs.Counts.{AreCounted, Counts, IsDoneUnlessRisen}
-use Rattle.job_reader.specs.Endings.{IsRunStatus}
+use Rattle.job_reader.specs.Endings.{IsRunStatus, IsWireStatus}
 use Rattle.job_reader.specs.Script.{ScriptSays}
 use Rattle.job_reader.specs.Texts.{Tree}
 use Rattle.job_reader.specs.Trace.{TraceSays}
@@ -16,7 +16,7 @@ use Rattle.property_area.specs.Seats.{Seated}
 use Rattle.rc_import.specs.World.{World}
 use Rattle.init_forms.specs.Outcome.{ComesTo, Ends, IsCut, Outcome, Shown, Sources, Tell, Told, shown_as, sources_of, status_of_outcome}
 use Rattle.init_forms.specs.Seats.{GivesSeat, Records}
-use Rattle.init_forms.specs.Top.{CanBeDone, CanSoak, IsAsBefore, ReadsScript, grammar_of}
+use Rattle.init_forms.specs.Top.{CanBeDone, CanSoak, IsAsBefore, IsUnwritten, ReadsScript, grammar_of}
 
 -- what the objects of a call show: the tree, what is left of the script and of the trace, the keeper, what the sink took, and the
 -- counts of faults of all of them
@@ -57,15 +57,18 @@ pub record Promise (asked : Option Form) (before after : Objects) (how : Status)
   pub records : (told : Told) → Tell asked (told_by before) told → Records asked told how (shown_by before after) seat
   -- a fault comes only where a count of its objects rose, and all other counts are as before
   pub faults : AreCounted how before.counts after.counts
-  -- a refusal before the run writes nothing and leaves what the keeper holds, also where nothing is told
-  pub unwritten : IsAsBefore before.taken after.taken how before.counts.keeper after.counts.keeper
+  -- a refusal before the run writes nothing and leaves what the keeper holds, also where nothing is told; one of a stream of messages may
+  -- come after replies
+  pub unwritten : IsUnwritten asked before.taken after.taken how before.counts after.counts
   pub unkept : IsAsBefore before.keeper.held after.keeper.held how before.counts.keeper after.counts.keeper
-  -- an audit leaves what the keeper holds, at every ending
+  -- an audit and the serving of messages leave what the keeper holds, at every ending
   pub audited : asked ≡ Some form.Audit → after.keeper.held ≡ before.keeper.held
+  pub served : asked ≡ Some form.Wire → after.keeper.held ≡ before.keeper.held
   -- a check has no refusal of a script or a keeper, and neither a run nor a race nor a soak one of a trace, also where nothing is told
   pub of_check : asked ≡ Some form.Check → IsCheckStatus how
   pub of_run : asked ≡ Some form.Run → IsRunStatus how
   pub of_race : asked ≡ Some form.Race → IsRunStatus how
+  pub of_wire : asked ≡ Some form.Wire → IsWireStatus how
   pub of_dispatch : asked ≡ Some form.Dispatch → IsRunStatus how
   pub of_soak : (services : ℕ) → asked ≡ Some (form.Soak services) → IsRunStatus how
   -- what is told and can be done is done, or memory runs out, unless a count rose

@@ -147,7 +147,13 @@ fn soak_boot<K: Sink>(
         (counts_of files script trace keeper (K.fault_count out.old))
         (counts_of files script trace keeper (K.fault_count out.new)) }
 {
-    match prepare(alloc, Grammar::Whole, &mut boot.files, &mut boot.script, &mut boot.keeper) {
+    match prepare(
+        alloc,
+        Grammar::Whole,
+        &mut boot.files,
+        &mut boot.script,
+        &mut boot.keeper,
+    ) {
         Ok(job) => perform_soak(alloc, services, job, out),
         Err(stop) => (stop.status(), None),
     }

@@ -23,6 +23,7 @@ ghost use Rattle.rc_import.specs.World.{World};
 use crate::auditing::audit_trace;
 use crate::dispatching::dispatch_script;
 use crate::racing::race_script;
+use crate::serving::serve_messages;
 use crate::soaking::soak;
 use command_line::{Form, WordsRefusal, read_words};
 use init_base::{Files, IoRefusal, Keeper, List, Sink, Source, Text};
@@ -130,27 +131,31 @@ fn check<F: Files, K: Sink>(alloc: Global, files: &mut F, out: &mut K) -> Status
 /// the first refusal ends it. Then it runs the documented machine, and writes the text of the report entry by entry: the
 /// diagnostics of the tree, the one legal history of the script's inputs, and what the clients read. `race ROOT SCRIPT` reads
 /// the same, and runs the machine with the main actor and each client on a thread of its own. Then it writes the text of a
-/// report that the audit answers Yes to: some order of all requests, which keeps each actor's own, is its history. `dispatch ROOT SCRIPT` reads the same, of a script whose clients
-/// only set. The machine takes the boot and the main actor's inputs, and then one worker serves all clients' sets, which sessions on threads
-/// push into a queue; its report is so too, with the main actor's entries first. `check ROOT`
-/// reads the build files and the rc files alone, and writes their diagnostics. `audit ROOT SCRIPT TRACE` reads what a run
+/// report that the audit answers Yes to: some order of all requests, which keeps each actor's own, is its history.
+/// `dispatch ROOT SCRIPT` reads the same, of a script whose clients only set. The machine takes the boot and the main actor's
+/// inputs, and then one worker serves all clients' sets, which sessions on threads push into a queue; its report is so too, with
+/// the main actor's entries first. `wire ROOT MESSAGES` reads the tree and the store, boots the machine with one client of the
+/// domain `shell`, and then reads the client's messages from `script`; each is a set, whose reply is written before more is read.
+/// `check ROOT` reads the build files and the rc files alone, and writes their diagnostics. `audit ROOT SCRIPT TRACE` reads what a run
 /// reads, and then the trace, and writes whether the machine can have written it, or what is wrong in it first. `soak N` reads
 /// nothing: it generates a tree and a script of so many services, runs them as `run` does with a store that isn't kept, and writes
 /// the summary of the report in its place.
 ///
 /// How the call ends is said of what is told: the status, what the sink took, and what the keeper holds, or may leave after a
-/// crash, are those of an outcome that words, script, tree, store and trace come to, the only one but with `race` and `dispatch`; unless a
-/// count of faults rose, or memory ran out: then nothing is written, or a prefix of the outcome's text, and the keeper stands
-/// as at the last entry that is written whole, or at the next one. In a race, as in a dispatch, the keeper is given its text before anything is
-/// written, so nothing is where it fails. A refusal is that of a reader which refuses what is told, where those before it don't.
-/// (`Promise` of `specs/Promise.antt` has these sentences, and what holds where nothing is told.)
+/// crash, are those of an outcome that words, script, tree, store and trace come to, the only one but with `race` and `dispatch`;
+/// unless a count of faults rose, or memory ran out: then nothing is written, or a prefix of the outcome's text, and the keeper stands
+/// as at the last entry that is written whole, or at the next one. In a race, as in a dispatch, the keeper is given its text before
+/// anything is written, so nothing is where it fails. A refusal is that of a reader which refuses what is told, where those before it
+/// don't. With `wire` all replies to the messages before the first bad byte are written. (`Promise` of `specs/Promise.antt` has these
+/// sentences, and what holds where nothing is told.)
 ///
 /// A run, a race or a soak that is done gives the seat of the area's writer, which has recorded the report that was written, or whose
-/// summary was. A check leaves the script and the keeper alone, and a soak all but the sink; no form but `audit` touches the trace.
+/// summary was. A check leaves the script and the keeper alone, `wire` what the keeper holds, and a soak all but the sink; no form
+/// but `audit` touches the trace.
 ///
 /// With `race` and `dispatch` alone the call may wait, and the clauses hold if it returns. `rt` makes its threads, and each actor of a
-/// race passes `gate` before and after each of its inputs and requests. The parameters are all that the program has of the system, each by itself, so
-/// that the clauses say of each what it gave or took.
+/// race passes `gate` before and after each of its inputs and requests. The parameters are all that the program has of the system,
+/// each by itself, so that the clauses say of each what it gave or took.
 pub fn initsim<
     R: Threads + Wait + Sync,
     F: Files,
@@ -188,6 +193,7 @@ pub fn initsim<
         Ok(Form::Run) => run_script(alloc, files, script, keeper, out),
         Ok(Form::Race) => race_script(rt, alloc, files, script, keeper, out, gate),
         Ok(Form::Dispatch) => (dispatch_script(rt, alloc, files, script, keeper, out), None),
+        Ok(Form::Wire) => (serve_messages(alloc, files, script, keeper, out), None),
         Ok(Form::Check) => (check(alloc, files, out), None),
         Ok(Form::Audit) => (audit_trace(alloc, files, script, trace, keeper, out), None),
         Ok(Form::Soak { services }) => soak(alloc, services, out),

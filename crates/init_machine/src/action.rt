@@ -6,14 +6,14 @@ use crate::word::Word;
 use init_base::{List, NoMemory, SharedList, Text};
 
 /// A property trigger `property:NAME=VALUE`. No value stands for `*`.
-#[derive(Drop)]
+#[derive(Debug, Drop)]
 pub struct PropTest {
     pub name: Text,
     pub value: Option<Text>,
 }
 
 /// A command of an action or of a service's `onrestart`, as written at its line, from 1.
-#[derive(Drop)]
+#[derive(Debug, Drop)]
 pub struct Command {
     pub file: Text,
     pub line: u32,
@@ -36,7 +36,7 @@ impl Command {
 }
 
 /// An `on` section, at the line of its header.
-#[derive(Drop)]
+#[derive(Debug, Drop)]
 pub struct Action {
     pub file: Text,
     pub line: u32,

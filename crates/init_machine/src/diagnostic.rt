@@ -3,7 +3,7 @@
 use init_base::Text;
 
 /// A mistake in a file, at a line from 1. Its line or section has no effect.
-#[derive(Drop)]
+#[derive(Debug, Drop)]
 pub struct Diagnostic {
     pub file: Text,
     pub line: u32,

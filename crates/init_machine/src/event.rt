@@ -4,7 +4,7 @@ use crate::config::Pair;
 use init_base::Text;
 
 /// An event in the queue.
-#[derive(Drop)]
+#[derive(Debug, Drop)]
 pub enum Event {
     /// An event trigger, as `boot`.
     Named(Text),

@@ -3,7 +3,7 @@
 use init_base::{ClientId, Text};
 
 /// One input of the machine.
-#[derive(Drop)]
+#[derive(Debug, Drop)]
 pub enum Input {
     /// The machine starts.
     Boot,

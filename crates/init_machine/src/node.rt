@@ -3,7 +3,7 @@
 use init_base::Text;
 
 /// What stands at a path of the file tree, with its mode.
-#[derive(Drop)]
+#[derive(Debug, Drop)]
 pub enum Node {
     Directory { mode: u16 },
     File { mode: u16, content: Text },

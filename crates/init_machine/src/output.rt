@@ -4,7 +4,7 @@ use crate::word::Word;
 use init_base::{Millis, NoMemory, Pid, SharedList, Text};
 
 /// One thing that the machine did.
-#[derive(Drop)]
+#[derive(Debug, Drop)]
 pub enum Output {
     Event {
         name: Text,
@@ -99,7 +99,7 @@ pub enum Output {
 }
 
 /// Why a command failed.
-#[derive(Drop)]
+#[derive(Debug, Drop)]
 pub enum Cause {
     /// The property isn't there, or empty.
     Absent { name: Text },
@@ -117,7 +117,7 @@ pub enum Cause {
 
 /// Why a property isn't set (AOSP, system properties, and this project's profile). `Spent` and `NoMemory` never
 /// stand in a trace.
-#[derive(Drop)]
+#[derive(Debug, Drop)]
 pub enum SetRefusal {
     Spent,
     /// The machine is over, and reboots to this target.

@@ -6,14 +6,14 @@ use crate::type_kind::TypeKind;
 use init_base::Text;
 
 /// What a policy says of a property: the label by which domains are allowed to set it, and what values it may have.
-#[derive(Drop)]
+#[derive(Debug, Drop)]
 pub struct Context {
     pub label: Text,
     pub kind: TypeKind,
 }
 
 /// A domain, and a label whose properties it may set.
-#[derive(Drop)]
+#[derive(Debug, Drop)]
 pub struct AllowLine {
     pub domain: Text,
     pub label: Text,

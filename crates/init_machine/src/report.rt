@@ -6,14 +6,14 @@ use crate::output::Output;
 use init_base::{List, Text};
 
 /// An input, and what the machine did at it.
-#[derive(Drop)]
+#[derive(Debug, Drop)]
 pub struct Entry {
     pub input: Input,
     pub outputs: List<Output>,
 }
 
 /// What a client learned by one request. `number` is what its seat had seen.
-#[derive(Drop)]
+#[derive(Debug, Drop)]
 pub enum Reading {
     Found {
         name: Text,
@@ -40,7 +40,7 @@ pub enum Reading {
 }
 
 /// One client's readings, in its order.
-#[derive(Drop)]
+#[derive(Debug, Drop)]
 pub struct ClientPart {
     pub name: Text,
     pub domain: Text,
@@ -48,7 +48,7 @@ pub struct ClientPart {
 }
 
 /// All that a run shows.
-#[derive(Drop)]
+#[derive(Debug, Drop)]
 pub struct Report {
     pub diagnostics: List<Diagnostic>,
     pub history: List<Entry>,

@@ -4,14 +4,14 @@ use crate::action::Command;
 use init_base::{List, Millis, Pid, Text};
 
 /// The option `critical`: the window in which exits are counted, and where the machine reboots to.
-#[derive(Drop)]
+#[derive(Debug, Drop)]
 pub struct Critical {
     pub window: Millis,
     pub target: Text,
 }
 
 /// A `service` section, at the line of its header.
-#[derive(Drop)]
+#[derive(Debug, Drop)]
 pub struct ServiceDef {
     pub name: Text,
     pub path: Text,

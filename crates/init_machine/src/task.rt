@@ -6,7 +6,7 @@ use crate::waiting::Waiting;
 use init_base::{Millis, Text};
 
 /// What a command asks for. `task_of` of `specs/Tasks.antt` says which task a word with its arguments is.
-#[derive(Drop)]
+#[derive(Debug, Drop)]
 pub enum Task {
     /// The same is done to each service of a class.
     OnClass { op: Op, class: Text },
@@ -31,7 +31,7 @@ pub enum Task {
 }
 
 /// A change of the file tree that a command asks for.
-#[derive(Drop)]
+#[derive(Debug, Drop)]
 pub enum TreeCall {
     Write { path: Text, content: Text },
     Copy { from: Text, to: Text },
@@ -43,7 +43,7 @@ pub enum TreeCall {
 }
 
 /// How a command ended, or what it waits for.
-#[derive(Drop)]
+#[derive(Debug, Drop)]
 pub enum Done {
     Ok,
     Failed(Cause),

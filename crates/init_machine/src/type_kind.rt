@@ -3,7 +3,7 @@
 use init_base::{List, Text};
 
 /// What values of a property are accepted.
-#[derive(Drop)]
+#[derive(Debug, Drop)]
 pub enum TypeKind {
     Any,
     Bool,

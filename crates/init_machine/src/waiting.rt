@@ -4,7 +4,7 @@ use crate::config::Pair;
 use init_base::{Millis, Pid, Text};
 
 /// What the running command waits for.
-#[derive(Drop)]
+#[derive(Debug, Drop)]
 pub enum Waiting {
     Child(Pid),
     Prop(Pair),

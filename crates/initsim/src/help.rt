@@ -27,6 +27,11 @@ Runs Android's init over a modelled kernel, and writes command by command what i
     writes          how much there was to do, to standard output
     for example     initsim soak 3
 
+  wire ROOT MESSAGES   boots the tree, and answers messages as init does at its property socket
+    reads           what run reads, with MESSAGES in place of SCRIPT; it may be a pipe
+    writes          the reply to each message to standard output, before more is read
+    for example     printf 'set a 1\\n' | tools/messages | initsim wire examples/first_boot/tree /dev/stdin
+
   dispatch ROOT SCRIPT   the same as run, with init's part first, and then one worker that serves all clients' sets
     reads           what run reads; the clients of SCRIPT may only set
     writes          what race writes, without readings

@@ -1,5 +1,5 @@
-//! `initsim`: Android's first process over a modelled kernel. It checks a tree of rc files, runs or races a script over it, audits
-//! traces, and tells how much made-up services give to do.
+//! `initsim`: Android's first process over a modelled kernel. It checks a tree of rc files, runs, races or dispatches a script over it,
+//! answers the messages of a client, audits traces, and tells how much made-up services give to do.
 //!
 //! `init_forms` has the call that does all that the program does, with its promise. `main` makes the real files, script, trace,
 //! store and output, makes that call, and says on standard error how it ended.
@@ -12,11 +12,11 @@ mod standard;
 mod telling;
 
 use arguments::words_of;
-use explanations::{Named, cause_line, image_line};
+use explanations::{Named, cause_line, image_line, message_line};
 use help::{is_help, tell_help};
 use init_base::{Fault, Keeper, List, NoMemory, Source, StdFiles, StdSink, StdSource, Text};
 use init_forms::{OpenGate, Status, initsim};
-use noting::Noting;
+use noting::{Noting, NotingSource};
 use standard::hold_closed;
 use std::fs;
 use std::process::ExitCode;
@@ -29,7 +29,7 @@ use tree_store::{TreeStore, last_fault, store_below};
 #[derive(Drop)]
 struct Outside<'a> {
     files: StdFiles<'a, HostRuntime>,
-    script: StdSource<'a, HostRuntime>,
+    script: NotingSource<StdSource<'a, HostRuntime>>,
     trace: StdSource<'a, HostRuntime>,
     keeper: TreeStore<'a, HostRuntime>,
 }
@@ -43,7 +43,7 @@ fn outside_of<'a>(rt: &'a HostRuntime, words: &List<Text>) -> Result<Outside<'a>
     match (files, script, trace, keeper) {
         (Ok(files), Ok(script), Ok(trace), Ok(keeper)) => Ok(Outside {
             files,
-            script,
+            script: NotingSource::new(rt.alloc(), script),
             trace,
             keeper,
         }),
@@ -129,6 +129,9 @@ fn tell_end(
     if is_image_bad || has_cause(status, out.first()) {
         tell_cause(rt, status, words, out.first(), is_image_bad);
     }
+    if let Status::BadWire { at } = status {
+        tell_line(rt, bad_message(rt, words, outside, at));
+    }
     if status == Status::Usage {
         let _ = tell_usage(rt, words);
     }
@@ -142,7 +145,8 @@ fn has_cause(status: Status, wrote: &[u8]) -> bool {
         | Status::ReadFault
         | Status::WriteFault
         | Status::NoMemory
-        | Status::NoInit => false,
+        | Status::NoInit
+        | Status::BadWire { .. } => false,
         _ => true,
     }
 }
@@ -177,6 +181,16 @@ fn tell_cause(
         tell_line(rt, image_line(rt.alloc(), &mut named));
     }
     tell_line(rt, cause_line(rt.alloc(), &mut named, status, wrote));
+}
+
+/// What is wrong with the message at a place, by the bytes that were read from there on: they may have come from a pipe.
+fn bad_message(
+    rt: &HostRuntime,
+    words: &List<Text>,
+    outside: &Outside<'_>,
+    at: u64,
+) -> Option<String> {
+    message_line(rt.alloc(), words.at(2)?, outside.script.bytes_from(at)?)
 }
 
 /// Whether a word is the path of a plain file.
@@ -227,7 +241,7 @@ fn fault_behind<'a>(
     let has_trace_failed = outside.trace.faults() > 0;
     let has_keeper_failed = outside.keeper.faults() > 0;
     match status {
-        Status::ReadFault if has_script_failed => outside.script.last_fault(),
+        Status::ReadFault if has_script_failed => outside.script.source.last_fault(),
         Status::ReadFault if has_trace_failed => outside.trace.last_fault(),
         Status::ReadFault if has_keeper_failed => last_fault(&outside.keeper),
         Status::ReadFault | Status::NoInit => outside.files.last_fault(),

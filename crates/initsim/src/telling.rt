@@ -21,7 +21,7 @@ fn tell_status(rt: &HostRuntime, status: Status) -> std::io::Result<()> {
     match status {
         Status::Done => Ok(()),
         Status::Usage => eprintln!(rt;
-            "initsim: usage: run ROOT SCRIPT | race ROOT SCRIPT | check ROOT | soak N | dispatch ROOT SCRIPT | audit ROOT SCRIPT TRACE"
+            "initsim: usage: run ROOT SCRIPT | race ROOT SCRIPT | check ROOT | soak N | wire ROOT MESSAGES | dispatch ROOT SCRIPT | audit ROOT SCRIPT TRACE"
         ),
         Status::ReadFault => eprintln!(rt; "initsim: read fault"),
         Status::WriteFault => eprintln!(rt; "initsim: write fault"),
@@ -36,6 +36,7 @@ fn tell_status(rt: &HostRuntime, status: Status) -> std::io::Result<()> {
         Status::BadStore { line, cause } => {
             eprintln!(rt; "initsim: bad store line {line} {}", cause_name(cause))
         }
+        Status::BadWire { at } => eprintln!(rt; "initsim: bad message at {at}"),
         Status::BadTrace => eprintln!(rt; "initsim: bad trace"),
     }
 }
@@ -99,6 +100,7 @@ fn tell_count(rt: &HostRuntime, form: FormName, given: usize) -> std::io::Result
         FormName::Race => "race takes 2 words",
         FormName::Check => "check takes 1 word",
         FormName::Soak => "soak takes 1 word",
+        FormName::Wire => "wire takes 2 words",
         FormName::Dispatch => "dispatch takes 2 words",
         FormName::Audit => "audit takes 3 words",
     };
@@ -114,6 +116,7 @@ fn name_of(place: Place) -> &'static str {
     match place {
         Place::Root => "ROOT",
         Place::Script => "SCRIPT",
+        Place::Messages => "MESSAGES",
         Place::Trace => "TRACE",
         Place::Number => "N",
     }

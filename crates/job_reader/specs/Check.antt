@@ -31,6 +31,7 @@ CheckWrites world old new (status.BadPolicy allow line) = new ≡ old
 CheckWrites world old new status.NoInit = new ≡ old
 CheckWrites world old new (status.TooLarge limit number) = new ≡ old
 CheckWrites world old new (status.BadStore line why) = new ≡ old
+CheckWrites world old new (status.BadWire at) = new ≡ old
 CheckWrites world old new status.BadTrace = new ≡ old
 
 -- a limit of the files of a tree
@@ -57,4 +58,5 @@ IsCheckStatus status.NoInit = ⊤
 IsCheckStatus (status.TooLarge limit number) = IsTreeLimit limit
 IsCheckStatus (status.BadPolicy allow line) = ⊥
 IsCheckStatus (status.BadStore line why) = ⊥
+IsCheckStatus (status.BadWire at) = ⊥
 IsCheckStatus status.BadTrace = ⊥

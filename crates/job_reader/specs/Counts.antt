@@ -32,6 +32,7 @@ AreCounted status.NoInit before now = now ≡ before
 AreCounted (status.TooLarge limit number) before now = now ≡ before
 AreCounted (status.BadPolicy allow line) before now = now ≡ before
 AreCounted (status.BadStore line why) before now = now ≡ before
+AreCounted (status.BadWire at) before now = now ≡ before
 AreCounted status.BadTrace before now = now ≡ before
 
 -- Done or want of memory, unless a count rose
@@ -46,4 +47,5 @@ IsDoneUnlessRisen status.NoInit before now = ⊥
 IsDoneUnlessRisen (status.TooLarge limit number) before now = ⊥
 IsDoneUnlessRisen (status.BadPolicy allow line) before now = ⊥
 IsDoneUnlessRisen (status.BadStore line why) before now = ⊥
+IsDoneUnlessRisen (status.BadWire at) before now = ⊥
 IsDoneUnlessRisen status.BadTrace before now = ⊥

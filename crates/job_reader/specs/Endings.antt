@@ -1,4 +1,4 @@
--- Which statuses a run and an audit may have. (A check's stand in `Check.antt`.)
+-- Which statuses a run, an audit and the serving of messages may have. (A check's stand in `Check.antt`.)
 use Rattle.std.specs.Prelude.{⊤}
 use Rattle.init_machine.specs.declared.limit.Limit.{Limit}
 use Rattle.init_machine.specs.declared.limit.Limit.TheVariants as limits
@@ -28,6 +28,7 @@ IsRunStatus status.NoInit = ⊤
 IsRunStatus (status.TooLarge limit number) = IsRunLimit limit
 IsRunStatus (status.BadPolicy allow line) = ⊤
 IsRunStatus (status.BadStore line why) = ⊤
+IsRunStatus (status.BadWire at) = ⊥
 IsRunStatus status.BadTrace = ⊥
 
 abbrev pub IsAuditStatus : Status → Type 0
@@ -41,4 +42,31 @@ IsAuditStatus status.NoInit = ⊤
 IsAuditStatus (status.TooLarge limit number) = ⊤
 IsAuditStatus (status.BadPolicy allow line) = ⊤
 IsAuditStatus (status.BadStore line why) = ⊤
+IsAuditStatus (status.BadWire at) = ⊥
 IsAuditStatus status.BadTrace = ⊤
+
+-- the serving of messages reads no script and no trace; of their stream it may say that it has too many bytes
+abbrev pub IsWireLimit : Limit → Type 0
+IsWireLimit limits.TraceBytes = ⊥
+IsWireLimit limits.StoreBytes = ⊤
+IsWireLimit limits.ScriptBytes = ⊤
+IsWireLimit limits.ScriptLines = ⊥
+IsWireLimit limits.Steps = ⊥
+IsWireLimit limits.FileBytes = ⊤
+IsWireLimit limits.Files = ⊤
+IsWireLimit limits.Names = ⊤
+IsWireLimit limits.RcBytes = ⊤
+
+abbrev pub IsWireStatus : Status → Type 0
+IsWireStatus status.Done = ⊤
+IsWireStatus status.Usage = ⊥
+IsWireStatus status.ReadFault = ⊤
+IsWireStatus status.WriteFault = ⊤
+IsWireStatus status.NoMemory = ⊤
+IsWireStatus (status.BadScript line) = ⊥
+IsWireStatus status.NoInit = ⊤
+IsWireStatus (status.TooLarge limit number) = IsWireLimit limit
+IsWireStatus (status.BadPolicy allow line) = ⊤
+IsWireStatus (status.BadStore line why) = ⊤
+IsWireStatus (status.BadWire at) = ⊤
+IsWireStatus status.BadTrace = ⊥

@@ -110,4 +110,5 @@ WritesText text old new status.NoInit = ⊥
 WritesText text old new (status.TooLarge limit number) = ⊥
 WritesText text old new (status.BadPolicy allow line) = ⊥
 WritesText text old new (status.BadStore line why) = ⊥
+WritesText text old new (status.BadWire at) = ⊥
 WritesText text old new status.BadTrace = ⊥

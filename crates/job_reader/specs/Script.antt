@@ -57,6 +57,7 @@ ScriptSays g bytes left (status.TooLarge limit number) = ScriptLimitSays g bytes
 ScriptSays g bytes left (status.BadPolicy allow line) = IsReadWhole g bytes left
 ScriptSays g bytes left status.NoInit = IsReadWhole g bytes left
 ScriptSays g bytes left (status.BadStore line why) = IsReadWhole g bytes left
+ScriptSays g bytes left (status.BadWire at) = ⊤
 ScriptSays g bytes left status.BadTrace = IsReadWhole g bytes left
 ScriptSays g bytes left status.WriteFault = IsReadWhole g bytes left
 ScriptSays g bytes left status.Done = IsReadWhole g bytes left

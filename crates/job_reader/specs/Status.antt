@@ -14,4 +14,5 @@ code_of status.NoInit = 6
 code_of (status.TooLarge limit number) = 7
 code_of (status.BadPolicy allow line) = 8
 code_of (status.BadStore line why) = 9
+code_of (status.BadWire at) = 11
 code_of status.BadTrace = 12

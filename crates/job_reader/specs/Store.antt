@@ -40,6 +40,7 @@ StoreSays held (status.BadPolicy allow line) = ⊤
 StoreSays held status.NoInit = ⊤
 StoreSays held (status.TooLarge limit number) = StoreLimitSays held limit number
 StoreSays held (status.BadStore line why) = (length held ≤ 33554432) × IsUnfitAt held line why
+StoreSays held (status.BadWire at) = HasStore held
 StoreSays held status.BadTrace = HasStore held
 StoreSays held status.WriteFault = HasStore held
 StoreSays held status.Done = HasStore held

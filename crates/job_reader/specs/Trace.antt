@@ -52,6 +52,7 @@ TraceSays bytes left (status.BadPolicy allow line) = ⊤
 TraceSays bytes left status.NoInit = ⊤
 TraceSays bytes left (status.TooLarge limit number) = TraceLimitSays bytes limit number
 TraceSays bytes left (status.BadStore line why) = ⊤
+TraceSays bytes left (status.BadWire at) = ⊤
 TraceSays bytes left status.BadTrace = IsNoTrace bytes
 TraceSays bytes left status.WriteFault = IsTraceReadWhole bytes left
 TraceSays bytes left status.Done = IsTraceReadWhole bytes left

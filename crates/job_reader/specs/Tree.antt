@@ -126,6 +126,7 @@ TreeSays purpose world (status.BadPolicy allow line) = IsBadPolicyFor purpose wo
 TreeSays purpose world status.NoInit = HasNoRoot purpose world
 TreeSays purpose world (status.TooLarge limit number) = TreeLimitSays purpose world limit number
 TreeSays purpose world (status.BadStore line why) = IsFitFor purpose world
+TreeSays purpose world (status.BadWire at) = IsFitFor purpose world
 TreeSays purpose world status.BadTrace = IsFitFor purpose world
 TreeSays purpose world status.WriteFault = IsFitFor purpose world
 TreeSays purpose world status.Done = IsFitFor purpose world

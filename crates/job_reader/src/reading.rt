@@ -26,7 +26,11 @@ const MOST_STORE_BYTES: usize = 33_554_432;
 const MOST_TRACE_BYTES: usize = 67_108_864;
 
 /// Reads the source to its end: the script of its bytes, by a grammar.
-pub fn read_script<S: Source>(alloc: Global, grammar: Grammar, source: &mut S) -> Result<Script, Stop>
+pub fn read_script<S: Source>(
+    alloc: Global,
+    grammar: Grammar,
+    source: &mut S,
+) -> Result<Script, Stop>
     ensures script { IfSome (S.left source.old) (λ bytes. GivesScript grammar bytes (S.left source.new) result) }
     ensures conditions { IfOk result MeetsConditions }
     ensures permitted { IfOk result (ArePermitted grammar) }

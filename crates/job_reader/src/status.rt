@@ -29,6 +29,8 @@ pub enum Status {
     BadPolicy { allow: bool, line: u32 },
     /// A line of the persistent store is bad: the first one, from 1, and why.
     BadStore { line: u32, cause: StoreCause },
+    /// The stream of messages has something else after its last whole message. So many bytes are before it.
+    BadWire { at: u64 },
     /// The trace is no report's text.
     BadTrace,
 }
@@ -49,6 +51,7 @@ impl Status {
             Status::TooLarge { .. } => 7,
             Status::BadPolicy { .. } => 8,
             Status::BadStore { .. } => 9,
+            Status::BadWire { .. } => 11,
             Status::BadTrace => 12,
         }
     }

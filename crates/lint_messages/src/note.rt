@@ -34,7 +34,7 @@ impl NoteKind {
 }
 
 /// What is told of a line of a file.
-#[derive(Drop)]
+#[derive(Debug, Drop)]
 pub struct Note {
     /// The place of the file among those that were read.
     place: usize,

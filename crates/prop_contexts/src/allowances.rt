@@ -13,7 +13,7 @@ use std::alloc::Global;
 use std::marker::Model;
 
 /// A domain and a label.
-#[derive(PartialEq, Eq, Hash, Drop)]
+#[derive(Debug, PartialEq, Eq, Hash, Drop)]
 pub struct Pair {
     pub domain: TextKey,
     pub label: TextKey,

@@ -23,7 +23,7 @@ pub enum Scope {
 }
 
 /// A line that gives a context to names.
-#[derive(Drop)]
+#[derive(Debug, Drop)]
 pub struct NamedLine {
     pub scope: Scope,
     pub name: Vec<u8>,

@@ -8,7 +8,7 @@ use init_base::{List, NoMemory, Text};
 use std::alloc::Global;
 
 /// What a line says, where `T` is what a line gives.
-#[derive(Drop)]
+#[derive(Debug, Drop)]
 pub enum Reading<T> {
     /// Nothing: it is empty, or a comment.
     Skipped,

@@ -12,14 +12,14 @@ use std::alloc::Global;
 const CONTROL: &[u8] = b"ctl.";
 
 /// What a build file says: its pairs, in order, and what is wrong in it, in the order of its lines.
-#[derive(Drop)]
+#[derive(Debug, Drop)]
 pub struct BuildProps {
     pub pairs: List<Pair>,
     pub diagnostics: List<Diagnostic>,
 }
 
 /// What a line says.
-#[derive(Drop)]
+#[derive(Debug, Drop)]
 enum BuildLine {
     /// Nothing: it is empty, or a comment.
     Skipped,

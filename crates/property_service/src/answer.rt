@@ -9,7 +9,7 @@ use init_base::{List, NoMemory};
 use init_machine::{Entry, Output, SetRefusal};
 
 /// A set that was accepted. The number is the count of accepted sets after its entry.
-#[derive(Drop)]
+#[derive(Debug, Drop)]
 pub enum Accepted {
     /// A property was set.
     Stored { number: u64 },

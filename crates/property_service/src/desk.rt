@@ -216,8 +216,8 @@ impl<'a, N: AreaName, O: Outputs> Desk<'a, N, O> {
         let _ = &self.core;
     }
 
-    /// Whether an earlier call answered `NoMemory`, so that each further call answers `Spent`.
-    pub fn is_spent(&self) -> bool
+    /// Whether an earlier call answered `NoMemory`.
+    pub(crate) fn is_spent(&self) -> bool
         ensures { result ≡ self.now.spent }
     {
         self.spent

@@ -9,7 +9,7 @@ use prop_rules::BuildProps;
 
 /// The actions and services that stay of all files, and the diagnostics of the files and their imports in order. The other
 /// lists of the configuration are empty.
-#[derive(Drop)]
+#[derive(Debug, Drop)]
 pub struct Loaded {
     pub config: Config,
     pub diagnostics: List<Diagnostic>,
@@ -47,7 +47,7 @@ pub enum LoadLimit {
 }
 
 /// Why a tree isn't loaded.
-#[derive(Drop)]
+#[derive(Debug, Drop)]
 pub enum LoadRefusal {
     /// The root file isn't there.
     NoInit,

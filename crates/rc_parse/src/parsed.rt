@@ -8,14 +8,14 @@ use init_machine::{Action, DiagKind, Diagnostic, ServiceDef};
 use std::alloc::Global;
 
 /// An import of a file or a directory, at its line from 1. Its path isn't expanded yet.
-#[derive(Drop)]
+#[derive(Debug, Drop)]
 pub struct Import {
     pub path: Text,
     pub line: u32,
 }
 
 /// The sections of a file that are kept, in order, and what is wrong in it, in the order of its lines.
-#[derive(Drop)]
+#[derive(Debug, Drop)]
 pub struct Parsed {
     pub actions: List<Action>,
     pub services: List<ServiceDef>,

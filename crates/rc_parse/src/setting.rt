@@ -22,7 +22,7 @@ use rc_tokens::SpanLine;
 use std::alloc::Global;
 
 /// What an option sets.
-#[derive(Drop)]
+#[derive(Debug, Drop)]
 pub enum Setting {
     Classes(List<Text>),
     Disabled,

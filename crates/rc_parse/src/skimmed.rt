@@ -8,7 +8,7 @@ use init_machine::Diagnostic;
 use std::alloc::Global;
 
 /// What tells whether a service is a second one of its name: that name, where it stands, and whether it has `override`.
-#[derive(Drop)]
+#[derive(Debug, Drop)]
 pub struct ServiceMark {
     pub name: Text,
     pub file: Text,
@@ -17,7 +17,7 @@ pub struct ServiceMark {
 }
 
 /// The services of a file that are kept, each by its mark, its imports, and what is wrong in it, in the order of its lines.
-#[derive(Drop)]
+#[derive(Debug, Drop)]
 pub struct Skimmed {
     pub services: List<ServiceMark>,
     pub imports: List<Import>,

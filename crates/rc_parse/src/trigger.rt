@@ -17,14 +17,14 @@ use std::alloc::Global;
 use std::collections::BTreeSet;
 
 /// A trigger: an event, or a test of a property.
-#[derive(Drop)]
+#[derive(Debug, Drop)]
 pub enum Trigger {
     Event(Text),
     Test(PropTest),
 }
 
 /// The triggers of an action.
-#[derive(Drop)]
+#[derive(Debug, Drop)]
 pub struct Triggers {
     pub event: Option<Text>,
     pub props: List<PropTest>,

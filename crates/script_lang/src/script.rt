@@ -7,14 +7,14 @@ use init_machine::{Pair, Plan};
 use std::alloc::Global;
 
 /// A client of the property service.
-#[derive(Drop)]
+#[derive(Debug, Drop)]
 pub struct Client {
     pub name: Text,
     pub domain: Text,
 }
 
 /// A request of a client.
-#[derive(Drop)]
+#[derive(Debug, Drop)]
 pub enum Ask {
     /// A property is to be set.
     Set(Pair),
@@ -27,7 +27,7 @@ pub enum Ask {
 }
 
 /// One act of a script.
-#[derive(Drop)]
+#[derive(Debug, Drop)]
 pub enum Act {
     /// So many times an event or a command.
     Step(u32),
@@ -42,7 +42,7 @@ pub enum Act {
 }
 
 /// What the machine is opened with, and the acts in order.
-#[derive(Drop)]
+#[derive(Debug, Drop)]
 pub struct Script {
     /// The size of the area, in words.
     pub words: u64,

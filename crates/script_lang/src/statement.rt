@@ -5,7 +5,7 @@ use init_base::Text;
 use init_machine::Plan;
 
 /// What one line says. A client is still named in its acts, since its number depends on the lines before.
-#[derive(Drop)]
+#[derive(Debug, Drop)]
 pub enum Statement {
     /// The size of the area, in words.
     Area(u64),
@@ -19,7 +19,7 @@ pub enum Statement {
 }
 
 /// What a line says, and the number of the line.
-#[derive(Drop)]
+#[derive(Debug, Drop)]
 pub struct Said {
     pub line: u32,
     pub statement: Statement,

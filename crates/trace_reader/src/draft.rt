@@ -14,7 +14,7 @@ use std::alloc::Global;
 use std::mem;
 
 /// What the first lines of a report tell.
-#[derive(Drop)]
+#[derive(Debug, Drop)]
 pub struct Draft {
     diagnostics: List<Diagnostic>,
     history: List<Entry>,
@@ -24,7 +24,7 @@ pub struct Draft {
 }
 
 /// A part of a report.
-#[derive(Drop)]
+#[derive(Debug, Drop)]
 enum Part {
     Diagnostics,
     /// An entry, which stands behind those of the history.

@@ -18,7 +18,7 @@ use script_lang::Fault;
 use std::alloc::Global;
 
 /// What a line between the first and the last one tells.
-#[derive(Drop)]
+#[derive(Debug, Drop)]
 pub enum Line {
     Diagnostic(Diagnostic),
     /// The head of an entry.

@@ -15,7 +15,7 @@ use std::alloc::Global;
 use std::mem;
 
 /// What comes next of a report.
-#[derive(Drop)]
+#[derive(Debug, Drop)]
 pub enum Piece {
     Entry(Entry),
     /// All but the entries, which have no further one.

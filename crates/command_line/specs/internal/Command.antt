@@ -29,6 +29,10 @@ check_app = with_rule (new_app (codes "check")) (path_rule (codes "ROOT"))
 abbrev pub soak_app : App
 soak_app = with_rule (new_app (codes "soak")) (path_rule (codes "N"))
 
+-- `wire ROOT MESSAGES`
+abbrev pub wire_app : App
+wire_app = with_rule (with_rule (new_app (codes "wire")) (path_rule (codes "ROOT"))) (path_rule (codes "MESSAGES"))
+
 -- `dispatch ROOT SCRIPT`
 abbrev pub dispatch_app : App
 dispatch_app = with_rule (with_rule (new_app (codes "dispatch")) (path_rule (codes "ROOT"))) (path_rule (codes "SCRIPT"))
@@ -54,6 +58,8 @@ abbrev pub app : App
 app =
     with_subcommand
     (with_subcommand
+    (with_subcommand
     (with_subcommand (with_subcommand (with_subcommand (with_subcommand (bare_of (new_app (codes "initsim"))) run_app.top) race_app.top) check_app.top) soak_app.top)
+    wire_app.top)
     dispatch_app.top)
     audit_app.top

@@ -2,17 +2,18 @@ use Rattle.std.proofs.Common.{◌≡◌, Option, Some, None, refl, subst, sym}
 use Rattle.init_driver.specs.Keeper.{seen_by}
 use Rattle.command_line.specs.Form.{form_of}
 use Rattle.command_line.specs.declared.form.Form.{Form}
-use Rattle.command_line.specs.declared.form.Form.TheVariants.{Run, Race, Check, Soak, Dispatch, Audit}
+use Rattle.command_line.specs.declared.form.Form.TheVariants.{Run, Race, Wire, Check, Soak, Dispatch, Audit}
 use Rattle.command_line.specs.declared.reading.WordsRefusal.TheVariants as why
 use Rattle.job_reader.specs.Counts.{counts_of}
 use Rattle.job_reader.specs.declared.grammar.Grammar.TheVariants.{Whole, Sets}
 use Rattle.job_reader.specs.declared.status.Status.TheVariants as status
-use Rattle.init_forms.specs.Promise.{Promise, objects_of, told_by}
+use Rattle.init_forms.specs.Promise.{Promise, objects_of, shown_by, told_by}
 use Rattle.init_forms.specs.Top.{CanSoak}
 use Rattle.init_forms.proofs.Complete.{complete_audit, complete_check, complete_run}
 use Rattle.init_forms.proofs.Ends.{check_ends}
 use Rattle.init_forms.proofs.Judged.{same_as_before}
-use Rattle.init_forms.proofs.Promised.{audit_promised, check_promised, dispatch_is_no_soak, memory_promised, race_is_no_soak, run_is_no_soak, run_promised, usage_promised}
+use Rattle.init_forms.proofs.Promised.{audit_promised, check_promised, dispatch_is_no_soak, memory_promised, race_is_no_soak, run_is_no_soak, run_promised, usage_promised, wire_promised}
+use Rattle.init_forms.proofs.ServedWhole.{complete_wire}
 use Rattle.init_forms.proofs.Soaked.{soak_ends, soak_in_range, soak_records}
 use Rattle.init_forms.proofs.top.initsim.Goals as goal
 
@@ -90,6 +91,24 @@ returns-in-Ok-Dispatch-clause-promise g c =
           (c.dispatch_script.ensures.tree world is) c.dispatch_script.ensures.store (c.dispatch_script.ensures.counts count) can;
       soaked = λ services e can. absurd (dispatch_is_no_soak services e);
     })
+
+pub returns-in-Ok-Wire-clause-promise : goal.returns-in-Ok-Wire-clause-promise
+returns-in-Ok-Wire-clause-promise g c =
+    let form : form_of c.args.words.now ≡ Some Wire = cc c.in-Ok-Wire.ensures.ok in
+    let seen = seen_by g.P.Keeper.held g.P.Keeper.TellsCrash g.P.Keeper.moment g.P.Keeper.MayLeave in
+    let trace = g.T.Source.left c.args.trace.now in
+    let count = g.T.Source.fault_count c.args.trace.now in
+    let before = objects_of (g.F.Files.tree c.args.files.now) (g.S.Source.left c.args.script.now) trace (seen c.args.keeper.now) (g.K.Sink.taken c.args.out.now)
+    (counts_of (g.F.Files.fault_count c.args.files.now) (g.S.Source.fault_count c.args.script.now) count (g.P.Keeper.fault_count c.args.keeper.now) (g.K.Sink.fault_count c.args.out.now)) in
+    let after = objects_of (g.F.Files.tree c.serve_messages.new.files) (g.S.Source.left c.serve_messages.new.messages) trace (seen c.serve_messages.new.keeper) (g.K.Sink.taken c.serve_messages.new.out)
+    (counts_of (g.F.Files.fault_count c.serve_messages.new.files) (g.S.Source.fault_count c.serve_messages.new.messages) count (g.P.Keeper.fault_count c.serve_messages.new.keeper) (g.K.Sink.fault_count c.serve_messages.new.out)) in
+    subst (λ (f : Option Form). Promise f before after c.serve_messages.result None) (sym form)
+    (wire_promised before after c.serve_messages.result (c.serve_messages.ensures.ends trace) (c.serve_messages.ensures.counts count)
+    (c.serve_messages.ensures.unwritten count)
+    (same_as_before c.serve_messages.result _ _ _ _ c.serve_messages.ensures.held)
+    c.serve_messages.ensures.held c.serve_messages.ensures.formed
+    (λ world is can. complete_wire c.serve_messages.result (told_by before) world (shown_by before after) _ _ (c.serve_messages.ensures.ends trace)
+    (c.serve_messages.ensures.counts count) is can))
 
 pub returns-in-Ok-Check-clause-promise : goal.returns-in-Ok-Check-clause-promise
 returns-in-Ok-Check-clause-promise g c =

@@ -1,0 +1,1 @@
+"""The messages of init's property socket."""
