@@ -6,8 +6,8 @@ ghost use Rattle.init_machine.specs.WellFormed.{IsWellFormed};
 ghost use Rattle.property_area.specs.Area.{begins};
 
 use init_base::{
-    ClientId, Failed, IoRefusal, List, MemSink, MemSource, NoMemory, Sink, Source, SteadySink, Text,
-    copy_front,
+    ClientId, Failed, IoRefusal, List, MemSink, MemSource, NoMemory, Sink, Source, SteadySink,
+    Text, copy_front,
 };
 use init_machine::Config;
 use prop_contexts::Policy;
@@ -137,14 +137,30 @@ fn answers(
 fn wire_form_two(rt: HostRuntime) -> Result<(), Fail> {
     let alloc = rt.alloc();
     let bad = Err(WireRefusal::BadCommand { at: 31, word: 5 });
-    assert!(rt; answers(alloc, TWO_AND_BAD, 0, 4096, REPLIES, bad).ok().ok_or("no memory")?);
-    assert!(rt; answers(alloc, TWO_AND_BAD, 0, 1, REPLIES, bad).ok().ok_or("no memory")?);
+    assert!(rt;
+        answers(alloc, TWO_AND_BAD, 0, 4096, REPLIES, bad)
+            .ok()
+            .ok_or("no memory")?
+    );
+    assert!(rt;
+        answers(alloc, TWO_AND_BAD, 0, 1, REPLIES, bad)
+            .ok()
+            .ok_or("no memory")?
+    );
     let two = &TWO_AND_BAD[..31];
     for cut in 0..32 {
-        assert!(rt; answers(alloc, two, cut, 4096, &REPLIES[..8], Ok(2)).ok().ok_or("no memory")?);
+        assert!(rt;
+            answers(alloc, two, cut, 4096, &REPLIES[..8], Ok(2))
+                .ok()
+                .ok_or("no memory")?
+        );
     }
     let torn = Err(WireRefusal::Torn { at: 14 });
-    assert!(rt; answers(alloc, &TWO_AND_BAD[..30], 0, 4096, &REPLIES[..4], torn).ok().ok_or("no memory")?);
+    assert!(rt;
+        answers(alloc, &TWO_AND_BAD[..30], 0, 4096, &REPLIES[..4], torn)
+            .ok()
+            .ok_or("no memory")?
+    );
     Ok(())
 }
 
@@ -162,9 +178,21 @@ fn wire_form_one(rt: HostRuntime) -> Result<(), Fail> {
     let alloc = rt.alloc();
     let bytes = form_one();
     let torn = Err(WireRefusal::Torn { at: 0 });
-    assert!(rt; answers(alloc, &bytes, 0, 4096, b"", Ok(1)).ok().ok_or("no memory")?);
-    assert!(rt; answers(alloc, &bytes[..127], 0, 4096, b"", torn).ok().ok_or("no memory")?);
-    assert!(rt; answers(alloc, b"", 0, 4096, b"", Ok(0)).ok().ok_or("no memory")?);
+    assert!(rt;
+        answers(alloc, &bytes, 0, 4096, b"", Ok(1))
+            .ok()
+            .ok_or("no memory")?
+    );
+    assert!(rt;
+        answers(alloc, &bytes[..127], 0, 4096, b"", torn)
+            .ok()
+            .ok_or("no memory")?
+    );
+    assert!(rt;
+        answers(alloc, b"", 0, 4096, b"", Ok(0))
+            .ok()
+            .ok_or("no memory")?
+    );
     Ok(())
 }
 
@@ -214,7 +242,8 @@ impl Sink for Replies<'_> {
     }
 
     fn write(&mut self, _alloc: Global, piece: &[u8]) -> Result<usize, IoRefusal> {
-        self.replied.set(self.replied.get().saturating_add(piece.len()));
+        self.replied
+            .set(self.replied.get().saturating_add(piece.len()));
         Ok(piece.len())
     }
 }
@@ -228,7 +257,9 @@ fn waits_for_each_reply(rt: HostRuntime) -> Result<(), Fail> {
         faults: 0,
     };
     let mut to = Replies { replied: &replied };
-    let end = served(rt.alloc(), &mut from, &mut to).ok().ok_or("no memory")?;
+    let end = served(rt.alloc(), &mut from, &mut to)
+        .ok()
+        .ok_or("no memory")?;
     assert_eq!(rt; end, Ok(3));
     assert_eq!(rt; replied.get(), 12);
     Ok(())
@@ -325,6 +356,9 @@ fn limits_of_lengths(rt: HostRuntime) -> Result<(), Fail> {
     bytes.clear();
     add_second(&mut bytes, 1, 8193).ok().ok_or("no memory")?;
     let value = replied(alloc, &bytes[..13]).ok().ok_or("no memory")?;
-    assert_eq!(rt; value, (4, Err(WireRefusal::BadLength { at: 0, len: 8193 })));
+    assert_eq!(rt;
+        value,
+        (4, Err(WireRefusal::BadLength { at: 0, len: 8193 }))
+    );
     Ok(())
 }
